@@ -1,0 +1,6 @@
+pub mod Bools
+pub mod Refusals
+pub mod Settings
+pub mod Laws
+pub mod Thresholds
+pub mod Cases

@@ -1,0 +1,109 @@
+// A session's settings, the thresholds worked out from them, and the numbers of the refusals.
+pub mod refusal;
+
+ghost use mathlib.Core.Path.{_≡_};
+ghost use Prim.Native.Nat.{_-_};
+ghost use Rattle.settings.specs.Settings.{namedTa, checkSettings};
+ghost use Rattle.settings.specs.Settings.{quorum, copy, voteQuorum, relay, accept, turnBound};
+
+// u8 fields: no threshold can wrap, so none has a `requires`.
+pub struct Settings {
+    pub n: u8,
+    pub ta: u8,
+    pub ts: u8,
+}
+
+pub enum Checked {
+    Valid(Settings),
+    Invalid,
+}
+
+// a − b, and 0 where b is above a.
+fn difference(a: u8, b: u8) -> u64
+    ensures { λ r. ⌜ r ≡ a - b ⌝ }
+{
+    if b <= a { (a - b) as u64 } else { 0 }
+}
+
+impl Settings {
+    // The last round of a vote.
+    pub const ROUND_LIMIT: u8 = 32;
+    // The ta that stands for none.
+    pub const UNNAMED: u64 = 255;
+
+    // The ta that is meant by the one given.
+    pub fn named_ta(ta: u64) -> u64
+        ensures { λ r. ⌜ r ≡ namedTa ta ⌝ }
+    {
+        if ta == Settings::UNNAMED { 0 } else { ta }
+    }
+
+    // The settings of any three numbers, ta already read by `named_ta`.
+    pub fn check(n: u64, ta: u64, ts: u64) -> Checked
+        ensures { λ r. ⌜ r ≡ checkSettings n ta ts ⌝ }
+    {
+        if n < 1 {
+            return Checked::Invalid;
+        }
+        if 16 < n {
+            return Checked::Invalid;
+        }
+        if ts < ta {
+            return Checked::Invalid;
+        }
+        // Follows from the last test, which could wrap without it.
+        if n <= ts {
+            return Checked::Invalid;
+        }
+        if n <= 2 * ts + ta {
+            return Checked::Invalid;
+        }
+        Checked::Valid(Settings {
+            n: n as u8,
+            ta: ta as u8,
+            ts: ts as u8,
+        })
+    }
+
+    // n − ts: broadcasts and commits.
+    pub fn quorum(self) -> u64
+        ensures { λ r. ⌜ r ≡ quorum self ⌝ }
+    {
+        difference(self.n, self.ts)
+    }
+
+    // ts + 1: a READY or a COMMIT that is repeated.
+    pub fn copy(self) -> u64
+        ensures { λ r. ⌜ r ≡ copy self ⌝ }
+    {
+        self.ts as u64 + 1
+    }
+
+    // n − ta: a move, and the votes decided 1 that exits 2 and 3 ask for.
+    pub fn vote_quorum(self) -> u64
+        ensures { λ r. ⌜ r ≡ voteQuorum self ⌝ }
+    {
+        difference(self.n, self.ta)
+    }
+
+    // ta + 1: an EST that is relayed.
+    pub fn relay(self) -> u64
+        ensures { λ r. ⌜ r ≡ relay self ⌝ }
+    {
+        self.ta as u64 + 1
+    }
+
+    // 2·ta + 1: a value accepted in a round.
+    pub fn accept(self) -> u64
+        ensures { λ r. ⌜ r ≡ accept self ⌝ }
+    {
+        2 * self.ta as u64 + 1
+    }
+
+    // 99·n + 3: the turns of a session that are not idle.
+    pub fn turn_bound(self) -> u64
+        ensures { λ r. ⌜ r ≡ turnBound self ⌝ }
+    {
+        99 * self.n as u64 + 3
+    }
+}

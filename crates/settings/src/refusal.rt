@@ -1,0 +1,24 @@
+// The number of each refusal.
+
+// A setting or own number outside the rules, or not exactly n coin words.
+pub const SETTINGS: u64 = 1;
+// Under 12 bytes, or not 12 + 8·count.
+pub const LENGTH: u64 = 2;
+// Version or kind unknown.
+pub const KIND: u64 = 3;
+// Another session number.
+pub const SESSION: u64 = 4;
+// Byte 2 is not the link's concentrator, or that is not 1 to n.
+pub const SENDER: u64 = 5;
+// Byte 3 to 7 against the layout.
+pub const FIELD: u64 = 6;
+// EST or AUX above 1, or COMMIT not rising.
+pub const VALUE: u64 = 7;
+// A turn lent under 140 bytes, a report lent under 16 words for either set.
+pub const SHORT: u64 = 8;
+// Wrong word count, or stored numbers that the rules refuse.
+pub const NO_STATE: u64 = 9;
+// Delivery or turn after closing.
+pub const CLOSED: u64 = 10;
+// That place already holds a message.
+pub const HELD: u64 = 11;
