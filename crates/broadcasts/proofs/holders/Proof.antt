@@ -1,0 +1,56 @@
+-- `holders` counts the senders 1 to n that hold v.
+use Prim.Native.Nat.{_+_, _-_}
+use mathlib.Core.Bool.{_&&_}
+use lib.Dec.{eqb}
+use borrow.Author.Needs.{needs}
+use Rattle.quorum.specs.Counting.{Counting, counting}
+use Rattle.records.specs.Words.{word, marked}
+use Rattle.broadcasts.specs.Leading.{holders}
+use Rattle.broadcasts.proofs.holders.Statement.{statement}
+use Rattle.broadcasts.proofs.holders.Tie as tie
+
+abbrev Inv-loop : tie.InvT-loop
+Inv-loop s marks values v n c₀ p₀ c p = Counting (λ q. marked s marks q && eqb (word s (values + q)) v) n p c
+
+abbrev μ-loop : tie.MeasureT-loop
+μ-loop s marks values v n c₀ p₀ c p = n - p
+
+loop-holds : tie.Need-loop-holds Inv-loop μ-loop
+loop-holds c = search counting
+
+add-p : tie.Need-add-p Inv-loop μ-loop
+add-p c = search needs
+
+holds-requires : tie.Need-holds-requires Inv-loop μ-loop
+holds-requires c κs = search needs
+
+cast-c : tie.Need-cast-c Inv-loop μ-loop
+cast-c c = search needs
+
+add-c : tie.Need-add-c Inv-loop μ-loop
+add-c c = search counting
+
+loop-less : tie.Need-loop-less Inv-loop μ-loop
+loop-less c = search needs
+
+loop-again : tie.Need-loop-again Inv-loop μ-loop
+loop-again c = search counting
+
+returns : tie.Need-returns Inv-loop μ-loop
+unfolding holders
+returns c = search counting
+
+pub holders-spec : {M : Type 1} → statement M
+holders-spec =
+    tie.close
+    (tie.spec
+    Inv-loop
+    μ-loop
+    loop-holds
+    add-p
+    holds-requires
+    cast-c
+    add-c
+    loop-less
+    loop-again
+    returns)

@@ -1,0 +1,83 @@
+-- The paths of the code.
+use Prim.Native.Nat.{ℕ, _+_, _≤_, _<_}
+use mathlib.Core.Bool.{Bool, true, false}
+use mathlib.Core.List.{List}
+use mathlib.Core.Path.{_≡_}
+use native.Mathlib.Omega.{arith}
+use lib.Dec.{leb}
+use borrow.Author.Tests.{ne-eqb}
+use Rattle.settings.specs.Settings.{quorum, copy}
+use Rattle.settings.specs.declared.Settings.{Settings}
+use Rattle.quorum.specs.Lowest.{lowest, Passed, passed-found, passed-missing}
+use Rattle.records.specs.Records.{echoSent, readySent, sendHeld, sendValue, echoHeld, echoValue, readyHeld, readyValue}
+use Rattle.acts.specs.declared.Act.the-variants.{Idle, Echo, Ready}
+use Rattle.broadcasts.specs.Leading.{holders, leads, valueOf, leading}
+use Rattle.broadcasts.specs.Broadcasts.{readyDue, echoAct, readyAct}
+use Rattle.broadcasts.specs.declared.Output.{Output}
+use Rattle.broadcasts.specs.declared.Output.the-variants.{Value, Nothing}
+
+module _ (held : ℕ → Bool) (value : ℕ → ℕ) (n q : ℕ) where
+  pub leads-held : (p w c : ℕ) (b : Bool) → b ≡ held p → b ≡ true → w ≡ value p → c ≡ holders held value w n → leb q c ≡ leads held value n q p
+  unfolding leads
+  leads-held p w c b e t s h = rw (← e, t, h, s)
+
+  pub leads-missing : (p : ℕ) (b : Bool) → b ≡ held p → b ≡ false → false ≡ leads held value n q p
+  unfolding leads
+  leads-missing p b e t = rw (← e, t)
+
+  -- the loop of `leading`
+  pub leading-found : (k w : ℕ) (b : Bool) → Passed (leads held value n q) n k → k < n → b ≡ leads held value n q (k + 1) → b ≡ true → w ≡ value (k + 1) → Value w ≡ leading held value n q
+  unfolding leading valueOf
+  leading-found k w b i l e t s =
+      let p : k + 1 ≡ lowest (leads held value n q) n = passed-found (leads held value n q) n k b i l e t in
+      rw (← p, ne-eqb (k + 1) 0 (λ z. omega arith), s)
+
+  pub leading-missing : (k : ℕ) → Passed (leads held value n q) n k → n ≤ k → Nothing ≡ leading held value n q
+  unfolding leading valueOf
+  leading-missing k i l =
+      let p : 0 ≡ lowest (leads held value n q) n = passed-missing (leads held value n q) n k i l in
+      rw (← p)
+
+pub ruleset leaders = (leads-held, leads-missing)
+
+pub ruleset leading-ends = (leading-found, leading-missing)
+
+module _ (s : List ℕ) (i : ℕ) where
+  pub echo-was-sent : (a : Bool) → a ≡ echoSent s i → a ≡ true → Idle ≡ echoAct s i
+  unfolding echoAct
+  echo-was-sent a e t = rw (← e, t)
+
+  pub echo-due : (a b : Bool) (v : ℕ) → a ≡ echoSent s i → a ≡ false → b ≡ sendHeld s i → b ≡ true → v ≡ sendValue s i → Echo i v ≡ echoAct s i
+  unfolding echoAct
+  echo-due a b v e t f u w = rw (← e, t, ← f, u, w)
+
+  pub echo-not-due : (a b : Bool) → a ≡ echoSent s i → a ≡ false → b ≡ sendHeld s i → b ≡ false → Idle ≡ echoAct s i
+  unfolding echoAct
+  echo-not-due a b e t f u = rw (← e, t, ← f, u)
+
+pub ruleset echo-cases = (echo-was-sent, echo-due, echo-not-due)
+
+module _ (g : Settings) (s : List ℕ) (i : ℕ) where
+  pub due-by-echoes : (o : Output) (q v : ℕ) → q ≡ quorum g → o ≡ leading (echoHeld s i) (echoValue s i) (g .n) q → o ≡ Value v → Value v ≡ readyDue g s i
+  unfolding readyDue
+  due-by-echoes o q v e f h = rw (← e, ← f, h)
+
+  pub due-by-readies : (o r : Output) (q k : ℕ) → q ≡ quorum g → o ≡ leading (echoHeld s i) (echoValue s i) (g .n) q → o ≡ Nothing → k ≡ copy g → r ≡ leading (readyHeld s i) (readyValue s i) (g .n) k → r ≡ readyDue g s i
+  unfolding readyDue
+  due-by-readies o r q k e f h u w = rw (← e, ← f, h, ← u, ← w)
+
+  pub ready-was-sent : (a : Bool) → a ≡ readySent s i → a ≡ true → Idle ≡ readyAct g s i
+  unfolding readyAct
+  ready-was-sent a e t = rw (← e, t)
+
+  pub ready-due : (a : Bool) (o : Output) (v : ℕ) → a ≡ readySent s i → a ≡ false → o ≡ readyDue g s i → o ≡ Value v → Ready i v ≡ readyAct g s i
+  unfolding readyAct
+  ready-due a o v e t f h = rw (← e, t, ← f, h)
+
+  pub ready-not-due : (a : Bool) (o : Output) → a ≡ readySent s i → a ≡ false → o ≡ readyDue g s i → o ≡ Nothing → Idle ≡ readyAct g s i
+  unfolding readyAct
+  ready-not-due a o e t f h = rw (← e, t, ← f, h)
+
+pub ruleset due-cases = (due-by-echoes, due-by-readies)
+
+pub ruleset ready-cases = (ready-was-sent, ready-due, ready-not-due)

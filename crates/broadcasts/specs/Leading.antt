@@ -1,0 +1,33 @@
+-- A value that enough senders hold. The senders are 1 to n; `held p` tells whether one is held from sender p, `value p` which.
+use Prim.Native.Nat.{ℕ}
+use mathlib.Core.Bool.{Bool, true, false, _&&_, cond}
+use lib.Dec.{eqb, leb}
+use Rattle.quorum.specs.Total.{count}
+use Rattle.quorum.specs.Lowest.{lowest}
+use Rattle.broadcasts.specs.declared.Output.{Output}
+use Rattle.broadcasts.specs.declared.Output.the-variants.{Value, Nothing}
+
+-- how many senders hold v
+unfoldable pub holders : (ℕ → Bool) → (ℕ → ℕ) → ℕ → ℕ → ℕ
+holders held value v n = count (λ p. held p && eqb (value p) v) n
+
+-- sender p holds a value that q senders hold
+unfoldable pub leads : (ℕ → Bool) → (ℕ → ℕ) → ℕ → ℕ → ℕ → Bool
+leads held value n q p = held p && leb q (holders held value (value p) n)
+
+-- the value of a sender, and nothing of none
+unfoldable pub valueOf : (ℕ → ℕ) → ℕ → Output
+valueOf value p = cond (eqb p 0) Nothing (Value (value p))
+
+-- a value that q senders hold: "of several, the lowest sender's"
+unfoldable pub leading : (ℕ → Bool) → (ℕ → ℕ) → ℕ → ℕ → Output
+leading held value n q = valueOf value (lowest (leads held value n q) n)
+
+-- the first, or else the second
+abbrev pub orOutput : Output → Output → Output
+orOutput (Value v) b = Value v
+orOutput Nothing b = b
+
+abbrev pub present : Output → Bool
+present (Value v) = true
+present Nothing = false

@@ -1,0 +1,37 @@
+-- The outputs of all broadcasts, worked out once: a word of marks, and an array of 16 values.
+use Prim.Native.Nat.{ℕ, _-_, _≤_, _<_}
+use mathlib.Core.Bool.{false, _&&_, cond}
+use mathlib.Core.List.{List}
+use mathlib.Core.Path.{_≡_}
+use lib.Dec.{leb}
+use lib.ListN.{length}
+use Rattle.settings.specs.declared.Settings.{Settings}
+use Rattle.quorum.specs.Marks.{mark, withMark}
+use Rattle.records.specs.Words.{word, put}
+use Rattle.broadcasts.specs.Broadcasts.{output}
+use Rattle.broadcasts.specs.declared.Output.{Output}
+use Rattle.broadcasts.specs.declared.Output.the-variants.{Value, Nothing}
+
+-- broadcast i has output where its mark is set, and its value stands at place i − 1
+unfoldable pub outputAt : ℕ → List ℕ → ℕ → Output
+outputAt held values i = cond (leb i 16 && mark held i) (Value (word values (i - 1))) Nothing
+
+-- the marks and values with output o of broadcast i
+abbrev pub storedMarks : ℕ → ℕ → Output → ℕ
+storedMarks held i (Value v) = withMark held i
+storedMarks held i Nothing = held
+
+abbrev pub storedValues : List ℕ → ℕ → Output → List ℕ
+storedValues values i (Value v) = put values (i - 1) v
+storedValues values i Nothing = values
+
+pub record Stored (held : ℕ) (values : List ℕ) (i : ℕ) (o : Output) (held′ : ℕ) (values′ : List ℕ) : Type 0 where
+  pub new-marks : held′ ≡ storedMarks held i o
+  pub new-values : values′ ≡ storedValues values i o
+
+-- marks and values say the outputs of the broadcasts 1 to k as far as the array goes, which is all of them within the rules, and of no others
+pub record Outputs (g : Settings) (s : List ℕ) (k held : ℕ) (values : List ℕ) : Type 0 where
+  pub within : k ≤ g .n
+  pub size : length values ≡ 16
+  pub each : (i : ℕ) → 1 ≤ i → i ≤ k → i ≤ 16 → outputAt held values i ≡ output g s i
+  pub none : (i : ℕ) → k < i → mark held i ≡ false

@@ -1,0 +1,205 @@
+// Broadcasts: the ECHO and the READY that are due, and the output.
+use acts::Act;
+use records::layout;
+use settings::Settings;
+ghost use mathlib.Core.Path.{_≡_};
+ghost use Prim.Native.Nat.{_+_, _≤_};
+ghost use mathlib.Core.Bool.{_&&_};
+ghost use lib.Dec.{eqb};
+ghost use Rattle.records.specs.Records.{readyHeld, readyValue, echoHeld, echoValue};
+ghost use Rattle.records.specs.Words.{word, marked};
+ghost use Rattle.broadcasts.specs.Leading.{holders, leads, leading};
+ghost use Rattle.broadcasts.specs.Broadcasts.{output, echoAct, readyDue, readyAct, echoRule, readyRule};
+ghost use Rattle.broadcasts.specs.Outputs.{outputAt, Stored, Outputs};
+
+// A value that enough senders hold, if there is one.
+pub enum Output {
+    Value(u64),
+    Nothing,
+}
+
+// Whether mark p of word marks is set and word values + p holds v.
+fn holds(s: &[u64], marks: u16, values: u16, v: u64, p: u8) -> bool
+    ensures { λ r. ⌜ r ≡ (marked (now (s .entry)) marks p && eqb (word (now (s .entry)) (values + p)) v) ⌝ }
+{
+    records::marked(s, marks as usize, p as u64)
+        & (records::word(s, values as usize + p as usize) == v)
+}
+
+// How many of the senders 1 to n hold v.
+fn holders(s: &[u64], marks: u16, values: u16, v: u64, n: u8) -> u64
+    ensures { λ r. ⌜ r ≡ holders (λ p. marked (now (s .entry)) marks p) (λ p. word (now (s .entry)) (values + p)) v n ⌝ }
+{
+    let mut c: u64 = 0;
+    let mut p: u8 = 0;
+    while p < n {
+        p += 1;
+        c += holds(s, marks, values, v, p) as u64;
+    }
+    c
+}
+
+// Whether sender p holds a value that q of the senders 1 to n hold.
+fn leads(s: &[u64], marks: u16, values: u16, n: u8, q: u64, p: u8) -> bool
+    ensures { λ r. ⌜ r ≡ leads (λ k. marked (now (s .entry)) marks k) (λ k. word (now (s .entry)) (values + k)) n q p ⌝ }
+{
+    if records::marked(s, marks as usize, p as u64) {
+        let v = records::word(s, values as usize + p as usize);
+        q <= holders(s, marks, values, v, n)
+    } else {
+        false
+    }
+}
+
+// A value that q of the senders 1 to n hold: of several, the lowest sender's.
+fn leading(s: &[u64], marks: u16, values: u16, n: u8, q: u64) -> Output
+    ensures { λ r. ⌜ r ≡ leading (λ k. marked (now (s .entry)) marks k) (λ k. word (now (s .entry)) (values + k)) n q ⌝ }
+{
+    let mut p: u8 = 0;
+    while p < n {
+        p += 1;
+        if leads(s, marks, values, n, q, p) {
+            return Output::Value(records::word(s, values as usize + p as usize));
+        }
+    }
+    Output::Nothing
+}
+
+// The READYs of instance i: a value that q senders hold.
+fn leading_ready(s: &[u64], n: u8, q: u64, i: u8) -> Output
+    ensures { λ r. ⌜ r ≡ leading (readyHeld (now (s .entry)) i) (readyValue (now (s .entry)) i) n q ⌝ }
+{
+    let marks = layout::READY_MARKS as u16 + i as u16;
+    let values = layout::READY_VALUES as u16 + 16 * i as u16;
+    leading(s, marks, values, n, q)
+}
+
+// The ECHOs of instance i: a value that q senders hold.
+fn leading_echo(s: &[u64], n: u8, q: u64, i: u8) -> Output
+    ensures { λ r. ⌜ r ≡ leading (echoHeld (now (s .entry)) i) (echoValue (now (s .entry)) i) n q ⌝ }
+{
+    let marks = layout::ECHO_MARKS as u16 + i as u16;
+    let values = layout::ECHO_VALUES as u16 + 16 * i as u16;
+    leading(s, marks, values, n, q)
+}
+
+// The output of broadcast i.
+pub fn output_of(s: &[u64], g: Settings, i: u8) -> Output
+    ensures { λ r. ⌜ r ≡ output g (now (s .entry)) i ⌝ }
+{
+    leading_ready(s, g.n, g.quorum(), i)
+}
+
+// Broadcast i has output o: its mark in the answer, its value at place i − 1.
+fn store_output(held: u64, values: &mut [u64; 16], i: u8, o: Output) -> u64
+    requires { ⌜ 1 ≤ i ⌝ }
+    ensures { λ r. ⌜ Stored held (now (values .entry)) i o r (now (values .exit)) ⌝ }
+{
+    let Output::Value(v) = o else {
+        return held;
+    };
+    records::put(values, i as usize - 1, v);
+    quorum::with_mark(held, i as u64)
+}
+
+// The outputs of the broadcasts 1 to n: mark i of the answer where broadcast i has output, and its value at place i − 1 of values.
+pub fn outputs(s: &[u64], g: Settings, values: &mut [u64; 16]) -> u64
+    ensures { λ r. ⌜ Outputs g (now (s .entry)) (g .n) r (now (values .exit)) ⌝ }
+{
+    let n = g.n;
+    *values = [0u64; 16];
+    let mut held: u64 = 0;
+    let mut i: u8 = 0;
+    while i < n {
+        i += 1;
+        let o = output_of(s, g, i);
+        held = store_output(held, values, i, o);
+    }
+    held
+}
+
+// What the marks and the values say of broadcast i.
+pub fn output_at(held: u64, values: &[u64], i: u8) -> Output
+    ensures { λ r. ⌜ r ≡ outputAt held (now (values .entry)) i ⌝ }
+{
+    if i < 1 {
+        return Output::Nothing;
+    }
+    if 16 < i {
+        return Output::Nothing;
+    }
+    if quorum::mark(held, i as u64) {
+        return Output::Value(records::word(values, i as usize - 1));
+    }
+    Output::Nothing
+}
+
+// The ECHO of instance i, where it is due.
+pub fn echo_act(s: &[u64], i: u8) -> Act
+    ensures { λ r. ⌜ r ≡ echoAct (now (s .entry)) i ⌝ }
+{
+    if records::echo_sent(s, i) {
+        return Act::Idle;
+    }
+    if records::send_held(s, i) {
+        return Act::Echo(i, records::send_value(s, i));
+    }
+    Act::Idle
+}
+
+// The value of the READY of instance i.
+fn ready_due(s: &[u64], g: Settings, i: u8) -> Output
+    ensures { λ r. ⌜ r ≡ readyDue g (now (s .entry)) i ⌝ }
+{
+    let o = leading_echo(s, g.n, g.quorum(), i);
+    match o {
+        Output::Value(v) => Output::Value(v),
+        Output::Nothing => leading_ready(s, g.n, g.copy(), i),
+    }
+}
+
+// The READY of instance i, where it is due.
+pub fn ready_act(s: &[u64], g: Settings, i: u8) -> Act
+    ensures { λ r. ⌜ r ≡ readyAct g (now (s .entry)) i ⌝ }
+{
+    if records::ready_sent(s, i) {
+        return Act::Idle;
+    }
+    let o = ready_due(s, g, i);
+    match o {
+        Output::Value(v) => Act::Ready(i, v),
+        Output::Nothing => Act::Idle,
+    }
+}
+
+// Rule 4: the ECHO that is due.
+pub fn echo_rule(s: &[u64], g: Settings) -> Act
+    ensures { λ r. ⌜ r ≡ echoRule g (now (s .entry)) ⌝ }
+{
+    let n = g.n;
+    let mut i: u8 = 0;
+    while i < n {
+        i += 1;
+        let a = echo_act(s, i);
+        if acts::is_due(a) {
+            return a;
+        }
+    }
+    Act::Idle
+}
+
+// Rule 5: the READY that is due.
+pub fn ready_rule(s: &[u64], g: Settings) -> Act
+    ensures { λ r. ⌜ r ≡ readyRule g (now (s .entry)) ⌝ }
+{
+    let n = g.n;
+    let mut i: u8 = 0;
+    while i < n {
+        i += 1;
+        let a = ready_act(s, g, i);
+        if acts::is_due(a) {
+            return a;
+        }
+    }
+    Act::Idle
+}

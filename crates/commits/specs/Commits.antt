@@ -1,0 +1,39 @@
+-- The sets that COMMITs hold: rules 1 and 2 of the turn order.
+use Prim.Native.Nat.{ℕ}
+use mathlib.Core.Bool.{Bool, _&&_, not, cond}
+use mathlib.Core.List.{List, []}
+use lib.Dec.{eqb, leb, ltb}
+use Rattle.quorum.specs.Total.{count}
+use Rattle.quorum.specs.Lowest.{lowest}
+use Rattle.quorum.specs.Every.{every}
+use Rattle.records.specs.Records.{commitCount, commitValue, commitSet}
+
+-- a COMMIT of sender p is held: its set has a value
+unfoldable pub commitHeld : List ℕ → ℕ → Bool
+commitHeld s p = ltb 0 (commitCount s p)
+
+-- the COMMITs of senders p and q hold the same set: sets are compared as their words
+unfoldable pub sameSet : List ℕ → ℕ → ℕ → Bool
+sameSet s p q =
+    eqb (commitCount s p) (commitCount s q)
+    && every (λ k. eqb (commitValue s p k) (commitValue s q k)) (commitCount s p)
+
+-- how many of the senders 1 to n hold the set of sender p
+unfoldable pub setHolders : List ℕ → ℕ → ℕ → ℕ
+setHolders s n p = count (λ q. commitHeld s q && sameSet s p q) n
+
+-- sender p holds a set that k senders hold
+unfoldable pub setLeads : List ℕ → ℕ → ℕ → ℕ → Bool
+setLeads s n k p = commitHeld s p && leb k (setHolders s n p)
+
+-- the lowest sender with a set that k of the senders 1 to n hold, and 0 if there is none
+unfoldable pub setLeader : List ℕ → ℕ → ℕ → ℕ
+setLeader s n k = lowest (setLeads s n k) n
+
+-- the set of a sender, and none of nobody
+unfoldable pub setOf : List ℕ → ℕ → List ℕ
+setOf s p = cond (eqb p 0) [] (commitSet s p)
+
+-- "a set held from .. senders (of several, the lowest sender's)"
+unfoldable pub leadingSet : List ℕ → ℕ → ℕ → List ℕ
+leadingSet s n k = setOf s (setLeader s n k)

@@ -1,0 +1,87 @@
+// COMMITs: the sets that senders hold, and the lowest sender whose set enough of them hold.
+ghost use mathlib.Core.Path.{_≡_};
+ghost use mathlib.Core.Bool.{_&&_};
+ghost use lib.Dec.{eqb};
+ghost use Rattle.records.specs.Records.{commitValue};
+ghost use Rattle.commits.specs.Commits.{commitHeld, sameSet, setHolders, setLeads, setLeader};
+
+// Whether a COMMIT of sender p is held.
+pub fn commit_held(s: &[u64], p: u8) -> bool
+    ensures { λ r. ⌜ r ≡ commitHeld (now (s .entry)) p ⌝ }
+{
+    0 < records::commit_count(s, p)
+}
+
+// Whether value k is the same in the COMMITs of senders p and q.
+fn same_value(s: &[u64], p: u8, q: u8, k: u8) -> bool
+    ensures { λ r. ⌜ r ≡ eqb (commitValue (now (s .entry)) p k) (commitValue (now (s .entry)) q k) ⌝ }
+{
+    records::commit_value(s, p, k) == records::commit_value(s, q, k)
+}
+
+// Whether the COMMITs of senders p and q hold the same set.
+fn same_set(s: &[u64], p: u8, q: u8) -> bool
+    ensures { λ r. ⌜ r ≡ sameSet (now (s .entry)) p q ⌝ }
+{
+    let n = records::commit_count(s, p);
+    if n != records::commit_count(s, q) {
+        return false;
+    }
+    let mut k: u8 = 0;
+    while k < n {
+        k += 1;
+        if !same_value(s, p, q, k) {
+            return false;
+        }
+    }
+    true
+}
+
+// Whether sender q holds the set of sender p.
+fn holds_set(s: &[u64], p: u8, q: u8) -> bool
+    ensures { λ r. ⌜ r ≡ (commitHeld (now (s .entry)) q && sameSet (now (s .entry)) p q) ⌝ }
+{
+    if commit_held(s, q) {
+        same_set(s, p, q)
+    } else {
+        false
+    }
+}
+
+// How many of the senders 1 to n hold the set of sender p.
+fn set_holders(s: &[u64], n: u8, p: u8) -> u64
+    ensures { λ r. ⌜ r ≡ setHolders (now (s .entry)) n p ⌝ }
+{
+    let mut c: u64 = 0;
+    let mut q: u8 = 0;
+    while q < n {
+        q += 1;
+        c += holds_set(s, p, q) as u64;
+    }
+    c
+}
+
+// Whether sender p holds a set that k of the senders 1 to n hold.
+fn set_leads(s: &[u64], n: u8, k: u64, p: u8) -> bool
+    ensures { λ r. ⌜ r ≡ setLeads (now (s .entry)) n k p ⌝ }
+{
+    if commit_held(s, p) {
+        k <= set_holders(s, n, p)
+    } else {
+        false
+    }
+}
+
+// The lowest sender with a set that k of the senders 1 to n hold, and 0 if there is none.
+pub fn set_leader(s: &[u64], n: u8, k: u64) -> u8
+    ensures { λ r. ⌜ r ≡ setLeader (now (s .entry)) n k ⌝ }
+{
+    let mut p: u8 = 0;
+    while p < n {
+        p += 1;
+        if set_leads(s, n, k, p) {
+            return p;
+        }
+    }
+    0
+}

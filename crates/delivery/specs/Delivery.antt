@@ -1,0 +1,76 @@
+-- Delivery: the verdict on a message, and the words after it. "A delivery names the link's concentrator and records one message."
+use Prim.Native.Nat.{ℕ}
+use mathlib.Core.Bool.{Bool, _||_, cond}
+use mathlib.Core.List.{List}
+use lib.ListN.{drop}
+use Rattle.settings.specs.Refusals.{NO-STATE, CLOSED, HELD}
+use Rattle.records.specs.Layout.{sendMarksAt, sendValueAt, echoMarksAt, echoValueAt, readyMarksAt, readyValueAt, voteAt, estMark, auxMark, commitCountAt, commitRowAt}
+use Rattle.records.specs.Words.{put, setMark}
+use Rattle.records.specs.Records.{closed, sendHeld, echoHeld, readyHeld, estHeld, auxHeld}
+use Rattle.records.specs.Fill.{storeOf}
+use Rattle.commits.specs.Commits.{commitHeld}
+use Rattle.session.specs.Session.{stored}
+use Rattle.session.specs.declared.Session.{Session}
+use Rattle.session.specs.declared.Stored.{Stored}
+use Rattle.session.specs.declared.Stored.the-variants.{NoState, Held}
+use Rattle.wire.specs.Bytes.{valueAt}
+use Rattle.wire.specs.Reading.{readMessage}
+use Rattle.wire.specs.declared.Message.{Message}
+use Rattle.wire.specs.declared.Message.the-variants.{Send, Echo, Ready, Est, Aux, Commit}
+use Rattle.wire.specs.declared.Parsed.{Parsed}
+use Rattle.wire.specs.declared.Parsed.the-variants as parsed
+use Rattle.delivery.specs.declared.Verdict.{Verdict}
+use Rattle.delivery.specs.declared.Verdict.the-variants.{Refused, Accepted}
+
+-- the place of a message of sender p is taken: "SEND, ECHO and READY are held once for each sender and instance, AUX once for each
+-- sender, instance and round, EST once for each sender, instance, round and value, COMMIT once for each sender."
+unfoldable pub placeHeld : List ℕ → ℕ → Message → Bool
+placeHeld s p (Send i v) = sendHeld s i
+placeHeld s p (Echo i v) = echoHeld s i p
+placeHeld s p (Ready i v) = readyHeld s i p
+placeHeld s p (Est i r b) = estHeld s i r b p
+placeHeld s p (Aux i r b) = auxHeld s i r 0 p || auxHeld s i r 1 p
+placeHeld s p (Commit k) = commitHeld s p
+
+-- the refusals 2 to 7, then "11 HELD: that place already holds a message"
+unfoldable pub judged : List ℕ → ℕ → Parsed → Verdict
+judged s p (parsed.Refused k) = Refused k
+judged s p (parsed.Taken m) = cond (placeHeld s p m) (Refused HELD) (Accepted m)
+
+-- "10 CLOSED: delivery or turn after closing", then the message
+unfoldable pub verdictIn : Session → List ℕ → ℕ → List ℕ → Verdict
+verdictIn x s link b = cond (closed s) (Refused CLOSED) (judged s link (readMessage (x .settings .n) (x .number) link b))
+
+unfoldable pub verdictFor : Stored → List ℕ → ℕ → List ℕ → Verdict
+verdictFor NoState s link b = Refused NO-STATE
+verdictFor (Held x) s link b = verdictIn x s link b
+
+-- "Delivery 9, 10, 2 to 7, 11."
+unfoldable pub verdict : List ℕ → ℕ → List ℕ → Verdict
+verdict s link b = verdictFor (stored s) s link b
+
+-- the state with a message of sender p recorded; the values of a COMMIT are in the part v that starts at byte 12
+unfoldable pub recorded : List ℕ → ℕ → Message → List ℕ → List ℕ
+recorded s p (Send i x) v = setMark (put s (sendValueAt i) x) sendMarksAt i
+recorded s p (Echo i x) v = setMark (put s (echoValueAt i p) x) (echoMarksAt i) p
+recorded s p (Ready i x) v = setMark (put s (readyValueAt i p) x) (readyMarksAt i) p
+recorded s p (Est i r b) v = setMark s (voteAt i r) (estMark b p)
+recorded s p (Aux i r b) v = setMark s (voteAt i r) (auxMark b p)
+recorded s p (Commit k) v = put (storeOf (valueAt v) (commitRowAt p) s k) (commitCountAt p) k
+
+-- the number of a verdict: 0 is accepted
+unfoldable pub answerOf : Verdict → ℕ
+answerOf (Refused k) = k
+answerOf (Accepted m) = 0
+
+-- the words after a verdict: "A refusal yields its number and nothing else; state and buffers are untouched."
+unfoldable pub wordsAfter : Verdict → List ℕ → ℕ → List ℕ → List ℕ
+wordsAfter (Refused k) s link b = s
+wordsAfter (Accepted m) s link b = recorded s link m (drop 12 b)
+
+-- the answer and the words of a delivery
+unfoldable pub deliverAnswer : List ℕ → ℕ → List ℕ → ℕ
+deliverAnswer s link b = answerOf (verdict s link b)
+
+unfoldable pub delivered : List ℕ → ℕ → List ℕ → List ℕ
+delivered s link b = wordsAfter (verdict s link b) s link b

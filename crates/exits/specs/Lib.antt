@@ -1,0 +1,12 @@
+pub mod Exits
+pub mod Table
+pub mod Votes
+pub mod Leads
+pub mod Insert
+pub mod Stated
+pub mod Rising
+pub mod Ways
+pub mod Laws
+pub mod Agree
+pub mod Fair
+pub mod Now

@@ -1,0 +1,83 @@
+-- The table of exits by one computed check: "With n=4, ta=1, ts=1; "-" is no output, "?" undecided."
+use Prim.Native.Nat.{ℕ, zero, suc}
+use mathlib.Core.Bool.{Bool, true, false}
+use mathlib.Core.List.{List, [], _∷_}
+use mathlib.Core.Path.{_≡_, refl}
+use Rattle.settings.specs.Settings.{quorum, voteQuorum}
+use Rattle.quorum.specs.Total.{total}
+use Rattle.quorum.specs.Lowest.{lowest}
+use Rattle.quorum.specs.Every.{every}
+use Rattle.broadcasts.specs.declared.Output.{Output}
+use Rattle.broadcasts.specs.declared.Output.the-variants.{Value, Nothing}
+use Rattle.exits.specs.Exits.{Exit, exitOf, withOutput, sizeS, exit1At, votesDone, exit2At, exit3Full, insert, insertOutput, outputsOfS, noExit, exit3, naming}
+
+-- a vote decided 0, 1, or not
+pub data Decision : Type 0 where
+  d0 d1 undecided : Decision
+
+is0 : Decision → Bool
+is0 d0 = true
+is0 d1 = false
+is0 undecided = false
+
+is1 : Decision → Bool
+is1 d0 = false
+is1 d1 = true
+is1 undecided = false
+
+-- element k of a list, from 1
+at : {A : Type 0} → A → List A → ℕ → A
+at d [] k = d
+at d (x ∷ l) zero = d
+at d (x ∷ l) (suc zero) = x
+at d (x ∷ l) (suc (suc k)) = at d l (suc k)
+
+pub record Row : Type 0 where
+  pub broadcasts : List Output
+  pub votes : List Decision
+
+answers : List Row → List Exit
+answers [] = []
+answers (r ∷ rs) =
+    exitOf (record { n = 4; ta = 1; ts = 1 }) (at Nothing (r .broadcasts)) (λ i. is0 (at undecided (r .votes) i)) (λ i. is1 (at undecided (r .votes) i))
+    ∷ answers rs
+
+row : Output → Output → Output → Output → Decision → Decision → Decision → Decision → Row
+row a b c d e f g h = record { broadcasts = a ∷ b ∷ c ∷ d ∷ []; votes = e ∷ f ∷ g ∷ h ∷ [] }
+
+v : ℕ → Output
+v x = Value x
+
+no : Output
+no = Nothing
+
+table : List Row
+table =
+    row (v 5) (v 5) (v 5) no undecided undecided undecided undecided
+    ∷ row (v 5) (v 5) no no undecided undecided undecided undecided
+    ∷ row (v 5) (v 5) (v 6) no d1 d1 d1 d0
+    ∷ row (v 5) (v 5) no no d1 d1 d1 d0
+    ∷ row (v 5) (v 5) (v 6) no d1 d1 d1 undecided
+    ∷ row (v 5) (v 7) (v 6) no d1 d1 d1 d0
+    ∷ row (v 5) (v 7) no no d1 d1 d1 d0
+    ∷ row (v 5) (v 6) no no d1 d1 d0 d0
+    ∷ row (v 5) (v 5) (v 6) (v 6) d1 d1 d1 d1
+    ∷ []
+
+exit : ℕ → List ℕ → Exit
+exit k xs = record { number = k; names = xs }
+
+table-holds :
+    answers table
+    ≡ exit 1 (5 ∷ [])
+    ∷ exit 0 []
+    ∷ exit 2 (5 ∷ [])
+    ∷ exit 2 (5 ∷ [])
+    ∷ exit 0 []
+    ∷ exit 3 (5 ∷ 6 ∷ 7 ∷ [])
+    ∷ exit 0 []
+    ∷ exit 0 []
+    ∷ exit 3 (5 ∷ 6 ∷ [])
+    ∷ []
+unfolding answers row table v no exit at is0 is1 exitOf withOutput sizeS exit1At votesDone exit2At exit3Full insert insertOutput outputsOfS noExit exit3 naming lowest every total quorum voteQuorum
+table-holds = refl

@@ -1,0 +1,42 @@
+-- The refusals in their order.
+use Rattle.opening.specs.Cases.{open-cases}
+use borrow.Author.Needs.{needs}
+use Rattle.opening.proofs.open_answer.Statement.{statement}
+use Rattle.opening.proofs.open_answer.Tie as tie
+
+returns : tie.Need-returns
+returns c = search open-cases
+
+named-ta-requires : tie.Need-named-ta-requires
+named-ta-requires c κs = search needs
+
+settings-valid-requires : tie.Need-settings-valid-requires
+settings-valid-requires c κs = search needs
+
+returns-2 : tie.Need-returns-2
+returns-2 c = search open-cases
+
+numbered-requires : tie.Need-numbered-requires
+numbered-requires c κs = search needs
+
+returns-3 : tie.Need-returns-3
+returns-3 c = search open-cases
+
+returns-4 : tie.Need-returns-4
+returns-4 c = search open-cases
+
+returns-5 : tie.Need-returns-5
+returns-5 c = search open-cases
+
+pub open-answer-spec : {M : Type 1} → statement M
+open-answer-spec =
+    tie.close
+    (tie.spec
+    returns
+    named-ta-requires
+    settings-valid-requires
+    returns-2
+    numbered-requires
+    returns-3
+    returns-4
+    returns-5)

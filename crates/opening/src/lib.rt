@@ -1,0 +1,113 @@
+// Opening: the verdict, then the words of a new state.
+use records::layout;
+use settings::Checked;
+use settings::Settings;
+use settings::refusal;
+ghost use mathlib.Core.Path.{_≡_};
+ghost use Prim.Native.Nat.{_≤_};
+ghost use lib.ListN.{length};
+ghost use Rattle.settings.specs.Settings.{validSettings};
+ghost use Rattle.records.specs.Fill.{blank};
+ghost use Rattle.opening.specs.Opening.{openAnswer, coinWord, withSettings, withCoins, opened};
+
+// Whether the three numbers are settings of a session.
+fn settings_valid(n: u64, ta: u64, ts: u64) -> bool
+    ensures { λ r. ⌜ r ≡ validSettings n ta ts ⌝ }
+{
+    let c = Settings::check(n, ta, ts);
+    match c {
+        Checked::Valid(_) => true,
+        Checked::Invalid => false,
+    }
+}
+
+// The answer: 0, or the number of the refusal.
+fn open_answer(words: usize, n: u64, ta: u64, ts: u64, own: u64, coins: usize) -> u64
+    ensures { λ r. ⌜ r ≡ openAnswer words n ta ts own coins ⌝ }
+{
+    if words != layout::STATE_WORDS {
+        return refusal::NO_STATE;
+    }
+    if !settings_valid(n, Settings::named_ta(ta), ts) {
+        return refusal::SETTINGS;
+    }
+    if !session::numbered(n, own) {
+        return refusal::SETTINGS;
+    }
+    if coins as u64 != n {
+        return refusal::SETTINGS;
+    }
+    0
+}
+
+// Sets every word to 0.
+fn clear(s: &mut [u64])
+    ensures { λ _. ⌜ now (s .exit) ≡ blank (length (now (s .entry))) ⌝ }
+{
+    let mut k: usize = 0;
+    while k < s.len() {
+        s[k] = 0;
+        k += 1;
+    }
+}
+
+fn put_settings(s: &mut [u64], n: u64, ta: u64, ts: u64, own: u64, session: u32, input: u64)
+    ensures { λ _. ⌜ now (s .exit) ≡ withSettings (now (s .entry)) n ta ts own session input ⌝ }
+{
+    records::put(s, layout::N, n);
+    records::put(s, layout::TA, ta);
+    records::put(s, layout::TS, ts);
+    records::put(s, layout::OWN, own);
+    records::put(s, layout::SESSION, session as u64);
+    records::put(s, layout::INPUT, input);
+}
+
+fn wide(x: u32) -> u64
+    ensures { λ r. ⌜ r ≡ x ⌝ }
+{
+    x as u64
+}
+
+// Coin word i, and 0 where there is none.
+fn coin_word(coins: &[u32], i: u8) -> u64
+    ensures { λ r. ⌜ r ≡ coinWord (now (coins .entry)) i ⌝ }
+{
+    if i < 1 {
+        return 0;
+    }
+    let k = i as usize - 1;
+    if k < coins.len() { wide(coins[k]) } else { 0 }
+}
+
+fn put_coins(s: &mut [u64], coins: &[u32], n: u8)
+    ensures { λ _. ⌜ now (s .exit) ≡ withCoins (now (s .entry)) (now (coins .entry)) n ⌝ }
+{
+    let mut i: u8 = 0;
+    while i < n {
+        i += 1;
+        records::put(s, layout::COINS + i as usize, coin_word(coins, i));
+    }
+}
+
+// Opens a session in the lent words, and answers 0 or the number of the refusal.
+pub fn open(
+    state: &mut [u64],
+    n: u64,
+    ta: u64,
+    ts: u64,
+    own: u64,
+    session: u32,
+    input: u64,
+    coins: &[u32],
+) -> u64
+    ensures answer { λ r. ⌜ r ≡ openAnswer (length (now (state .entry))) n ta ts own (length (now (coins .entry))) ⌝ }
+    ensures words { λ _. ⌜ now (state .exit) ≡ opened (now (state .entry)) n ta ts own session input (now (coins .entry)) ⌝ }
+{
+    let answer = open_answer(state.len(), n, ta, ts, own, coins.len());
+    if answer == 0 {
+        clear(state);
+        put_settings(state, n, Settings::named_ta(ta), ts, own, session, input);
+        put_coins(state, coins, n as u8);
+    }
+    answer
+}

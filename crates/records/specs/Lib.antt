@@ -1,0 +1,5 @@
+pub mod Words
+pub mod Layout
+pub mod Records
+pub mod Fill
+pub mod Copy

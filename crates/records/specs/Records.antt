@@ -1,0 +1,85 @@
+-- What the state's records hold. Every reader is total: it takes any numbers, and 0 past the end of the words.
+use Prim.Native.Nat.{ℕ, min}
+use mathlib.Core.Bool.{Bool, _||_}
+use mathlib.Core.List.{List}
+use lib.ListN.{take, drop}
+use Rattle.records.specs.Layout.{ownAt, sessionAt, inputAt, turnsAt, flagsAt, closedMark, sendSentMark, commitSentMark, coinAt, roundAt, estSentAt, estSentMark, auxSentAt, sendMarksAt, sendValueAt, echoMarksAt, echoValueAt, readyMarksAt, readyValueAt, echoSentAt, readySentAt, decidedZeroAt, decidedOneAt, commitCountAt, commitValueAt, voteAt, estMark, auxMark}
+use Rattle.records.specs.Words.{word, marked}
+
+-- delivery and turn after closing are refused
+unfoldable pub closed : List ℕ → Bool
+closed s = marked s flagsAt closedMark
+
+unfoldable pub sendSent : List ℕ → Bool
+sendSent s = marked s flagsAt sendSentMark
+
+unfoldable pub commitSent : List ℕ → Bool
+commitSent s = marked s flagsAt commitSentMark
+
+-- "ECHO .. once for each instance", "READY, once for each instance"
+unfoldable pub echoSent : List ℕ → ℕ → Bool
+echoSent s i = marked s echoSentAt i
+
+unfoldable pub readySent : List ℕ → ℕ → Bool
+readySent s i = marked s readySentAt i
+
+-- "SEND, ECHO and READY are held once for each sender and instance": a SEND's sender is its instance
+unfoldable pub sendHeld : List ℕ → ℕ → Bool
+sendHeld s i = marked s sendMarksAt i
+
+unfoldable pub sendValue : List ℕ → ℕ → ℕ
+sendValue s i = word s (sendValueAt i)
+
+unfoldable pub echoHeld : List ℕ → ℕ → ℕ → Bool
+echoHeld s i p = marked s (echoMarksAt i) p
+
+unfoldable pub echoValue : List ℕ → ℕ → ℕ → ℕ
+echoValue s i p = word s (echoValueAt i p)
+
+unfoldable pub readyHeld : List ℕ → ℕ → ℕ → Bool
+readyHeld s i p = marked s (readyMarksAt i) p
+
+unfoldable pub readyValue : List ℕ → ℕ → ℕ → ℕ
+readyValue s i p = word s (readyValueAt i p)
+
+-- "EST once for each sender, instance, round and value"
+unfoldable pub estHeld : List ℕ → ℕ → ℕ → ℕ → ℕ → Bool
+estHeld s i r b p = marked s (voteAt i r) (estMark b p)
+
+-- the AUX of sender p carries b
+unfoldable pub auxHeld : List ℕ → ℕ → ℕ → ℕ → ℕ → Bool
+auxHeld s i r b p = marked s (voteAt i r) (auxMark b p)
+
+-- "Bit r−1 of word i, lowest bit 0, is the coin of vote i in round r."
+unfoldable pub coin : List ℕ → ℕ → ℕ → Bool
+coin s i r = marked s (coinAt i) r
+
+-- "Starting enters round 1 (before that the round is 0)"; 33 means moved out of round 32, and a higher one is no state
+unfoldable pub round : List ℕ → ℕ → ℕ
+round s i = min (word s (roundAt i)) 33
+
+unfoldable pub estSent : List ℕ → ℕ → ℕ → ℕ → Bool
+estSent s i r b = marked s (estSentAt i) (estSentMark r b)
+
+unfoldable pub auxSent : List ℕ → ℕ → ℕ → Bool
+auxSent s i r = marked s (auxSentAt i) r
+
+unfoldable pub decidedZero : List ℕ → ℕ → Bool
+decidedZero s i = marked s decidedZeroAt i
+
+unfoldable pub decidedOne : List ℕ → ℕ → Bool
+decidedOne s i = marked s decidedOneAt i
+
+unfoldable pub decided : List ℕ → ℕ → Bool
+decided s i = decidedZero s i || decidedOne s i
+
+-- the number of values in the COMMIT of sender p, 0 where none is held; a higher one than 16 is no state
+unfoldable pub commitCount : List ℕ → ℕ → ℕ
+commitCount s p = min (word s (commitCountAt p)) 16
+
+unfoldable pub commitValue : List ℕ → ℕ → ℕ → ℕ
+commitValue s p k = word s (commitValueAt p k)
+
+-- the set in the COMMIT of sender p
+unfoldable pub commitSet : List ℕ → ℕ → List ℕ
+commitSet s p = take (commitCount s p) (drop (commitValueAt p 1) s)

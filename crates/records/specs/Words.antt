@@ -1,0 +1,71 @@
+-- The state as a list of words: one word read, one word put, one mark set.
+use Prim.Native.Nat.{ℕ, _≤_, _<_}
+use mathlib.Core.Bool.{Bool}
+use mathlib.Core.List.{List}
+use mathlib.Core.Logic.{_≢_}
+use mathlib.Core.Path.{_≡_, refl, sym, ap, _∙_}
+use lib.ListN.{length, getD, set, length-set, List·getD-eq-default}
+use lib.Seq.{set-out, getD-set-same, getD-set-other}
+use Rattle.quorum.specs.Marks.{mark, withMark}
+
+-- the word at k, and 0 past the end
+unfoldable pub word : List ℕ → ℕ → ℕ
+word s k = getD s k 0
+
+-- the state with v at k; past the end nothing changes
+unfoldable pub put : List ℕ → ℕ → ℕ → List ℕ
+put s k v = set s k v
+
+-- mark p of word k
+unfoldable pub marked : List ℕ → ℕ → ℕ → Bool
+marked s k p = mark (word s k) p
+
+-- the state with mark p of word k set
+unfoldable pub setMark : List ℕ → ℕ → ℕ → List ℕ
+setMark s k p = put s k (withMark (word s k) p)
+
+-- what was put is read back, and nothing else changes
+
+pub length-put : (s : List ℕ) (k v : ℕ) → length (put s k v) ≡ length s
+unfolding put
+length-put s k v = length-set s k v
+
+pub word-put-same : (s : List ℕ) (k v : ℕ) → k < length s → word (put s k v) k ≡ v
+unfolding put word
+word-put-same s k v h = getD-set-same s k v 0 h
+
+pub word-put-other : (s : List ℕ) (k v j : ℕ) → j ≢ k → word (put s k v) j ≡ word s j
+unfolding put word
+word-put-other s k v j h = getD-set-other s k j v 0 h
+
+pub length-setMark : (s : List ℕ) (k p : ℕ) → length (setMark s k p) ≡ length s
+unfolding setMark
+length-setMark s k p = length-put s k (withMark (word s k) p)
+
+pub word-setMark-same : (s : List ℕ) (k p : ℕ) → k < length s → word (setMark s k p) k ≡ withMark (word s k) p
+unfolding setMark
+word-setMark-same s k p h = word-put-same s k (withMark (word s k) p) h
+
+pub word-setMark-other : (s : List ℕ) (k p j : ℕ) → j ≢ k → word (setMark s k p) j ≡ word s j
+unfolding setMark
+word-setMark-other s k p j h = word-put-other s k (withMark (word s k) p) j h
+
+-- the cases of the code
+
+pub word-within : (s : List ℕ) (k : ℕ) → getD s k 0 ≡ word s k
+unfolding word
+word-within s k = refl
+
+pub word-past-end : (s : List ℕ) (k : ℕ) → length s ≤ k → 0 ≡ word s k
+unfolding word
+word-past-end s k h = sym (List·getD-eq-default s 0 h)
+
+pub put-within : (s : List ℕ) (k v : ℕ) → set s k v ≡ put s k v
+unfolding put
+put-within s k v = refl
+
+pub put-past-end : (s : List ℕ) (k v : ℕ) → length s ≤ k → s ≡ put s k v
+unfolding put
+put-past-end s k v h = sym (set-out s k v h)
+
+pub ruleset words = (word-within, word-past-end, put-within, put-past-end)

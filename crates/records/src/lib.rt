@@ -1,0 +1,154 @@
+// The state: 2,048 lent words, the place of each record among them, and total readers and writers.
+pub mod layout;
+
+ghost use mathlib.Core.Path.{_≡_};
+ghost use Prim.Native.Nat.{_≤_};
+ghost use lib.ListN.{length};
+ghost use Rattle.records.specs.Copy.{copied};
+ghost use Rattle.records.specs.Layout.{voteAt};
+ghost use Rattle.records.specs.Records.{closed, sendSent, commitSent, echoSent, readySent, sendHeld, sendValue, estHeld, auxHeld, coin, round, estSent, auxSent, decided, commitCount, commitValue};
+ghost use Rattle.records.specs.Words.{word, put, marked, setMark};
+
+// The word at k, and 0 past the end.
+pub fn word(s: &[u64], k: usize) -> u64
+    ensures { λ r. ⌜ r ≡ word (now (s .entry)) k ⌝ }
+{
+    if k < s.len() { s[k] } else { 0 }
+}
+
+// Puts v at k, and changes nothing where k is past the end.
+pub fn put(s: &mut [u64], k: usize, v: u64)
+    ensures { λ _. ⌜ now (s .exit) ≡ put (now (s .entry)) k v ⌝ }
+{
+    if k < s.len() {
+        s[k] = v;
+    }
+}
+
+// Mark p of word k.
+pub fn marked(s: &[u64], k: usize, p: u64) -> bool
+    ensures { λ r. ⌜ r ≡ marked (now (s .entry)) k p ⌝ }
+{
+    quorum::mark(word(s, k), p)
+}
+
+// Sets mark p of word k.
+pub fn set_mark(s: &mut [u64], k: usize, p: u64)
+    ensures { λ _. ⌜ now (s .exit) ≡ setMark (now (s .entry)) k p ⌝ }
+{
+    let w = quorum::with_mark(word(s, k), p);
+    put(s, k, w);
+}
+
+pub fn closed(s: &[u64]) -> bool
+    ensures { λ r. ⌜ r ≡ closed (now (s .entry)) ⌝ }
+{
+    marked(s, layout::FLAGS, layout::CLOSED_MARK)
+}
+
+pub fn send_sent(s: &[u64]) -> bool
+    ensures { λ r. ⌜ r ≡ sendSent (now (s .entry)) ⌝ }
+{
+    marked(s, layout::FLAGS, layout::SEND_SENT_MARK)
+}
+
+pub fn commit_sent(s: &[u64]) -> bool
+    ensures { λ r. ⌜ r ≡ commitSent (now (s .entry)) ⌝ }
+{
+    marked(s, layout::FLAGS, layout::COMMIT_SENT_MARK)
+}
+
+pub fn echo_sent(s: &[u64], i: u8) -> bool
+    ensures { λ r. ⌜ r ≡ echoSent (now (s .entry)) i ⌝ }
+{
+    marked(s, layout::ECHO_SENT, i as u64)
+}
+
+pub fn ready_sent(s: &[u64], i: u8) -> bool
+    ensures { λ r. ⌜ r ≡ readySent (now (s .entry)) i ⌝ }
+{
+    marked(s, layout::READY_SENT, i as u64)
+}
+
+pub fn send_held(s: &[u64], i: u8) -> bool
+    ensures { λ r. ⌜ r ≡ sendHeld (now (s .entry)) i ⌝ }
+{
+    marked(s, layout::SEND_MARKS, i as u64)
+}
+
+pub fn send_value(s: &[u64], i: u8) -> u64
+    ensures { λ r. ⌜ r ≡ sendValue (now (s .entry)) i ⌝ }
+{
+    word(s, layout::SEND_VALUES + i as usize)
+}
+
+// The coin of vote i in round r.
+pub fn coin(s: &[u64], i: u8, r: u8) -> bool
+    ensures { λ c. ⌜ c ≡ coin (now (s .entry)) i r ⌝ }
+{
+    marked(s, layout::COINS + i as usize, r as u64)
+}
+
+// The round of vote i: 0 before its start, 33 after round 32.
+pub fn round(s: &[u64], i: u8) -> u8
+    ensures { λ r. ⌜ r ≡ round (now (s .entry)) i ⌝ }
+{
+    let r = word(s, layout::ROUNDS + i as usize);
+    if r < 33 { r as u8 } else { 33 }
+}
+
+// Whether EST b was sent in round r of vote i.
+pub fn est_sent(s: &[u64], i: u8, r: u8, b: u8) -> bool
+    ensures { λ c. ⌜ c ≡ estSent (now (s .entry)) i r b ⌝ }
+{
+    marked(s, layout::EST_SENT + i as usize, 32 * b as u64 + r as u64)
+}
+
+// Whether an AUX was sent in round r of vote i.
+pub fn aux_sent(s: &[u64], i: u8, r: u8) -> bool
+    ensures { λ c. ⌜ c ≡ auxSent (now (s .entry)) i r ⌝ }
+{
+    marked(s, layout::AUX_SENT + i as usize, r as u64)
+}
+
+// Whether a decision stands in vote i.
+pub fn decided(s: &[u64], i: u8) -> bool
+    ensures { λ r. ⌜ r ≡ decided (now (s .entry)) i ⌝ }
+{
+    marked(s, layout::DECIDED_ZERO, i as u64) | marked(s, layout::DECIDED_ONE, i as u64)
+}
+
+// The ESTs and AUXs held in round r of vote i, four groups of 16 marks.
+pub fn votes(s: &[u64], i: u8, r: u8) -> u64
+    ensures { λ w. ⌜ w ≡ word (now (s .entry)) (voteAt i r) ⌝ }
+{
+    word(s, layout::VOTES + 32 * i as usize + r as usize)
+}
+
+// How many values the COMMIT of sender p has, and 0 where none is held.
+pub fn commit_count(s: &[u64], p: u8) -> u8
+    ensures { λ r. ⌜ r ≡ commitCount (now (s .entry)) p ⌝ }
+{
+    let k = word(s, layout::COMMIT_COUNTS + p as usize);
+    if k < 16 { k as u8 } else { 16 }
+}
+
+// Value k of the COMMIT of sender p.
+pub fn commit_value(s: &[u64], p: u8, k: u8) -> u64
+    ensures { λ r. ⌜ r ≡ commitValue (now (s .entry)) p k ⌝ }
+{
+    word(s, layout::COMMIT_VALUES + 16 * p as usize + k as usize)
+}
+
+// The first count elements of from, at the front of out.
+pub fn copy_front(from: &[u64], count: u8, out: &mut [u64])
+    requires { ⌜ (count ≤ length (now from)) × (count ≤ length (now out)) ⌝ }
+    ensures { λ _. ⌜ now (out .exit) ≡ copied (now (from .entry)) (now (out .entry)) count ⌝ }
+{
+    let n = count as usize;
+    let mut k: usize = 0;
+    while k < n {
+        out[k] = from[k];
+        k += 1;
+    }
+}

@@ -1,0 +1,28 @@
+-- No state, or the room in its session.
+use Rattle.report.specs.Cases.{admit-cases}
+use borrow.Author.Needs.{needs}
+use Rattle.report.proofs.admit.Statement.{statement}
+use Rattle.report.proofs.admit.Tie as tie
+
+state-of-requires : tie.Need-state-of-requires
+state-of-requires c κs = search needs
+
+enum-told : tie.Need-enum-told
+enum-told c = search needs
+
+enum-known-held : tie.Need-enum-known-held
+enum-known-held c = search needs
+
+admit-in-requires : tie.Need-admit-in-requires
+admit-in-requires c κs = search needs
+
+returns : tie.Need-returns
+returns c = search admit-cases
+
+returns-2 : tie.Need-returns-2
+returns-2 c = search admit-cases
+
+pub admit-spec : {M : Type 1} → statement M
+admit-spec =
+    tie.close
+    (tie.spec state-of-requires enum-told enum-known-held admit-in-requires returns returns-2)

@@ -1,0 +1,81 @@
+-- The report: "The report gives the exit, its set, the turn count, and the set in force or none."
+use Prim.Native.Nat.{ℕ}
+use mathlib.Core.Bool.{Bool, _||_, cond}
+use mathlib.Core.List.{List, [], _++_}
+use lib.ListN.{length, drop}
+use lib.Dec.{ltb}
+use Rattle.settings.specs.Refusals.{SHORT, NO-STATE}
+use Rattle.settings.specs.Settings.{quorum}
+use Rattle.settings.specs.declared.Settings.{Settings}
+use Rattle.records.specs.Layout.{turnsAt}
+use Rattle.records.specs.Words.{word}
+use Rattle.records.specs.Records.{closed}
+use Rattle.commits.specs.Commits.{leadingSet}
+use Rattle.exits.specs.Exits.{Exit}
+use Rattle.exits.specs.Now.{exitNow}
+use Rattle.session.specs.Session.{stored}
+use Rattle.session.specs.declared.Session.{Session}
+use Rattle.session.specs.declared.Stored.{Stored}
+use Rattle.session.specs.declared.Stored.the-variants.{NoState, Held}
+use Rattle.report.specs.declared.Figures.{Figures}
+use Rattle.report.specs.declared.Admitted.{Admitted}
+use Rattle.report.specs.declared.Admitted.the-variants as admitted
+use Rattle.report.specs.declared.Answer.{Answer}
+use Rattle.report.specs.declared.Answer.the-variants.{Refused, Given}
+
+-- "n−ts senders' COMMITs hold the same set. The set is in force; the session is closed here." Read afresh from the COMMITs held;
+-- [] is none: before closing, and where a state closed by other means has no such set
+unfoldable pub inForceSet : Settings → List ℕ → List ℕ
+inForceSet g s = cond (closed s) (leadingSet s (g .n) (quorum g)) []
+
+-- the exit, 0 for none; how many values it names and how many are in force; "The count stored and reported is the number of turns
+-- since opening that did not answer idle"
+unfoldable pub figuresOf : Settings → List ℕ → Figures
+figuresOf g s =
+    record {
+      exit = exitNow g s .number;
+      named = length (exitNow g s .names);
+      in_force = length (inForceSet g s);
+      turns = word s turnsAt;
+    }
+
+-- "8 SHORT: .. a report lent under 16 words for either set"
+unfoldable pub admittedIn : Settings → ℕ → ℕ → Admitted
+admittedIn g namedWords inForceWords = cond (ltb namedWords 16 || ltb inForceWords 16) (admitted.Refused SHORT) (admitted.Open g)
+
+unfoldable pub admittedFor : Stored → ℕ → ℕ → Admitted
+admittedFor NoState namedWords inForceWords = admitted.Refused NO-STATE
+admittedFor (Held x) namedWords inForceWords = admittedIn (x .settings) namedWords inForceWords
+
+-- "Report 9, 8."
+unfoldable pub admits : List ℕ → ℕ → ℕ → Admitted
+admits s namedWords inForceWords = admittedFor (stored s) namedWords inForceWords
+
+-- "a success writes .. a set's own words, and no others"
+unfoldable pub atFront : List ℕ → List ℕ → List ℕ
+atFront xs old = xs ++ drop (length xs) old
+
+-- "A refusal yields its number and nothing else; state and buffers are untouched."
+unfoldable pub answerFor : Admitted → List ℕ → Answer
+answerFor (admitted.Refused k) s = Refused k
+answerFor (admitted.Open g) s = Given (figuresOf g s)
+
+unfoldable pub namedFor : Admitted → List ℕ → List ℕ → List ℕ
+namedFor (admitted.Refused k) s old = old
+namedFor (admitted.Open g) s old = atFront (exitNow g s .names) old
+
+unfoldable pub inForceFor : Admitted → List ℕ → List ℕ → List ℕ
+inForceFor (admitted.Refused k) s old = old
+inForceFor (admitted.Open g) s old = atFront (inForceSet g s) old
+
+-- the answer of a report that is lent so many words for each set
+unfoldable pub reportAnswer : List ℕ → ℕ → ℕ → Answer
+reportAnswer s namedWords inForceWords = answerFor (admits s namedWords inForceWords) s
+
+-- the words lent for the set that the exits name, after the call
+unfoldable pub reportNamed : List ℕ → List ℕ → ℕ → List ℕ
+reportNamed s named inForceWords = namedFor (admits s (length named) inForceWords) s named
+
+-- the words lent for the set in force, after the call
+unfoldable pub reportInForce : List ℕ → ℕ → List ℕ → List ℕ
+reportInForce s namedWords inForce = inForceFor (admits s namedWords (length inForce)) s inForce

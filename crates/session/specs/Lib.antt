@@ -1,0 +1,3 @@
+pub mod Session
+pub mod Cases
+pub mod Laws

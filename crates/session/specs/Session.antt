@@ -1,0 +1,52 @@
+-- When a lent buffer holds a state: the refusal 9, NO STATE.
+use Prim.Native.Nat.{ℕ, _+_, _*_, _%_, _^_}
+use mathlib.Core.Bool.{Bool, _&&_, cond}
+use mathlib.Core.List.{List}
+use lib.ListN.{length}
+use lib.Dec.{eqb, leb}
+use Rattle.settings.specs.Settings.{validSettings, turnBound}
+use Rattle.settings.specs.declared.Settings.{Settings}
+use Rattle.quorum.specs.Every.{every}
+use Rattle.records.specs.Layout.{stateWords, nAt, taAt, tsAt, ownAt, sessionAt, turnsAt, roundAt, commitCountAt}
+use Rattle.records.specs.Words.{word}
+use Rattle.session.specs.declared.Session.{Session}
+use Rattle.session.specs.declared.Stored.{Stored}
+use Rattle.session.specs.declared.Stored.the-variants.{NoState, Held}
+
+-- "own number": 1 to n
+unfoldable pub numbered : ℕ → ℕ → Bool
+numbered n own = leb 1 own && leb own n
+
+-- "a stored round above 33": none of votes 1 to n has one
+unfoldable pub roundsRight : List ℕ → ℕ → Bool
+roundsRight s n = every (λ i. leb (word s (roundAt i)) 33) n
+
+-- "more than n values in a COMMIT": no sender 1 to n has so many
+unfoldable pub commitsRight : List ℕ → ℕ → Bool
+commitsRight s n = every (λ p. leb (word s (commitCountAt p)) n) n
+
+-- the stored numbers beside the settings; "more than 99·n+3 turns" is none
+unfoldable pub numbersRight : Settings → List ℕ → Bool
+numbersRight g s =
+    numbered (g .n) (word s ownAt) && leb (word s turnsAt) (turnBound g) && roundsRight s (g .n) && commitsRight s (g .n)
+
+unfoldable pub settingsOf : List ℕ → Settings
+settingsOf s = record { n = word s nAt; ta = word s taAt; ts = word s tsAt }
+
+-- "wrong word count, stored settings or own number that opening would refuse (a stored ta of 255 too), ..": no such thing
+unfoldable pub isState : List ℕ → Bool
+isState s =
+    eqb (length s) stateWords && validSettings (word s nAt) (word s taAt) (word s tsAt) && numbersRight (settingsOf s) s
+
+-- what is read of a state once; the session number has 32 bits
+unfoldable pub sessionWith : Settings → List ℕ → Session
+sessionWith g s = record { settings = g; own = word s ownAt; number = word s sessionAt % 2 ^ 32 }
+
+unfoldable pub sessionOf : List ℕ → Session
+sessionOf s = sessionWith (settingsOf s) s
+
+unfoldable pub storedWith : Settings → List ℕ → Stored
+storedWith g s = cond (numbersRight g s) (Held (sessionWith g s)) NoState
+
+unfoldable pub stored : List ℕ → Stored
+stored s = cond (isState s) (Held (sessionOf s)) NoState

@@ -1,0 +1,106 @@
+// Whether a lent buffer holds a state, and what is read of it once.
+use records::layout;
+use settings::Checked;
+use settings::Settings;
+ghost use mathlib.Core.Path.{_≡_};
+ghost use Prim.Native.Nat.{_+_, _<_};
+ghost use Rattle.session.specs.Session.{numbered, numbersRight, sessionWith, storedWith, stored};
+ghost use Rattle.records.specs.Words.{word};
+ghost use Rattle.records.specs.Layout.{ownAt};
+ghost use Rattle.quorum.specs.Every.{every};
+ghost use lib.Dec.{leb};
+
+pub struct Session {
+    pub settings: Settings,
+    pub own: u8,
+    pub number: u32,
+}
+
+pub enum Stored {
+    NoState,
+    Held(Session),
+}
+
+// Whether own is a number of 1 to n.
+pub fn numbered(n: u64, own: u64) -> bool
+    ensures { λ r. ⌜ r ≡ numbered n own ⌝ }
+{
+    (1 <= own) & (own <= n)
+}
+
+// Whether the word at base + k is at most limit.
+fn limited(s: &[u64], base: u8, limit: u64, k: u8) -> bool
+    ensures { λ r. ⌜ r ≡ leb (word (now (s .entry)) (base + k)) limit ⌝ }
+{
+    records::word(s, base as usize + k as usize) <= limit
+}
+
+// Whether the words base + 1 to base + n are all at most limit.
+fn all_limited(s: &[u64], base: u8, limit: u64, n: u8) -> bool
+    ensures { λ r. ⌜ r ≡ every (λ k. leb (word (now (s .entry)) (base + k)) limit) n ⌝ }
+{
+    let mut k: u8 = 0;
+    while k < n {
+        k += 1;
+        if !limited(s, base, limit, k) {
+            return false;
+        }
+    }
+    true
+}
+
+// Whether the stored numbers beside the settings are within the rules.
+fn numbers_right(s: &[u64], g: Settings) -> bool
+    ensures { λ r. ⌜ r ≡ numbersRight g (now (s .entry)) ⌝ }
+{
+    if !numbered(g.n as u64, records::word(s, layout::OWN)) {
+        return false;
+    }
+    if g.turn_bound() < records::word(s, layout::TURNS) {
+        return false;
+    }
+    if !all_limited(s, layout::ROUNDS as u8, 33, g.n) {
+        return false;
+    }
+    all_limited(s, layout::COMMIT_COUNTS as u8, g.n as u64, g.n)
+}
+
+// What is read of a state with these settings.
+fn session_of(s: &[u64], g: Settings) -> Session
+    requires { ⌜ word (now s) ownAt < 256 ⌝ }
+    ensures { λ r. ⌜ r ≡ sessionWith g (now (s .entry)) ⌝ }
+{
+    Session {
+        settings: g,
+        own: records::word(s, layout::OWN) as u8,
+        number: (records::word(s, layout::SESSION) % 4294967296) as u32,
+    }
+}
+
+// The session with these settings, where the other numbers are right.
+fn stored_with(s: &[u64], g: Settings) -> Stored
+    ensures { λ r. ⌜ r ≡ storedWith g (now (s .entry)) ⌝ }
+{
+    if numbers_right(s, g) {
+        return Stored::Held(session_of(s, g));
+    }
+    Stored::NoState
+}
+
+// The session that the buffer holds.
+pub fn state_of(s: &[u64]) -> Stored
+    ensures { λ r. ⌜ r ≡ stored (now (s .entry)) ⌝ }
+{
+    if s.len() != layout::STATE_WORDS {
+        return Stored::NoState;
+    }
+    let c = Settings::check(
+        records::word(s, layout::N),
+        records::word(s, layout::TA),
+        records::word(s, layout::TS),
+    );
+    match c {
+        Checked::Invalid => Stored::NoState,
+        Checked::Valid(g) => stored_with(s, g),
+    }
+}

@@ -1,0 +1,64 @@
+-- `vote_rule` looks at the votes 1 to n in rising order.
+use Prim.Native.Nat.{_-_}
+use borrow.Author.Needs.{needs}
+use Rattle.quorum.specs.Marks.{mark}
+use Rattle.acts.specs.First.{Quiet, firsts}
+use Rattle.votes.specs.Votes.{voteAct, voteRule}
+use Rattle.votes.specs.Cases.{vote-numbered}
+use Rattle.votes.proofs.vote_rule.Statement.{statement}
+use Rattle.votes.proofs.vote_rule.Tie as tie
+
+abbrev Inv-loop : tie.InvT-loop
+Inv-loop s g held ones n i₀ i = Quiet (λ k. voteAct g s (mark held k) ones k) n i
+
+abbrev μ-loop : tie.MeasureT-loop
+μ-loop s g held ones n i₀ i = n - i
+
+loop-holds : tie.Need-loop-holds Inv-loop μ-loop
+loop-holds c = search firsts
+
+add-i : tie.Need-add-i Inv-loop μ-loop
+add-i c = search needs
+
+cast-mark : tie.Need-cast-mark Inv-loop μ-loop
+cast-mark c = search needs
+
+mark-requires : tie.Need-mark-requires Inv-loop μ-loop
+mark-requires c κs = search needs
+
+vote-act-requires : tie.Need-vote-act-requires Inv-loop μ-loop
+vote-act-requires c κs = search needs
+
+is-due-requires : tie.Need-is-due-requires Inv-loop μ-loop
+is-due-requires c κs = search needs
+
+returns : tie.Need-returns Inv-loop μ-loop
+unfolding voteRule
+returns c = search (vote-numbered, firsts)
+
+loop-less : tie.Need-loop-less Inv-loop μ-loop
+loop-less c = search needs
+
+loop-again : tie.Need-loop-again Inv-loop μ-loop
+loop-again c = search (vote-numbered, firsts)
+
+returns-2 : tie.Need-returns-2 Inv-loop μ-loop
+unfolding voteRule
+returns-2 c = search firsts
+
+pub vote-rule-spec : {M : Type 1} → statement M
+vote-rule-spec =
+    tie.close
+    (tie.spec
+    Inv-loop
+    μ-loop
+    loop-holds
+    add-i
+    cast-mark
+    mark-requires
+    vote-act-requires
+    is-due-requires
+    returns
+    loop-less
+    loop-again
+    returns-2)

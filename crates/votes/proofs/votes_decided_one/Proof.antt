@@ -1,0 +1,17 @@
+-- `votes_decided_one` counts the marks of the votes decided 1.
+use Rattle.votes.specs.Cases.{ones-counted}
+use borrow.Author.Needs.{needs}
+use Rattle.votes.proofs.votes_decided_one.Statement.{statement}
+use Rattle.votes.proofs.votes_decided_one.Tie as tie
+
+word-requires : tie.Need-word-requires
+word-requires c κs = search needs
+
+count-marks-requires : tie.Need-count-marks-requires
+count-marks-requires c κs = search needs
+
+returns : tie.Need-returns
+returns c = search ones-counted
+
+pub votes-decided-one-spec : {M : Type 1} → statement M
+votes-decided-one-spec = tie.close (tie.spec word-requires count-marks-requires returns)

@@ -1,0 +1,6 @@
+pub mod Votes
+pub mod Cases
+pub mod Choices
+pub mod Told
+pub mod Views
+pub mod Laws

@@ -1,0 +1,285 @@
+// Votes, rule 6 of the turn order: the start, relay, AUX or move that is due.
+use acts::Act;
+use records::layout;
+use settings::Settings;
+ghost use mathlib.Core.Path.{_≡_};
+ghost use Prim.Native.Nat.{min};
+ghost use Rattle.settings.specs.Settings.{roundLimit};
+ghost use Rattle.records.specs.Records.{round};
+ghost use Rattle.votes.specs.Votes.{estCount, accepted, votesDecidedOne, startAct, relayValue, relayRound, relayAct, running, auxValue, auxAct};
+ghost use Rattle.votes.specs.Votes.{carries, carriers, auxCount, viewOf, view, moveValue, moveAct, roundAct, voteAct, voteRule, coinValue, estimate, decides};
+
+// The groups of marks in a round's word: EST 0 and EST 1, then AUX 0 and AUX 1.
+const AUX_ZERO: u16 = 32;
+
+const AUX_ONE: u16 = 48;
+
+const GROUP: u16 = 16;
+
+// How many senders' ESTs of b are held in round r of vote i.
+fn est_count(s: &[u64], g: Settings, i: u8, r: u8, b: u8) -> u64
+    ensures { λ c. ⌜ c ≡ estCount g (now (s .entry)) i r b ⌝ }
+{
+    quorum::count_marks(records::votes(s, i, r), GROUP * b as u16, g.n)
+}
+
+// How many held AUXs carry b.
+fn aux_count(s: &[u64], g: Settings, i: u8, r: u8, b: u8) -> u64
+    ensures { λ c. ⌜ c ≡ auxCount g (now (s .entry)) i r b ⌝ }
+{
+    quorum::count_marks(records::votes(s, i, r), AUX_ZERO + GROUP * b as u16, g.n)
+}
+
+// Whether 2·ta + 1 senders' ESTs hold b in round r of vote i.
+pub fn accepted(s: &[u64], g: Settings, i: u8, r: u8, b: u8) -> bool
+    ensures { λ t. ⌜ t ≡ accepted g (now (s .entry)) i r b ⌝ }
+{
+    g.accept() <= est_count(s, g, i, r, b)
+}
+
+// How many votes are decided 1.
+pub fn votes_decided_one(s: &[u64], g: Settings) -> u64
+    ensures { λ c. ⌜ c ≡ votesDecidedOne g (now (s .entry)) ⌝ }
+{
+    quorum::count_marks(records::word(s, layout::DECIDED_ONE), 0, g.n)
+}
+
+// The start of vote i, where it is due: `output` tells whether broadcast i has output, `ones` counts the votes decided 1.
+pub fn start_act(s: &[u64], g: Settings, output: bool, ones: u64, i: u8) -> Act
+    ensures { λ a. ⌜ a ≡ startAct g (now (s .entry)) output ones i ⌝ }
+{
+    if 0 < records::round(s, i) {
+        return Act::Idle;
+    }
+    if output {
+        return Act::Start(i, 1);
+    }
+    if g.vote_quorum() <= ones {
+        return Act::Start(i, 0);
+    }
+    Act::Idle
+}
+
+// EST b in round r, where it was not sent and ta + 1 senders hold it.
+fn relay_value(s: &[u64], g: Settings, i: u8, r: u8, b: u8) -> Act
+    ensures { λ a. ⌜ a ≡ relayValue g (now (s .entry)) i r b ⌝ }
+{
+    if records::est_sent(s, i, r, b) {
+        return Act::Idle;
+    }
+    if g.relay() <= est_count(s, g, i, r, b) {
+        return Act::Relay(i, r, b);
+    }
+    Act::Idle
+}
+
+// The relay of a value in round r: 0 before 1.
+fn relay_round(s: &[u64], g: Settings, i: u8, r: u8) -> Act
+    ensures { λ a. ⌜ a ≡ relayRound g (now (s .entry)) i r ⌝ }
+{
+    let a = relay_value(s, g, i, r, 0);
+    if acts::is_due(a) {
+        return a;
+    }
+    relay_value(s, g, i, r, 1)
+}
+
+// The last round that relays: the current one, at most 32.
+fn last_round(s: &[u64], i: u8) -> u8
+    ensures { λ r. ⌜ r ≡ min (round (now (s .entry)) i) roundLimit ⌝ }
+{
+    let r = records::round(s, i);
+    if r < Settings::ROUND_LIMIT {
+        r
+    } else {
+        Settings::ROUND_LIMIT
+    }
+}
+
+// The relay of vote i, where one is due: the lowest round first.
+pub fn relay_act(s: &[u64], g: Settings, i: u8) -> Act
+    ensures { λ a. ⌜ a ≡ relayAct g (now (s .entry)) i ⌝ }
+{
+    let last = last_round(s, i);
+    let mut r: u8 = 0;
+    while r < last {
+        r += 1;
+        let a = relay_round(s, g, i, r);
+        if acts::is_due(a) {
+            return a;
+        }
+    }
+    Act::Idle
+}
+
+// The AUX of round r: 0 if 0 is accepted, else 1.
+fn aux_value(s: &[u64], g: Settings, i: u8, r: u8) -> Act
+    ensures { λ a. ⌜ a ≡ auxValue g (now (s .entry)) i r ⌝ }
+{
+    if accepted(s, g, i, r, 0) {
+        return Act::Aux(i, r, 0);
+    }
+    if accepted(s, g, i, r, 1) {
+        return Act::Aux(i, r, 1);
+    }
+    Act::Idle
+}
+
+// The AUX of the current round of vote i, where it is due: once a round.
+pub fn aux_act(s: &[u64], g: Settings, i: u8) -> Act
+    ensures { λ a. ⌜ a ≡ auxAct g (now (s .entry)) i ⌝ }
+{
+    let r = records::round(s, i);
+    if records::aux_sent(s, i, r) {
+        return Act::Idle;
+    }
+    aux_value(s, g, i, r)
+}
+
+// Whether the AUX held from sender p carries an accepted value; a0 and a1 tell which values are accepted.
+fn carries(s: &[u64], i: u8, r: u8, a0: bool, a1: bool, p: u8) -> bool
+    ensures { λ t. ⌜ t ≡ carries (now (s .entry)) i r a0 a1 p ⌝ }
+{
+    let w = records::votes(s, i, r);
+    (a0 & quorum::mark(w, AUX_ZERO as u64 + p as u64))
+        | (a1 & quorum::mark(w, AUX_ONE as u64 + p as u64))
+}
+
+// How many held AUXs carry accepted values.
+fn carriers(s: &[u64], g: Settings, i: u8, r: u8, a0: bool, a1: bool) -> u64
+    ensures { λ c. ⌜ c ≡ carriers g (now (s .entry)) i r a0 a1 ⌝ }
+{
+    let n = g.n;
+    let mut c: u64 = 0;
+    let mut p: u8 = 0;
+    while p < n {
+        p += 1;
+        c += carries(s, i, r, a0, a1, p) as u64;
+    }
+    c
+}
+
+// The view where 0 and 1 are carried, or only one of them.
+fn view_of(zero: bool, one: bool) -> acts::View
+    ensures { λ v. ⌜ v ≡ viewOf zero one ⌝ }
+{
+    if zero {
+        if one {
+            acts::View::Both
+        } else {
+            acts::View::Only(0)
+        }
+    } else {
+        acts::View::Only(1)
+    }
+}
+
+// The values that the accepted AUXs of a round carry.
+fn view(s: &[u64], g: Settings, i: u8, r: u8, a0: bool, a1: bool) -> acts::View
+    ensures { λ v. ⌜ v ≡ view g (now (s .entry)) i r a0 a1 ⌝ }
+{
+    let zero = a0 & (0 < aux_count(s, g, i, r, 0));
+    let one = a1 & (0 < aux_count(s, g, i, r, 1));
+    view_of(zero, one)
+}
+
+// The move out of round r, where n − ta held AUXs carry accepted values.
+fn move_value(s: &[u64], g: Settings, i: u8, r: u8, a0: bool, a1: bool) -> Act
+    ensures { λ a. ⌜ a ≡ moveValue g (now (s .entry)) i r a0 a1 ⌝ }
+{
+    if g.vote_quorum() <= carriers(s, g, i, r, a0, a1) {
+        return Act::Move(i, r, view(s, g, i, r, a0, a1));
+    }
+    Act::Idle
+}
+
+// The move of vote i, where it is due: after the own AUX.
+pub fn move_act(s: &[u64], g: Settings, i: u8) -> Act
+    ensures { λ a. ⌜ a ≡ moveAct g (now (s .entry)) i ⌝ }
+{
+    let r = records::round(s, i);
+    if records::aux_sent(s, i, r) {
+        return move_value(s, g, i, r, accepted(s, g, i, r, 0), accepted(s, g, i, r, 1));
+    }
+    Act::Idle
+}
+
+// Whether vote i is in one of its rounds 1 to 32.
+fn running(s: &[u64], i: u8) -> bool
+    ensures { λ t. ⌜ t ≡ running (now (s .entry)) i ⌝ }
+{
+    let r = records::round(s, i);
+    (1 <= r) & (r <= Settings::ROUND_LIMIT)
+}
+
+// The AUX or the move of vote i, where one is due.
+pub fn round_act(s: &[u64], g: Settings, i: u8) -> Act
+    ensures { λ a. ⌜ a ≡ roundAct g (now (s .entry)) i ⌝ }
+{
+    if running(s, i) {
+        let a = aux_act(s, g, i);
+        if acts::is_due(a) {
+            return a;
+        }
+        return move_act(s, g, i);
+    }
+    Act::Idle
+}
+
+// What is due in vote i: start; then relay; then AUX; then move.
+pub fn vote_act(s: &[u64], g: Settings, output: bool, ones: u64, i: u8) -> Act
+    ensures { λ a. ⌜ a ≡ voteAct g (now (s .entry)) output ones i ⌝ }
+{
+    let a = start_act(s, g, output, ones, i);
+    if acts::is_due(a) {
+        return a;
+    }
+    let b = relay_act(s, g, i);
+    if acts::is_due(b) {
+        return b;
+    }
+    round_act(s, g, i)
+}
+
+// Rule 6, lower votes first: `held` has mark i where broadcast i has output.
+pub fn vote_rule(s: &[u64], g: Settings, held: u64, ones: u64) -> Act
+    ensures { λ a. ⌜ a ≡ voteRule g (now (s .entry)) held ones ⌝ }
+{
+    let n = g.n;
+    let mut i: u8 = 0;
+    while i < n {
+        i += 1;
+        let a = vote_act(s, g, quorum::mark(held, i as u64), ones, i);
+        if acts::is_due(a) {
+            return a;
+        }
+    }
+    Act::Idle
+}
+
+// The coin as a value: 1 where its bit is set.
+pub fn coin_value(coin: bool) -> u8
+    ensures { λ b. ⌜ b ≡ coinValue coin ⌝ }
+{
+    if coin { 1 } else { 0 }
+}
+
+// The estimate after a move.
+pub fn estimate(coin: bool, v: acts::View) -> u8
+    ensures { λ b. ⌜ b ≡ estimate coin v ⌝ }
+{
+    match v {
+        acts::View::Only(b) => b,
+        acts::View::Both => coin_value(coin),
+    }
+}
+
+// Whether a move decides its vote, if no decision stands.
+pub fn decides(coin: bool, v: acts::View) -> bool
+    ensures { λ t. ⌜ t ≡ decides coin v ⌝ }
+{
+    match v {
+        acts::View::Only(b) => b == coin_value(coin),
+        acts::View::Both => false,
+    }
+}

@@ -1,0 +1,101 @@
+-- What reading a message answers: the refusals 2 to 7 in their order, or the message.
+use Prim.Native.Nat.{ℕ, _+_, _*_}
+use mathlib.Core.Bool.{Bool, false, cond, _&&_}
+use mathlib.Core.List.{List}
+use lib.ListN.{length, getD, drop}
+use lib.Dec.{leb, eqb}
+use Rattle.wire.specs.Bytes.{be2, be4, valueAt, values, rises}
+use Rattle.settings.specs.Settings.{roundLimit}
+use Rattle.settings.specs.Refusals.{LENGTH, KIND, SESSION, SENDER, FIELD, VALUE}
+use Rattle.wire.specs.Message.{VERSION, SEND, COMMIT, byKind}
+use Rattle.wire.specs.declared.Message.{Message}
+use Rattle.wire.specs.declared.Message.the-variants.{Send, Echo, Ready, Est, Aux, Commit}
+use Rattle.wire.specs.declared.Header.{Header}
+use Rattle.wire.specs.declared.Parsed.{Parsed}
+use Rattle.wire.specs.declared.Parsed.the-variants.{Refused, Taken}
+
+-- lo ≤ x ≤ hi
+abbrev pub within : ℕ → ℕ → ℕ → Bool
+within lo hi x = leb lo x && leb x hi
+
+-- not "under 12 bytes, or not 12 + 8·count"; the count is byte 5 as it stands, whatever the kind
+unfoldable pub lengthRight : List ℕ → Bool
+lengthRight b = leb 12 (length b) && eqb (length b) (12 + 8 * getD b 5 0)
+
+-- bytes 0 to 11
+unfoldable pub headerOf : List ℕ → Header
+headerOf b = record {
+  version = getD b 0 0;
+  kind = getD b 1 0;
+  sender = getD b 2 0;
+  instance = getD b 3 0;
+  round = getD b 4 0;
+  count = getD b 5 0;
+  reserved = be2 b 6;
+  session = be4 b 8;
+}
+
+-- not "version or kind unknown"
+abbrev pub kindKnown : ℕ → ℕ → Bool
+kindKnown version kind = eqb version VERSION && within SEND COMMIT kind
+
+-- not "byte 2 is not the link's concentrator, or that is not 1 to n"
+abbrev pub senderRight : ℕ → ℕ → ℕ → Bool
+senderRight n link sender = eqb sender link && within 1 n link
+
+-- "Byte 3 is the instance, 1 to n", the round is 0 and the count 1
+abbrev pub broadcastFields : ℕ → Header → Bool
+broadcastFields n h = within 1 n (h .instance) && eqb (h .round) 0 && eqb (h .count) 1
+
+-- "Byte 4 is the round, 1 to 32 in EST and AUX"
+abbrev pub voteFields : ℕ → Header → Bool
+voteFields n h = within 1 n (h .instance) && within 1 roundLimit (h .round) && eqb (h .count) 1
+
+-- "Byte 5 is the count of values: 1 to n in COMMIT", whose instance and round are 0
+abbrev pub commitFields : ℕ → Header → Bool
+commitFields n h = eqb (h .instance) 0 && eqb (h .round) 0 && within 1 n (h .count)
+
+-- bytes 3 to 7 against the layout, by kind: "Bytes 6 and 7 are 0." "In SEND the instance equals the sender."
+unfoldable pub fieldsRight : ℕ → Header → Bool
+fieldsRight n h =
+    cond (eqb (h .reserved) 0)
+    (byKind (h .kind)
+    (broadcastFields n h && eqb (h .instance) (h .sender))
+    (broadcastFields n h)
+    (broadcastFields n h)
+    (voteFields n h)
+    (voteFields n h)
+    (commitFields n h))
+    false
+
+-- the message m, if its values are right
+unfoldable pub takenIf : Bool → Message → Parsed
+takenIf right m = cond right (Taken m) (Refused VALUE)
+
+-- the message with the header h and the values in v, by kind: "EST and AUX carry 0 or 1. COMMIT values rise strictly."
+unfoldable pub readValues : Header → List ℕ → Parsed
+readValues h v =
+    byKind (h .kind)
+    (Taken (Send (h .instance) (valueAt v 1)))
+    (Taken (Echo (h .instance) (valueAt v 1)))
+    (Taken (Ready (h .instance) (valueAt v 1)))
+    (takenIf (leb (valueAt v 1) 1) (Est (h .instance) (h .round) (valueAt v 1)))
+    (takenIf (leb (valueAt v 1) 1) (Aux (h .instance) (h .round) (valueAt v 1)))
+    (takenIf (rises (values (h .count) v)) (Commit (h .count)))
+
+-- the refusals 3 to 7 in their order, or the message
+unfoldable pub readChecked : (n session link : ℕ) → Header → List ℕ → Parsed
+readChecked n session link h v =
+    cond (kindKnown (h .version) (h .kind))
+    (cond (eqb (h .session) session)
+    (cond (senderRight n link (h .sender))
+    (cond (fieldsRight n h)
+    (readValues h v)
+    (Refused FIELD))
+    (Refused SENDER))
+    (Refused SESSION))
+    (Refused KIND)
+
+-- what the bytes b from the link of concentrator link are at one of n in a session: the refusals 2 to 7 in their order, or the message
+unfoldable pub readMessage : (n session link : ℕ) → List ℕ → Parsed
+readMessage n session link b = cond (lengthRight b) (readChecked n session link (headerOf b) (drop 12 b)) (Refused LENGTH)

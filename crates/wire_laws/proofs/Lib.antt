@@ -1,0 +1,4 @@
+pub mod Digits
+pub mod RoundTrip
+pub mod Parts
+pub mod Converse

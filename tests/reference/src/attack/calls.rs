@@ -1,0 +1,165 @@
+//! Calls with random arguments on one state, for a comparison of two engines in lockstep.
+
+use super::random::Random;
+use crate::engine::Engine;
+use crate::message::{Message, PackSet, LONGEST};
+use crate::packing::refusal;
+use crate::report::SET_WORDS;
+use crate::session::Opening;
+use crate::settings::{Number, Round, Settings};
+
+/// How often each answer was given.
+#[derive(Clone, Debug, Default, PartialEq, Eq)]
+pub struct Answers {
+    /// By refusal, 0 for accepted.
+    pub refusals: [u64; 12],
+    /// Turns: idle, sent, moved out of round 32, in force.
+    pub outcomes: [u64; 4],
+    /// Reports by exit.
+    pub exits: [u64; 4],
+}
+
+/// A state, and what is still to be delivered in its session.
+struct Caller<'a, E: Engine> {
+    engine: &'a E,
+    state: E::State,
+    session: u32,
+    left: Vec<(Number, Message)>,
+    random: Random,
+    answers: Answers,
+}
+
+/// Opens one state anew, again and again, and makes so many calls on it. They follow from the seed and the answers.
+pub fn random_calls<E: Engine>(engine: &E, seed: u64, calls: u64) -> Answers {
+    let random = Random::new(seed);
+    let (session, left, answers) = (0, Vec::new(), Answers::default());
+    let mut caller = Caller { engine, state: engine.blank(), session, left, random, answers };
+    for _ in 0..calls {
+        let answer = match caller.random.below(12) {
+            0..=5 => match caller.left.pop() {
+                Some((sender, message)) => caller.deliver(sender, &message),
+                None => caller.open(),
+            },
+            6..=10 => caller.turn(),
+            _ => caller.report(),
+        };
+        caller.answers.refusals[(answer & 0xff).min(11) as usize] += 1;
+    }
+    caller.answers
+}
+
+impl<E: Engine> Caller<'_, E> {
+    /// Mostly good settings; at times a number from the edge of what fits.
+    fn open(&mut self) -> u64 {
+        let random = &mut self.random;
+        let most = random.pick(&[5, 5, 7, Settings::MOST]);
+        let n = 1 + random.below(most);
+        let ts = random.below(n.div_ceil(2));
+        let ta = random.below(ts.min(n - 1 - 2 * ts) + 1);
+        let mut numbers = [n, ta, ts, 1 + random.below(n)];
+        if random.once_in(3) {
+            let edge = [0, 1, 15, 16, 17, 255, 256, 1 << 32, 1 << 63, (1 << 63) + 1, u64::MAX];
+            numbers[random.below(4) as usize] = random.pick(&edge);
+        }
+        let words = n + random.pick(&[0, 0, 0, 0, 0, 1]);
+        let ones = random.pick(&[0, u32::MAX]);
+        let coins: Vec<u32> = (0..words).map(|_| random.word() as u32 | ones).collect();
+        let session = random.pick(&[0, 7, u32::MAX]);
+        let input = random.below(3);
+        let [n, ta, ts, own] = numbers;
+        let answer = self
+            .engine
+            .open(&mut self.state, &Opening { n, ta, ts, own, session, input, coins: &coins });
+        if answer == 0 {
+            self.session = session;
+            self.left = messages(random, n as u8);
+        }
+        answer
+    }
+
+    /// Mostly the message as it is; at times with a byte, the length or the link changed.
+    fn deliver(&mut self, sender: Number, message: &Message) -> u64 {
+        let random = &mut self.random;
+        let mut bytes = message.to_bytes(sender, self.session);
+        let mut link = u64::from(sender);
+        match random.below(60) {
+            0 => bytes.truncate(random.below(bytes.len() as u64) as usize),
+            1 => bytes.extend([0; 8]),
+            2 => link = random.pick(&[0, 1, 2, 16, 17, link + 256, u64::MAX]),
+            3..=6 => {
+                let place = random.below(bytes.len() as u64) as usize;
+                bytes[place] = random.pick(&[0, 1, 2, 16, 17, 32, 33, 255]);
+            }
+            7 => self.left.push((sender, message.clone())),
+            _ => {}
+        }
+        self.engine.deliver(&mut self.state, link, &bytes)
+    }
+
+    fn turn(&mut self) -> u64 {
+        let mut lent = vec![0xa5; length(&mut self.random, LONGEST)];
+        let answer = self.engine.turn(&mut self.state, &mut lent);
+        if refusal(answer).is_none() {
+            self.answers.outcomes[(answer >> 8 & 3) as usize] += 1;
+        }
+        answer
+    }
+
+    fn report(&mut self) -> u64 {
+        let mut named = vec![7; length(&mut self.random, SET_WORDS)];
+        let mut in_force = vec![8; length(&mut self.random, SET_WORDS)];
+        let answer = self.engine.report(&self.state, &mut named, &mut in_force);
+        if refusal(answer).is_none() {
+            self.answers.exits[(answer >> 8 & 3) as usize] += 1;
+        }
+        answer
+    }
+}
+
+/// Mostly just enough; at times one less, none, or more.
+fn length(random: &mut Random, enough: usize) -> usize {
+    match random.below(40) {
+        0 => enough - 1,
+        1 => 0,
+        2 => enough + 9,
+        _ => enough,
+    }
+}
+
+/// A message for nearly every place, mostly with the value that the other senders give, in random order.
+fn messages(random: &mut Random, n: u8) -> Vec<(Number, Message)> {
+    let rounds: Round = random.pick(&[1, 1, 2, 4, if n > 5 { 4 } else { 32 }]);
+    let packs = random.pick(&[1, 2, 2, 3, 16]);
+    let noise = random.pick(&[2, 20, 1_000]);
+    let mut messages = Vec::new();
+    for (sender, instance) in (1..=n).flat_map(|sender| (1..=n).map(move |other| (sender, other))) {
+        let usual = u64::from(instance) % packs;
+        let value = if random.once_in(noise) { random.below(3) } else { usual };
+        messages.push((sender, Message::Echo { instance, value }));
+        messages.push((sender, Message::Ready { instance, value }));
+        if sender == instance {
+            messages.push((sender, Message::Send { value }));
+        }
+        for round in 1..=rounds {
+            let value = !random.once_in(noise);
+            messages.push((sender, Message::Est { instance, round, value }));
+            messages.push((sender, Message::Aux { instance, round, value }));
+        }
+    }
+    let most_missing = messages.len() / random.pick(&[4, 1_000_000]);
+    let count = messages.len() - random.below(1 + most_missing as u64) as usize;
+    let mut shuffled = random.some(messages, count);
+    insert_commits(random, n, &mut shuffled);
+    shuffled
+}
+
+/// COMMITs of all senders, before the rest or among it; the last of the list is delivered first.
+fn insert_commits(random: &mut Random, n: u8, messages: &mut Vec<(Number, Message)>) {
+    let values: PackSet = (0..1 + random.below(u64::from(n))).collect();
+    let among = random.once_in(3);
+    for sender in 1..=n {
+        let values = if random.once_in(8) { PackSet::from([9]) } else { values.clone() };
+        let place = if among { random.below(messages.len() as u64) } else { 0 };
+        messages.insert(place as usize, (sender, Message::Commit { values }));
+    }
+}

@@ -1,0 +1,348 @@
+//! One feeder: the honest concentrators on the engine under attack, the liars, and the messages on their way.
+
+use std::collections::BTreeMap;
+use std::rc::Rc;
+
+use super::claim::{Claim, Shown, Violation};
+use super::face::Face;
+use super::plan::{Opened, Plan};
+use super::random::Random;
+use super::Statistics;
+use crate::engine::Engine;
+use crate::message::{PackSet, LONGEST};
+use crate::packing::{refusal, unpack_report, unpack_turn, TurnAnswer};
+use crate::refusal::Refusal;
+use crate::report::SET_WORDS;
+use crate::session::Opening;
+use crate::settings::Number;
+
+/// Lent words hold this before a report.
+const UNWRITTEN: u64 = 0xa5a5_a5a5_a5a5_a5a5;
+
+struct Honest<S> {
+    state: S,
+    opened: bool,
+    closed: bool,
+    /// Turns that did not answer idle.
+    taken: u64,
+}
+
+#[derive(Clone, Copy)]
+enum Receiver {
+    Honest(Number),
+    Face(usize),
+}
+
+#[derive(Clone)]
+struct Parcel {
+    to: Receiver,
+    link: Number,
+    message: Rc<[u8]>,
+}
+
+pub struct Feeder<'a, E: Engine> {
+    engine: &'a E,
+    plan: &'a Plan,
+    random: Random,
+    honest: BTreeMap<Number, Honest<E::State>>,
+    faces: Vec<Face>,
+    /// By the step at which they are due, then in order of sending.
+    parcels: BTreeMap<(u64, u64), Parcel>,
+    parcel_count: u64,
+    now: u64,
+    claim: Claim,
+    pub statistics: Statistics,
+}
+
+impl<'a, E: Engine> Feeder<'a, E> {
+    pub fn new(engine: &'a E, plan: &'a Plan, seed: u64) -> Self {
+        let blank = |&number: &Number| {
+            let honest = Honest { state: engine.blank(), opened: false, closed: false, taken: 0 };
+            (number, honest)
+        };
+        Feeder {
+            engine,
+            plan,
+            random: Random::new(seed),
+            honest: plan.inputs.keys().map(blank).collect(),
+            faces: Face::all(plan),
+            parcels: BTreeMap::new(),
+            parcel_count: 0,
+            now: 0,
+            claim: Claim::new(plan.owes_agreement(), plan.owed_pack()),
+            statistics: Statistics::default(),
+        }
+    }
+
+    /// Runs until nothing is on its way and all are idle, or the plan's limit of calls is reached.
+    pub fn run(&mut self) -> Result<(), Violation> {
+        self.send_script();
+        (0..self.faces.len()).for_each(|face| self.act_as_face(face));
+        while self.statistics.calls < self.plan.pace.call_limit {
+            self.open_due()?;
+            if self.random.once_in(self.plan.pace.refused_calls) {
+                self.make_refused_call()?;
+            }
+            if let Some(((due, _), parcel)) = self.parcels.pop_first() {
+                self.now = self.now.max(due) + 1;
+                self.hand_over(parcel)?;
+            } else if !self.act_all()? {
+                break;
+            }
+        }
+        Ok(())
+    }
+
+    /// Opens those whose step has come.
+    fn open_due(&mut self) -> Result<(), Violation> {
+        let due: Vec<Number> = self
+            .honest
+            .iter()
+            .filter(|(_, honest)| !honest.opened)
+            .filter(|(number, _)| match self.plan.openings[number] {
+                Opened::At(step) => step <= self.now,
+                Opened::Never => false,
+            })
+            .map(|(&number, _)| number)
+            .collect();
+        due.into_iter().try_for_each(|number| self.open(number))
+    }
+
+    fn open(&mut self, number: Number) -> Result<(), Violation> {
+        let plan = self.plan;
+        if plan.used_before {
+            self.use_before_opening(number);
+        }
+        let opening = plan.opening(number, plan.inputs[&number]);
+        let honest = self.honest.get_mut(&number).expect("an honest number");
+        let answer = self.engine.open(&mut honest.state, &opening);
+        if answer != 0 {
+            return Err(Violation::Answer { at: number, call: "opening", answer });
+        }
+        honest.opened = true;
+        self.check(number)?;
+        self.act(number).map(drop)
+    }
+
+    /// Opens the buffer under another number and uses it. What it answers counts for nothing.
+    fn use_before_opening(&mut self, number: Number) {
+        let other = number % self.plan.settings.n() + 1;
+        let state = &mut self.honest.get_mut(&number).expect("an honest number").state;
+        self.engine.open(state, &self.plan.opening(other, UNWRITTEN));
+        for _ in 0..2 * self.plan.settings.n() {
+            let mut lent = [0; LONGEST];
+            let answer = self.engine.turn(state, &mut lent);
+            if let Some(TurnAnswer::Sent { length }) = unpack_turn(answer) {
+                self.engine.deliver(state, u64::from(other), &lent[..length]);
+            }
+        }
+    }
+
+    /// All turn until idle. Answers whether one did anything or is still to be opened.
+    fn act_all(&mut self) -> Result<bool, Violation> {
+        let mut acted = false;
+        let numbers: Vec<Number> = self.honest.keys().copied().collect();
+        for number in numbers {
+            acted |= self.act(number)?;
+            let opening = self.plan.openings[&number];
+            if let (Opened::At(step), false) = (opening, self.honest[&number].opened) {
+                self.now = self.now.max(step);
+                acted = true;
+            }
+        }
+        Ok(acted)
+    }
+
+    /// Turns until idle or closed. Answers whether a turn was not idle.
+    fn act(&mut self, number: Number) -> Result<bool, Violation> {
+        let before = self.honest[&number].taken;
+        while self.turn(number)? {}
+        Ok(self.honest[&number].taken > before)
+    }
+
+    /// One turn. Answers whether another can follow.
+    fn turn(&mut self, number: Number) -> Result<bool, Violation> {
+        let mut lent = [0; LONGEST];
+        let honest = self.honest.get_mut(&number).expect("an honest number");
+        let answer = self.engine.turn(&mut honest.state, &mut lent);
+        let wrong = Err(Violation::Answer { at: number, call: "turn", answer });
+        let read = match unpack_turn(answer) {
+            Some(TurnAnswer::Refused(Refusal::Closed)) if honest.closed => return Ok(false),
+            Some(TurnAnswer::Refused(Refusal::NoState)) if !honest.opened => return Ok(false),
+            Some(TurnAnswer::Refused(_)) | None => return wrong,
+            Some(read) if honest.opened && !honest.closed => read,
+            Some(_) => return wrong,
+        };
+        honest.taken += u64::from(read != TurnAnswer::Idle);
+        honest.closed = read == TurnAnswer::InForce;
+        self.check(number)?;
+        if let TurnAnswer::Sent { length } = read {
+            self.send_to_all(number, &lent[..length]);
+        }
+        Ok(matches!(read, TurnAnswer::Sent { .. } | TurnAnswer::MovedOut))
+    }
+
+    /// An honest one's message goes to all honest ones and to all faces.
+    fn send_to_all(&mut self, sender: Number, message: &[u8]) {
+        let message: Rc<[u8]> = message.into();
+        let numbers: Vec<Number> = self.honest.keys().copied().collect();
+        for number in numbers {
+            let delay = self.plan.delay(&mut self.random, &message, number);
+            self.send(Receiver::Honest(number), sender, &message, delay);
+        }
+        for face in 0..self.faces.len() {
+            let delay = self.random.below(self.plan.pace.jitter);
+            self.send(Receiver::Face(face), sender, &message, delay);
+        }
+    }
+
+    fn send(&mut self, to: Receiver, link: Number, message: &Rc<[u8]>, delay: u64) {
+        let place = (self.now + delay, self.parcel_count);
+        self.parcel_count += 1;
+        self.parcels.insert(place, Parcel { to, link, message: Rc::clone(message) });
+    }
+
+    fn hand_over(&mut self, parcel: Parcel) -> Result<(), Violation> {
+        match parcel.to {
+            Receiver::Face(face) => {
+                self.faces[face].deliver(parcel.link, &parcel.message);
+                self.act_as_face(face);
+                Ok(())
+            }
+            Receiver::Honest(number) => {
+                if self.honest[&number].closed && !self.random.once_in(20) {
+                    return Ok(());
+                }
+                self.deliver(number, parcel)?;
+                if self.random.once_in(self.plan.pace.laziness) {
+                    self.act(number)?;
+                }
+                Ok(())
+            }
+        }
+    }
+
+    fn deliver(&mut self, number: Number, parcel: Parcel) -> Result<(), Violation> {
+        let honest = self.honest.get_mut(&number).expect("an honest number");
+        let answer =
+            self.engine.deliver(&mut honest.state, u64::from(parcel.link), &parcel.message);
+        let fits = match refusal(answer) {
+            None => answer == 0 && honest.opened && !honest.closed,
+            Some(Refusal::NoState) => !honest.opened,
+            Some(Refusal::Closed) => honest.closed,
+            Some(Refusal::Held) => honest.opened && !honest.closed,
+            Some(_) => false,
+        };
+        if !fits {
+            return Err(Violation::Answer { at: number, call: "delivery", answer });
+        }
+        if self.random.once_in(40) {
+            self.send(parcel.to, parcel.link, &parcel.message, 1);
+        }
+        self.check(number)
+    }
+
+    /// Checks demand 3 and the count of turns after a call.
+    fn check(&mut self, number: Number) -> Result<(), Violation> {
+        self.statistics.calls += 1;
+        let honest = &self.honest[&number];
+        if !honest.opened {
+            return Ok(());
+        }
+        let (mut named, mut in_force) = ([UNWRITTEN; SET_WORDS], [UNWRITTEN; SET_WORDS]);
+        let answer = self.engine.report(&honest.state, &mut named, &mut in_force);
+        let wrong = Violation::Answer { at: number, call: "report", answer };
+        let report = unpack_report(answer).ok_or(wrong.clone())?;
+        let shown = Shown {
+            exit: report.exit,
+            named: written(&named, report.named).ok_or(wrong.clone())?,
+            in_force: written(&in_force, report.in_force).ok_or(wrong.clone())?,
+        };
+        let exit_fits = report.exit <= 3 && (report.exit == 0) == shown.named.is_none();
+        if !exit_fits || honest.closed != shown.in_force.is_some() {
+            return Err(wrong);
+        }
+        if report.turns != honest.taken || honest.taken > self.plan.settings.turn_limit() {
+            let (taken, reported) = (honest.taken, report.turns);
+            return Err(Violation::Turns { at: number, taken, reported });
+        }
+        self.statistics.note(number, &shown);
+        self.claim.check(number, &shown)
+    }
+
+    /// Lends too little, delivers broken bytes, or opens with settings that are refused.
+    fn make_refused_call(&mut self) -> Result<(), Violation> {
+        let numbers: Vec<Number> = self.honest.keys().copied().collect();
+        if numbers.is_empty() {
+            return Ok(());
+        }
+        let number = self.random.pick(&numbers);
+        let link = u64::from(self.random.pick(&numbers));
+        let mut message = vec![1, 1, link as u8, link as u8, 0, 1, 0, 0];
+        message.extend(self.plan.session.to_be_bytes());
+        message.extend([0; 8]);
+        let choice = self.random.below(8);
+        let state = &mut self.honest.get_mut(&number).expect("an honest number").state;
+        let refused_opening = Opening { ts: 100, ..self.plan.opening(number, 0) };
+        let answer = match choice {
+            0 => self.engine.turn(state, &mut [0; LONGEST - 1]),
+            1 => self.engine.report(state, &mut [0; SET_WORDS], &mut [0; SET_WORDS - 1]),
+            2 => self.engine.deliver(state, link, &message[..11]),
+            3 => self.engine.deliver(state, link + 256, &message),
+            4 => self.engine.open(state, &refused_opening),
+            place => {
+                message[[0, 6, 8][place as usize - 5]] ^= 0x80;
+                self.engine.deliver(state, link, &message)
+            }
+        };
+        if refusal(answer).is_none() || answer > 0xff {
+            return Err(Violation::Answer { at: number, call: "refused call", answer });
+        }
+        self.check(number)
+    }
+
+    /// What all liars send ahead of everything else.
+    fn send_script(&mut self) {
+        let plan = self.plan;
+        for (lie, &liar) in
+            plan.script.lies.iter().flat_map(|lie| plan.liars.iter().map(move |liar| (lie, liar)))
+        {
+            let message: Rc<[u8]> = lie.message.to_bytes(liar, plan.session).into();
+            let in_group = |number: &&Number| plan.groups[number] == lie.group;
+            for &number in plan.inputs.keys().filter(in_group) {
+                for _ in 0..lie.times {
+                    self.send(Receiver::Honest(number), liar, &message, 0);
+                }
+            }
+        }
+    }
+
+    /// A face turns until idle. It talks to the honest ones of its group and to the faces of its group.
+    fn act_as_face(&mut self, face: usize) {
+        let plan = self.plan;
+        for message in self.faces[face].act() {
+            let message: Rc<[u8]> = message.into();
+            let Face { liar, group, .. } = self.faces[face];
+            for &number in plan.inputs.keys() {
+                if self.faces[face].talks_to(plan.groups[&number]) {
+                    let delay = plan.delay(&mut self.random, &message, number);
+                    self.send(Receiver::Honest(number), liar, &message, delay);
+                }
+            }
+            for other in 0..self.faces.len() {
+                if self.faces[other].group == group {
+                    self.send(Receiver::Face(other), liar, &message, 0);
+                }
+            }
+        }
+    }
+}
+
+/// A set that was written to lent words; `None` if it does not rise or more was written.
+fn written(words: &[u64], count: usize) -> Option<Option<PackSet>> {
+    let (values, rest) = words.split_at_checked(count)?;
+    let rises = values.windows(2).all(|pair| pair[0] < pair[1]);
+    let untouched = rest.iter().all(|&word| word == UNWRITTEN);
+    let set = || values.iter().copied().collect();
+    (rises && untouched).then(|| (count > 0).then(set))
+}

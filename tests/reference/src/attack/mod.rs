@@ -1,0 +1,103 @@
+//! Whole feeders under attack: every call is followed by a check of demand 3.
+
+mod calls;
+mod claim;
+mod face;
+mod feeder;
+mod pick;
+mod plan;
+mod random;
+mod script;
+
+use std::collections::BTreeSet;
+use std::fmt;
+
+pub use calls::{random_calls, Answers};
+pub use claim::{Claim, Shown, Violation};
+pub use plan::Plan;
+
+use crate::engine::Engine;
+use crate::settings::Number;
+use feeder::Feeder;
+use random::Random;
+
+/// What was seen, to show that the feeders get anywhere.
+#[derive(Clone, Debug, Default)]
+pub struct Statistics {
+    pub calls: u64,
+    pub feeders: u64,
+    /// Feeders in which an honest one showed exit 0, 1, 2, 3.
+    pub exits: [u64; 4],
+    /// Feeders in which an honest one closed.
+    pub closed: u64,
+    seen: BTreeSet<u8>,
+    closed_here: BTreeSet<Number>,
+}
+
+impl Statistics {
+    fn note(&mut self, number: Number, shown: &Shown) {
+        self.seen.insert(shown.exit);
+        if shown.in_force.is_some() {
+            self.closed_here.insert(number);
+        }
+    }
+
+    fn add_feeder(&mut self, other: &Statistics) {
+        self.calls += other.calls;
+        self.feeders += 1;
+        for &exit in &other.seen {
+            self.exits[usize::from(exit)] += 1;
+        }
+        self.closed += u64::from(!other.closed_here.is_empty());
+    }
+}
+
+impl fmt::Display for Statistics {
+    fn fmt(&self, f: &mut fmt::Formatter<'_>) -> fmt::Result {
+        let [_, one, two, three] = self.exits;
+        write!(
+            f,
+            "{} feeders, {} calls; exit 1 seen in {one}, exit 2 in {two}, exit 3 in {three}, closed in {}",
+            self.feeders, self.calls, self.closed
+        )
+    }
+}
+
+/// A feeder in which demand 3 was broken.
+#[derive(Clone, Debug)]
+pub struct Finding {
+    /// From 1.
+    pub feeder: u64,
+    /// [`run_feeder`] with this seed runs the feeder again.
+    pub seed: u64,
+    pub violation: Violation,
+}
+
+impl fmt::Display for Finding {
+    fn fmt(&self, f: &mut fmt::Formatter<'_>) -> fmt::Result {
+        write!(f, "feeder {} (seed {:#018x}): {}", self.feeder, self.seed, self.violation)
+    }
+}
+
+/// Runs the feeder of one seed.
+pub fn run_feeder<E: Engine>(engine: &E, seed: u64) -> (Statistics, Result<(), Violation>) {
+    let plan = Plan::new(seed);
+    let mut feeder = Feeder::new(engine, &plan, !seed);
+    let result = feeder.run();
+    (feeder.statistics, result)
+}
+
+/// Runs so many feeders, or up to the first in which demand 3 is broken.
+pub fn attack<E: Engine>(engine: &E, seed: u64, feeders: u64) -> (Statistics, Option<Finding>) {
+    let mut random = Random::new(seed);
+    let mut total = Statistics::default();
+    for feeder in 1..=feeders {
+        let seed = random.word();
+        let (statistics, result) = run_feeder(engine, seed);
+        total.add_feeder(&statistics);
+        if let Err(violation) = result {
+            return (total, Some(Finding { feeder, seed, violation }));
+        }
+    }
+    (total, None)
+}

@@ -1,0 +1,211 @@
+//! The random choices of a plan.
+
+use std::collections::{BTreeMap, BTreeSet};
+
+use super::plan::{Aim, Faces, Group, Hold, Opened, Pace};
+use super::random::Random;
+use super::script::Script;
+use crate::settings::{Number, Settings};
+
+/// The most concentrators of a feeder in the attack, and the number of packs.
+const MOST: usize = 7;
+/// A delay that lasts until nothing else is on its way.
+const WHOLE_SESSION: u64 = 1_000_000;
+
+pub fn aim(random: &mut Random) -> Aim {
+    match random.below(10) {
+        0..=2 => Aim::Agreement,
+        3 | 4 => Aim::EqualPacks,
+        5 | 6 => Aim::BlockedBroadcast,
+        7 => Aim::SplitVote,
+        _ => Aim::SplitStart,
+    }
+}
+
+/// Any valid settings with n up to 7 that suit the aim.
+pub fn settings(random: &mut Random, aim: Aim) -> Settings {
+    let suits = |settings: &Settings| match aim {
+        Aim::Agreement => true,
+        Aim::EqualPacks => settings.ts() > 0,
+        // With ta = 0 no vote can start with 0, and the first half has no liars.
+        Aim::BlockedBroadcast | Aim::SplitVote | Aim::SplitStart => settings.ta() > 0,
+    };
+    let all: Vec<Settings> = (1..=MOST as u64)
+        .flat_map(|n| (0..n).flat_map(move |ts| (0..=ts).map(move |ta| (n, ta, ts))))
+        .filter_map(|(n, ta, ts)| Settings::new(n, ta, ts).ok())
+        .filter(suits)
+        .collect();
+    random.pick(&all)
+}
+
+pub fn ta_given(random: &mut Random, settings: &Settings) -> u64 {
+    if settings.ta() == 0 && random.once_in(4) {
+        Settings::UNNAMED
+    } else {
+        u64::from(settings.ta())
+    }
+}
+
+/// Mostly as many as there may be.
+pub fn liars(random: &mut Random, settings: &Settings, aim: Aim) -> BTreeSet<Number> {
+    let most = if aim == Aim::EqualPacks { settings.ts() } else { settings.ta() };
+    let fewer = if random.once_in(4) { random.below(u64::from(most) + 1) } else { 0 };
+    let count = usize::from(most) - fewer as usize;
+    random.some(settings.numbers().collect(), count).into_iter().collect()
+}
+
+/// Seven different packs.
+pub fn packs(random: &mut Random) -> Vec<u64> {
+    let first = random.pick(&[0, 5, u64::MAX - MOST as u64]);
+    random.some((first..first + MOST as u64).collect(), MOST)
+}
+
+/// One of the first packs for each, in turn or at random.
+pub fn inputs(
+    random: &mut Random,
+    honest: &[Number],
+    packs: &[u64],
+    aim: Aim,
+) -> BTreeMap<Number, u64> {
+    let kinds = match aim {
+        Aim::Agreement => random.pick(&[1, 2, 2, 2, 3, MOST]),
+        Aim::EqualPacks => 1,
+        Aim::BlockedBroadcast => 2,
+        Aim::SplitVote | Aim::SplitStart => MOST,
+    };
+    let in_turn = kinds == MOST || random.once_in(2);
+    let shuffled = random.some(honest.to_vec(), honest.len());
+    let mut input = |place: usize| {
+        packs[if in_turn { place % kinds } else { random.below(kinds as u64) as usize }]
+    };
+    shuffled.into_iter().enumerate().map(|(place, number)| (number, input(place))).collect()
+}
+
+pub fn groups(random: &mut Random, settings: &Settings) -> BTreeMap<Number, Group> {
+    let share = random.pick(&[2, 2, 4]);
+    let mut group = || if random.once_in(share) { Group::B } else { Group::A };
+    settings.numbers().map(|number| (number, group())).collect()
+}
+
+/// Random words, or words with more ones, at times with 1 in round 1.
+pub fn coins(random: &mut Random, settings: &Settings) -> Vec<u32> {
+    let more_ones = random.once_in(2);
+    let first_one = random.once_in(2);
+    let mut word = || {
+        let extra = if more_ones { random.word() } else { 0 };
+        (random.word() | extra) as u32 | u32::from(first_one)
+    };
+    settings.numbers().map(|_| word()).collect()
+}
+
+pub fn opened(random: &mut Random) -> Opened {
+    match random.below(40) {
+        0 => Opened::Never,
+        1 | 2 => Opened::At(random.below(300)),
+        _ => Opened::At(0),
+    }
+}
+
+/// The first packs are those that honest ones put in.
+pub fn faces(random: &mut Random, packs: &[u64]) -> Faces {
+    let known = random.pick(&packs[..2]);
+    let any = random.pick(packs);
+    match random.below(5) {
+        0 => Faces::None,
+        1 => Faces::One(known),
+        2 => Faces::One(any),
+        _ => Faces::Two(known, any),
+    }
+}
+
+pub fn script(
+    random: &mut Random,
+    settings: &Settings,
+    coins: &[u32],
+    packs: &[u64],
+    aim: Aim,
+    target: Number,
+) -> Script {
+    let mut script = Script::default();
+    let coins_of = |vote: Number| coins[usize::from(vote) - 1];
+    let flood_in = match aim {
+        Aim::SplitVote => {
+            script.add_split(target, coins_of(target));
+            return script;
+        }
+        Aim::SplitStart => {
+            script.add_fight(random, target);
+            return script;
+        }
+        Aim::EqualPacks => 2,
+        Aim::Agreement | Aim::BlockedBroadcast => 5,
+    };
+    if random.once_in(flood_in) {
+        let instances = some_numbers(random, settings);
+        script.add_flood(random, settings, &instances, packs);
+    }
+    if random.once_in(2) {
+        for vote in some_numbers(random, settings) {
+            match random.below(2) {
+                0 => script.add_split(vote, coins_of(vote)),
+                _ => script.add_fight(random, vote),
+            }
+        }
+    }
+    script
+}
+
+/// One number, some, or all.
+fn some_numbers(random: &mut Random, settings: &Settings) -> Vec<Number> {
+    let all: Vec<Number> = settings.numbers().collect();
+    let count = random.pick(&[1, 1, 2, all.len(), all.len()]);
+    random.some(all, count)
+}
+
+/// The instance that an aim is about.
+pub fn target(random: &mut Random, settings: &Settings) -> Number {
+    random.pick(&settings.numbers().collect::<Vec<Number>>())
+}
+
+pub fn pace(random: &mut Random, settings: &Settings, aim: Aim, target: Number) -> Pace {
+    Pace {
+        holds: holds(random, settings, aim, target),
+        jitter: random.pick(&[1, 1, 5, 30, 200]),
+        laziness: random.pick(&[1, 1, 2, 5]),
+        refused_calls: random.pick(&[20, 200]),
+        call_limit: random.pick(&[3_000, 6_000, 12_000]),
+    }
+}
+
+/// COMMITs for a long time, and what else the aim asks for.
+fn holds(random: &mut Random, settings: &Settings, aim: Aim, target: Number) -> Vec<Hold> {
+    let delay = random.pick(&[500, 5_000, WHOLE_SESSION]);
+    let mut holds = vec![Hold { kinds: (6, 6), delay, ..Hold::default() }];
+    let numbers: Vec<Number> = settings.numbers().collect();
+    let readies =
+        Hold { kinds: (3, 3), instance: Some(target), delay: WHOLE_SESSION, ..Hold::default() };
+    match aim {
+        Aim::SplitVote => {}
+        Aim::SplitStart => holds.push(Hold { to_group: Some(Group::B), ..readies }),
+        Aim::BlockedBroadcast => {
+            holds.push(Hold { to_one: Some(random.pick(&numbers)), ..readies });
+        }
+        Aim::Agreement | Aim::EqualPacks => {
+            if random.once_in(4) {
+                holds.clear();
+            }
+            holds.extend((0..random.below(3)).map(|_| hold(random, &numbers)));
+        }
+    }
+    holds
+}
+
+/// A broadcast, its READYs, a vote or everything, to one concentrator, one group or all.
+fn hold(random: &mut Random, numbers: &[Number]) -> Hold {
+    let kinds = random.pick(&[(1, 1), (1, 3), (3, 3), (3, 3), (4, 5), (1, 5)]);
+    let instance = (!random.once_in(4)).then_some(random.pick(numbers));
+    let to_one = (!random.once_in(3)).then_some(random.pick(numbers));
+    let to_group = (to_one.is_none() && random.once_in(2)).then_some(Group::B);
+    let delay = random.pick(&[100, 1_000, 10_000, WHOLE_SESSION]);
+    Hold { kinds, instance, to_group, to_one, delay }
+}

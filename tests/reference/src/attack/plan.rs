@@ -1,0 +1,167 @@
+//! The plan of one feeder: settings, liars, inputs, coins, and the order of calls.
+
+use std::collections::{BTreeMap, BTreeSet};
+
+use super::pick;
+use super::random::Random;
+use super::script::Script;
+use crate::session::Opening;
+use crate::settings::{Number, Settings};
+
+/// What a plan is drawn up for.
+#[derive(Clone, Copy, Debug, PartialEq, Eq)]
+pub enum Aim {
+    /// The first half of demand 3: at most ta lie.
+    Agreement,
+    /// The second half: up to ts lie, and all others put in one pack.
+    EqualPacks,
+    /// First half; two packs, and one broadcast's READYs kept from one concentrator for the whole session.
+    BlockedBroadcast,
+    /// First half; all packs different, and AUXs against one vote.
+    SplitVote,
+    /// First half; all packs different, one broadcast's READYs kept from one group, and its vote fought over.
+    SplitStart,
+}
+
+/// Liars can treat the honest ones of the two groups differently.
+#[derive(Clone, Copy, Debug, PartialEq, Eq)]
+pub enum Group {
+    A,
+    B,
+}
+
+/// What the liars run besides their script.
+#[derive(Clone, Copy, Debug, PartialEq, Eq)]
+pub enum Faces {
+    /// Nothing.
+    None,
+    /// An engine of the rules, with this input.
+    One(u64),
+    /// Two engines of the rules with inputs of their own: one talks to group A, the other to group B.
+    Two(u64, u64),
+}
+
+/// When an honest one is opened, in steps of the feeder.
+#[derive(Clone, Copy, Debug, PartialEq, Eq)]
+pub enum Opened {
+    At(u64),
+    Never,
+}
+
+/// Messages that are held back: those that fit all that is named.
+#[derive(Clone, Copy, Debug, Default)]
+pub struct Hold {
+    /// The lowest and the highest kind.
+    pub kinds: (u8, u8),
+    pub instance: Option<Number>,
+    pub to_group: Option<Group>,
+    pub to_one: Option<Number>,
+    pub delay: u64,
+}
+
+impl Hold {
+    fn covers(&self, message: &[u8], to: Number, group: Group) -> bool {
+        let (first, last) = self.kinds;
+        (first..=last).contains(&message[1])
+            && self.instance.is_none_or(|instance| message[3] == instance)
+            && self.to_group.is_none_or(|held| held == group)
+            && self.to_one.is_none_or(|held| held == to)
+    }
+}
+
+/// How calls follow each other.
+#[derive(Clone, Debug)]
+pub struct Pace {
+    pub holds: Vec<Hold>,
+    /// The most steps that an ordinary message takes.
+    pub jitter: u64,
+    /// A concentrator turns until idle once in so many deliveries to it.
+    pub laziness: u64,
+    /// Once in so many steps there is a call that must be refused.
+    pub refused_calls: u64,
+    pub call_limit: u64,
+}
+
+#[derive(Clone, Debug)]
+pub struct Plan {
+    pub settings: Settings,
+    /// ta as it is given: 255 at times, if it is 0.
+    ta_given: u64,
+    pub session: u32,
+    coins: Vec<u32>,
+    /// Of the honest ones.
+    pub inputs: BTreeMap<Number, u64>,
+    pub openings: BTreeMap<Number, Opened>,
+    /// The buffers served another session before.
+    pub used_before: bool,
+    pub liars: BTreeSet<Number>,
+    pub groups: BTreeMap<Number, Group>,
+    pub faces: Faces,
+    pub script: Script,
+    pub pace: Pace,
+}
+
+impl Plan {
+    pub fn new(seed: u64) -> Plan {
+        let random = &mut Random::new(seed);
+        let aim = pick::aim(random);
+        let settings = pick::settings(random, aim);
+        let liars = pick::liars(random, &settings, aim);
+        let honest: Vec<Number> =
+            settings.numbers().filter(|number| !liars.contains(number)).collect();
+        let packs = pick::packs(random);
+        let coins = pick::coins(random, &settings);
+        let target = pick::target(random, &settings);
+        Plan {
+            settings,
+            ta_given: pick::ta_given(random, &settings),
+            session: random.word() as u32,
+            inputs: pick::inputs(random, &honest, &packs, aim),
+            openings: honest.iter().map(|&number| (number, pick::opened(random))).collect(),
+            used_before: random.once_in(4),
+            liars,
+            groups: pick::groups(random, &settings),
+            faces: pick::faces(random, &packs),
+            script: pick::script(random, &settings, &coins, &packs, aim, target),
+            pace: pick::pace(random, &settings, aim, target),
+            coins,
+        }
+    }
+
+    /// The opening of one concentrator, honest or not.
+    pub fn opening(&self, own: Number, input: u64) -> Opening<'_> {
+        Opening {
+            n: u64::from(self.settings.n()),
+            ta: self.ta_given,
+            ts: u64::from(self.settings.ts()),
+            own: u64::from(own),
+            session: self.session,
+            input,
+            coins: &self.coins,
+        }
+    }
+
+    /// The steps that a message takes on its way.
+    pub fn delay(&self, random: &mut Random, message: &[u8], to: Number) -> u64 {
+        let covers = |hold: &&Hold| hold.covers(message, to, self.groups[&to]);
+        let held = self.pace.holds.iter().filter(covers).map(|hold| hold.delay).max();
+        random.below(self.pace.jitter) + held.unwrap_or(0)
+    }
+
+    /// The first half of demand 3 is owed.
+    pub fn owes_agreement(&self) -> bool {
+        self.liars.len() <= usize::from(self.settings.ta())
+    }
+
+    /// If the second half of demand 3 is owed: the pack that every honest one that is opened puts in.
+    pub fn owed_pack(&self) -> Option<u64> {
+        if self.liars.len() > usize::from(self.settings.ts()) {
+            return None;
+        }
+        let is_opened = |number: &Number| self.openings[number] != Opened::Never;
+        let mut packs =
+            self.inputs.iter().filter(|(number, _)| is_opened(number)).map(|(_, &pack)| pack);
+        let first = packs.next()?;
+        packs.all(|pack| pack == first).then_some(first)
+    }
+}

@@ -1,0 +1,45 @@
+//! 01, "Faults seen in code of this trade": built in on request, so that a test can show that it finds them.
+
+/// A fault that a session is opened with. Everything but a test takes `None`.
+#[derive(Clone, Copy, Debug, Default, PartialEq, Eq)]
+pub enum Fault {
+    #[default]
+    None,
+    /// Exit 2 with a vote open.
+    OpenVote,
+    /// ta where ts belongs.
+    TaForTs,
+    /// Half of S taken as a majority.
+    HalfIsMajority,
+    /// Two ECHOs of one liar counted as two senders.
+    RepeatedEcho,
+    /// AUXs counted whose value is not accepted.
+    UnacceptedAux,
+}
+
+impl Fault {
+    pub const ALL: [Fault; 6] = [
+        Fault::None,
+        Fault::OpenVote,
+        Fault::TaForTs,
+        Fault::HalfIsMajority,
+        Fault::RepeatedEcho,
+        Fault::UnacceptedAux,
+    ];
+
+    /// The name taken on a command line.
+    pub fn name(self) -> &'static str {
+        match self {
+            Fault::None => "none",
+            Fault::OpenVote => "open-vote",
+            Fault::TaForTs => "ta-for-ts",
+            Fault::HalfIsMajority => "half-is-majority",
+            Fault::RepeatedEcho => "repeated-echo",
+            Fault::UnacceptedAux => "unaccepted-aux",
+        }
+    }
+
+    pub fn from_name(name: &str) -> Option<Fault> {
+        Fault::ALL.into_iter().find(|fault| fault.name() == name)
+    }
+}

@@ -1,0 +1,28 @@
+//! A second, independent implementation of the pack agreement engine (document 01), as a check on the proved one.
+//! Each module follows one section of document 01.
+
+pub mod attack;
+mod broadcasts;
+#[cfg(feature = "c-engine")]
+pub mod c_engine;
+mod commits;
+pub mod drill;
+pub mod engine;
+pub mod exits;
+mod fault;
+pub mod message;
+pub mod packing;
+pub mod records;
+mod refusal;
+mod report;
+mod session;
+mod settings;
+mod votes;
+
+pub use exits::Exit;
+pub use fault::Fault;
+pub use message::{Message, PackSet};
+pub use refusal::Refusal;
+pub use report::{Report, SET_WORDS};
+pub use session::{Opening, Outcome, Session};
+pub use settings::{Number, Round, Settings};

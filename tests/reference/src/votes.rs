@@ -1,0 +1,176 @@
+//! 01, rule 6: the votes.
+
+use std::collections::{BTreeMap, BTreeSet};
+
+use crate::exits::Exit;
+use crate::fault::Fault;
+use crate::message::Message;
+use crate::session::{Outcome, Session};
+use crate::settings::{Number, Round, Settings};
+
+/// The own part in one vote.
+#[derive(Clone, Debug, Default)]
+pub struct Vote {
+    /// 0 before the start, 33 after the move out of round 32.
+    round: Round,
+    /// The AUX of the current round is sent.
+    aux_sent: bool,
+    ests_sent: BTreeSet<(Round, bool)>,
+    decision: Option<bool>,
+}
+
+impl Vote {
+    /// The current round, if it is one in which the vote sends.
+    fn open_round(&self) -> Option<Round> {
+        (1..=Settings::ROUND_LIMIT).contains(&self.round).then_some(self.round)
+    }
+}
+
+impl Session {
+    /// Rule 6: "Votes, unless Exit 1 holds."
+    pub(crate) fn act_in_votes(&mut self) -> Option<Outcome> {
+        if matches!(self.exit(), Exit::One(_)) {
+            return None;
+        }
+        self.settings.numbers().find_map(|instance| self.act_in_vote(instance))
+    }
+
+    /// "In each vote: start; then relay; then AUX; then move."
+    fn act_in_vote(&mut self, instance: Number) -> Option<Outcome> {
+        self.start(instance)
+            .or_else(|| self.send_relay(instance))
+            .or_else(|| self.send_aux(instance))
+            .map(Outcome::Sent)
+            .or_else(|| self.move_on(instance))
+    }
+
+    /// With 1 if the broadcast has output, else with 0 once s ≥ n−ta.
+    fn start(&mut self, instance: Number) -> Option<Message> {
+        if self.vote(instance).round != 0 {
+            return None;
+        }
+        let value = self.output(instance).is_some();
+        if value || self.decided_one() >= self.settings.vote_quorum() {
+            Some(self.enter(instance, 1, value))
+        } else {
+            None
+        }
+    }
+
+    /// Enters a round and sends its EST.
+    fn enter(&mut self, instance: Number, round: Round, value: bool) -> Message {
+        let vote = self.vote_mut(instance);
+        vote.round = round;
+        vote.aux_sent = false;
+        vote.ests_sent.insert((round, value));
+        Message::Est { instance, round, value }
+    }
+
+    /// A value not yet sent as EST and held from ta+1 senders, lowest round first, 0 before 1.
+    fn send_relay(&mut self, instance: Number) -> Option<Message> {
+        let vote = self.vote(instance);
+        let last = vote.round.min(Settings::ROUND_LIMIT);
+        let (round, value) = (1..=last)
+            .flat_map(|round| [(round, false), (round, true)])
+            .filter(|place| !vote.ests_sent.contains(place))
+            .find(|&(round, value)| {
+                self.records.est_count(instance, round, value) >= self.settings.vote_relay()
+            })?;
+        self.vote_mut(instance).ests_sent.insert((round, value));
+        Some(Message::Est { instance, round, value })
+    }
+
+    /// "AUX, once a round: when a value is accepted in the current round, send 0 if 0 is accepted, else 1."
+    fn send_aux(&mut self, instance: Number) -> Option<Message> {
+        let round = self.vote(instance).open_round()?;
+        if self.vote(instance).aux_sent {
+            return None;
+        }
+        let value =
+            [false, true].into_iter().find(|&value| self.is_accepted(instance, round, value))?;
+        self.vote_mut(instance).aux_sent = true;
+        Some(Message::Aux { instance, round, value })
+    }
+
+    /// "Move, after the own AUX: when at least n−ta held AUXs carry accepted values."
+    fn move_on(&mut self, instance: Number) -> Option<Outcome> {
+        let round = self.vote(instance).open_round()?;
+        if !self.vote(instance).aux_sent {
+            return None;
+        }
+        let carried = self.carried(instance, round);
+        if carried.len() < self.settings.vote_quorum() {
+            return None;
+        }
+        let coin = self.coin(instance, round);
+        let estimate = match only_value(&carried) {
+            Some(value) => {
+                self.decide(instance, value, coin);
+                value
+            }
+            None => coin,
+        };
+        Some(self.enter_next(instance, round, estimate))
+    }
+
+    /// The accepted values that the AUXs of the round carry, one for each AUX.
+    fn carried(&self, instance: Number, round: Round) -> Vec<bool> {
+        self.records
+            .auxes(instance, round)
+            .filter(|&value| {
+                self.fault == Fault::UnacceptedAux || self.is_accepted(instance, round, value)
+            })
+            .collect()
+    }
+
+    /// "vote i is decided b if b equals the coin and no decision stands".
+    fn decide(&mut self, instance: Number, value: bool, coin: bool) {
+        if value == coin {
+            self.vote_mut(instance).decision.get_or_insert(value);
+        }
+    }
+
+    /// "Moving enters the next round and sends its EST. Moving out of round 32 sends nothing."
+    fn enter_next(&mut self, instance: Number, round: Round, estimate: bool) -> Outcome {
+        if round < Settings::ROUND_LIMIT {
+            return Outcome::Sent(self.enter(instance, round + 1, estimate));
+        }
+        self.vote_mut(instance).round = round + 1;
+        Outcome::MovedOut
+    }
+
+    /// "A value is accepted in a round when 2·ta+1 senders' ESTs hold it."
+    fn is_accepted(&self, instance: Number, round: Round, value: bool) -> bool {
+        self.records.est_count(instance, round, value) >= self.settings.vote_accept()
+    }
+
+    /// "Bit r−1 of word i, lowest bit 0, is the coin of vote i in round r."
+    fn coin(&self, instance: Number, round: Round) -> bool {
+        let word = self.coins[usize::from(instance) - 1];
+        word >> (round - 1) & 1 == 1
+    }
+
+    /// s: "counts votes decided 1".
+    fn decided_one(&self) -> usize {
+        self.votes.values().filter(|vote| vote.decision == Some(true)).count()
+    }
+
+    /// The decisions there are, by instance.
+    pub(crate) fn decisions(&self) -> BTreeMap<Number, bool> {
+        self.votes.iter().filter_map(|(&instance, vote)| Some((instance, vote.decision?))).collect()
+    }
+
+    fn vote(&self, instance: Number) -> &Vote {
+        &self.votes[&instance]
+    }
+
+    fn vote_mut(&mut self, instance: Number) -> &mut Vote {
+        self.votes.get_mut(&instance).expect("a vote for each number from 1 to n")
+    }
+}
+
+/// The one value that all carry, if they carry just one.
+fn only_value(carried: &[bool]) -> Option<bool> {
+    let first = *carried.first()?;
+    carried.iter().all(|&value| value == first).then_some(first)
+}
