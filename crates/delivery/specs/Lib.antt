@@ -1,3 +1,4 @@
 pub mod Delivery
 pub mod Cases
 pub mod Accepting
+pub mod Frame
