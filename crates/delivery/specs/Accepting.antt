@@ -1,24 +1,21 @@
 -- What an accepted delivery tells, and the cases of the call.
 use Prim.Native.Nat.{ℕ, _-_, _≤_, _<_}
-use mathlib.Core.Bool.{Bool, true, false, _&&_, cond}
+use mathlib.Core.Bool.{Bool, true, false, cond}
 use mathlib.Core.List.{List}
 use mathlib.Core.Path.{_≡_, refl, sym, ap, _∙_}
 use native.Mathlib.Omega.{arith}
 use lib.ListN.{length, take, drop, length-drop}
 use lib.Seq.{take-all}
-use lib.Dec.{eqb, leb}
 use mir.Val.{Fits}
 use mir.Syntax.{w8}
-use borrow.Author.Tests.{leb-true, eqb-true}
-use Rattle.settings.specs.Bools.{and-left, and-right}
 use Rattle.records.specs.Records.{closed}
 use Rattle.session.specs.Session.{stored, settingsOf, sessionWith, sessionOf}
 use Rattle.session.specs.Laws.{State, Read, held-read}
 use Rattle.session.specs.declared.Session.{Session}
 use Rattle.session.specs.declared.Stored.{Stored}
 use Rattle.session.specs.declared.Stored.the-variants.{NoState, Held}
-use Rattle.wire.specs.Reading.{within, lengthRight, headerOf, kindKnown, senderRight, fieldsRight, readValues, readChecked, readMessage}
-use Rattle.wire.specs.declared.Header.{Header}
+use Rattle.wire.specs.Reading.{readMessage}
+use Rattle.wire_laws.proofs.Converse.{Passed, taken-passed}
 use Rattle.wire.specs.declared.Message.{Message}
 use Rattle.wire.specs.declared.Parsed.{Parsed}
 use Rattle.wire.specs.declared.Parsed.the-variants as parsed
@@ -26,38 +23,9 @@ use Rattle.delivery.specs.Delivery.{placeHeld, judged, verdictIn, verdic
 use Rattle.delivery.specs.declared.Verdict.{Verdict}
 use Rattle.delivery.specs.declared.Verdict.the-variants.{Refused, Accepted}
 
--- a chain of refusals takes a message only where each test passes
-parsed-passed : (b : Bool) (y : Parsed) (k : ℕ) (m : Message) → cond b y (parsed.Refused k) ≡ parsed.Taken m → (b ≡ true) × (y ≡ parsed.Taken m)
-parsed-passed true y k m e = (refl, e)
-parsed-passed false y k m e = absurd (let z : _≡_ {A = ℕ} 0 1 = cc in omega arith)
-
--- the bytes of a message that is taken
-pub record Taken (n session link : ℕ) (b : List ℕ) (m : Message) : Type 0 where
-  pub long : 12 ≤ length b
-  pub link-low : 1 ≤ link
-  pub link-high : link ≤ n
-  pub values : readValues (headerOf b) (drop 12 b) ≡ parsed.Taken m
-
-pub read-taken : (n session link : ℕ) (b : List ℕ) (m : Message) → readMessage n session link b ≡ parsed.Taken m → Taken n session link b m
-unfolding readMessage readChecked lengthRight
-read-taken n session link b m e =
-    let h : Header = headerOf b in
-    let l = parsed-passed (lengthRight b) (readChecked n session link h (drop 12 b)) _ m e in
-    let k = parsed-passed (kindKnown (h .version) (h .kind)) _ _ m (l .1) in
-    let t = parsed-passed (eqb (h .session) session) _ _ m (k .1) in
-    let s = parsed-passed (senderRight n link (h .sender)) _ _ m (t .1) in
-    let f = parsed-passed (fieldsRight n h) (readValues h (drop 12 b)) _ m (s .1) in
-    let r = and-right (eqb (h .sender) link) (within 1 n link) (s .0) in
-    record {
-      long = leb-true 12 (length b) (and-left (leb 12 (length b)) _ (l .0));
-      link-low = leb-true 1 link (and-left (leb 1 link) (leb link n) r);
-      link-high = leb-true link n (and-right (leb 1 link) (leb link n) r);
-      values = f .1;
-    }
-
 pub link-fits : (n session link : ℕ) (b : List ℕ) (y : Parsed) (m : Message) → y ≡ readMessage n session link b → y ≡ parsed.Taken m → n < 256 → Fits w8 link
 link-fits n session link b y m e t h =
-    let l : link ≤ n = read-taken n session link b m (sym e ∙ t) .link-high in
+    let l : link ≤ n = taken-passed n session link b m (sym e ∙ t) .link-high in
     record { fits = omega arith }
 
 pub record Accepting (s : List ℕ) (link : ℕ) (b : List ℕ) (m : Message) : Type 0 where
@@ -95,8 +63,8 @@ accepting s link b m e = of (stored s) refl e
 
 module _ (s : List ℕ) (link : ℕ) (b : List ℕ) (v : Verdict) (e : v ≡ verdict s link b) where
   module _ (m : Message) (t : v ≡ Accepted m) where
-    told : Taken (sessionOf s .settings .n) (sessionOf s .number) link b m
-    told = read-taken _ _ link b m (accepting s link b m (sym e ∙ t) .taken)
+    told : Passed (sessionOf s .settings .n) (sessionOf s .number) link b m
+    told = taken-passed _ _ link b m (accepting s link b m (sym e ∙ t) .taken)
 
     few : (sessionOf s .settings .n) ≤ 16
     unfolding sessionOf sessionWith

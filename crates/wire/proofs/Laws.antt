@@ -18,15 +18,6 @@ use Rattle.wire.specs.declared.Message.{Message}
 use Rattle.wire.specs.declared.Message.the-variants.{Send, Echo, Ready, Est, Aux, Commit}
 use Rattle.wire.specs.declared.Header.{Header}
 
--- a conjunction's parts
-pub and-left : (a b : Bool) → (a && b) ≡ true → a ≡ true
-and-left true b e = refl
-and-left false b e = e
-
-pub and-right : (a b : Bool) → (a && b) ≡ true → b ≡ true
-and-right true b e = e
-and-right false b e = absurd (false≢true e)
-
 -- one of six by the kind, for each kind
 module _ {A : Type 0} (k : ℕ) (a b c d e f : A) where
   pub by-send : k ≡ SEND → byKind k a b c d e f ≡ a
