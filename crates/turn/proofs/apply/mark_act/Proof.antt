@@ -1,0 +1,206 @@
+-- The marks of each act.
+use Rattle.turn.specs.Applying.{mark-cases}
+use borrow.Author.Needs.{needs}
+use Rattle.turn.proofs.apply.mark_act.Statement.{statement}
+use Rattle.turn.proofs.apply.mark_act.Tie as tie
+
+enum-told : tie.Need-enum-told
+enum-told c = search needs
+
+enum-told-2 : tie.Need-enum-told-2
+enum-told-2 c = search needs
+
+set-mark-requires : tie.Need-set-mark-requires
+set-mark-requires c κs = search needs
+
+enum-told-3 : tie.Need-enum-told-3
+enum-told-3 c = search needs
+
+set-mark-requires-2 : tie.Need-set-mark-requires-2
+set-mark-requires-2 c κs = search needs
+
+enum-told-4 : tie.Need-enum-told-4
+enum-told-4 c = search needs
+
+set-mark-requires-3 : tie.Need-set-mark-requires-3
+set-mark-requires-3 c κs = search needs
+
+enum-known-a : tie.Need-enum-known-a
+enum-known-a c = search needs
+
+cast-set-mark : tie.Need-cast-set-mark
+cast-set-mark c = search needs
+
+set-mark-requires-4 : tie.Need-set-mark-requires-4
+set-mark-requires-4 c κs = search needs
+
+enum-known-a-2 : tie.Need-enum-known-a-2
+enum-known-a-2 c = search needs
+
+cast-set-mark-2 : tie.Need-cast-set-mark-2
+cast-set-mark-2 c = search needs
+
+set-mark-requires-5 : tie.Need-set-mark-requires-5
+set-mark-requires-5 c κs = search needs
+
+enum-known-a-3 : tie.Need-enum-known-a-3
+enum-known-a-3 c = search needs
+
+enter-requires : tie.Need-enter-requires
+enter-requires c κs = search needs
+
+enum-known-a-4 : tie.Need-enum-known-a-4
+enum-known-a-4 c = search needs
+
+cast-set-mark-3 : tie.Need-cast-set-mark-3
+cast-set-mark-3 c = search needs
+
+add-set-mark : tie.Need-add-set-mark
+add-set-mark c = search needs
+
+cast-set-mark-4 : tie.Need-cast-set-mark-4
+cast-set-mark-4 c = search needs
+
+mul-set-mark : tie.Need-mul-set-mark
+mul-set-mark c = search needs
+
+cast-set-mark-5 : tie.Need-cast-set-mark-5
+cast-set-mark-5 c = search needs
+
+add-set-mark-2 : tie.Need-add-set-mark-2
+add-set-mark-2 c = search needs
+
+set-mark-requires-6 : tie.Need-set-mark-requires-6
+set-mark-requires-6 c κs = search needs
+
+enum-known-a-5 : tie.Need-enum-known-a-5
+enum-known-a-5 c = search needs
+
+cast-set-mark-6 : tie.Need-cast-set-mark-6
+cast-set-mark-6 c = search needs
+
+add-set-mark-3 : tie.Need-add-set-mark-3
+add-set-mark-3 c = search needs
+
+cast-set-mark-7 : tie.Need-cast-set-mark-7
+cast-set-mark-7 c = search needs
+
+set-mark-requires-7 : tie.Need-set-mark-requires-7
+set-mark-requires-7 c κs = search needs
+
+enum-known-a-6 : tie.Need-enum-known-a-6
+enum-known-a-6 c = search needs
+
+move-vote-requires : tie.Need-move-vote-requires
+move-vote-requires c κs = search needs
+
+returns : tie.Need-returns
+returns c = search mark-cases
+
+same-length : tie.Need-same-length
+same-length c = search needs
+
+returns-2 : tie.Need-returns-2
+returns-2 c = search mark-cases
+
+same-length-2 : tie.Need-same-length-2
+same-length-2 c = search needs
+
+returns-3 : tie.Need-returns-3
+returns-3 c = search mark-cases
+
+same-length-3 : tie.Need-same-length-3
+same-length-3 c = search needs
+
+returns-4 : tie.Need-returns-4
+returns-4 c = search mark-cases
+
+same-length-4 : tie.Need-same-length-4
+same-length-4 c = search needs
+
+returns-5 : tie.Need-returns-5
+returns-5 c = search mark-cases
+
+same-length-5 : tie.Need-same-length-5
+same-length-5 c = search needs
+
+returns-6 : tie.Need-returns-6
+returns-6 c = search mark-cases
+
+same-length-6 : tie.Need-same-length-6
+same-length-6 c = search needs
+
+returns-7 : tie.Need-returns-7
+returns-7 c = search mark-cases
+
+same-length-7 : tie.Need-same-length-7
+same-length-7 c = search needs
+
+returns-8 : tie.Need-returns-8
+returns-8 c = search mark-cases
+
+same-length-8 : tie.Need-same-length-8
+same-length-8 c = search needs
+
+returns-9 : tie.Need-returns-9
+returns-9 c = search mark-cases
+
+same-length-9 : tie.Need-same-length-9
+same-length-9 c = search needs
+
+returns-10 : tie.Need-returns-10
+returns-10 c = search mark-cases
+
+pub mark-act-spec : {M : Type 1} → statement M
+mark-act-spec =
+    tie.close
+    (tie.spec
+    enum-told
+    enum-told-2
+    set-mark-requires
+    enum-told-3
+    set-mark-requires-2
+    enum-told-4
+    set-mark-requires-3
+    enum-known-a
+    cast-set-mark
+    set-mark-requires-4
+    enum-known-a-2
+    cast-set-mark-2
+    set-mark-requires-5
+    enum-known-a-3
+    enter-requires
+    enum-known-a-4
+    cast-set-mark-3
+    add-set-mark
+    cast-set-mark-4
+    mul-set-mark
+    cast-set-mark-5
+    add-set-mark-2
+    set-mark-requires-6
+    enum-known-a-5
+    cast-set-mark-6
+    add-set-mark-3
+    cast-set-mark-7
+    set-mark-requires-7
+    enum-known-a-6
+    move-vote-requires
+    returns
+    same-length
+    returns-2
+    same-length-2
+    returns-3
+    same-length-3
+    returns-4
+    same-length-4
+    returns-5
+    same-length-5
+    returns-6
+    same-length-6
+    returns-7
+    same-length-7
+    returns-8
+    same-length-8
+    returns-9
+    same-length-9
+    returns-10)

@@ -1,0 +1,60 @@
+-- "A turn does the first thing due in this order, lower instances first." The state s has the settings g.
+use Prim.Native.Nat.{ℕ}
+use mathlib.Core.Bool.{Bool, cond}
+use mathlib.Core.List.{List, [], _∷_}
+use lib.ListN.{length}
+use lib.Dec.{eqb}
+use Rattle.settings.specs.Settings.{quorum, copy}
+use Rattle.settings.specs.declared.Settings.{Settings}
+use Rattle.records.specs.Layout.{inputAt}
+use Rattle.records.specs.Words.{word}
+use Rattle.records.specs.Records.{sendSent, commitSent}
+use Rattle.acts.specs.Acts.{orAct, firstAct}
+use Rattle.acts.specs.declared.Act.{Act}
+use Rattle.acts.specs.declared.Act.the-variants.{Idle, InForce, Commit, Send}
+use Rattle.broadcasts.specs.Leading.{present}
+use Rattle.broadcasts.specs.Broadcasts.{output, echoRule, readyRule}
+use Rattle.votes.specs.Votes.{votesDecidedOne, voteAct}
+use Rattle.exits.specs.Now.{exitNow}
+use Rattle.commits.specs.Commits.{setLeader, leadingSet}
+
+-- 1. "In force: n−ts senders' COMMITs hold the same set."
+unfoldable pub inForceRule : Settings → List ℕ → Act
+inForceRule g s = cond (eqb (setLeader s (g .n) (quorum g)) 0) Idle InForce
+
+-- one set, or another where it is none
+unfoldable pub orSet : List ℕ → List ℕ → List ℕ
+orSet [] ys = ys
+orSet (x ∷ xs) ys = x ∷ xs
+
+-- 2. "the set the exits name, else a set held from ts+1 senders (of several, the lowest sender's)"; none is []
+unfoldable pub commitDue : Settings → List ℕ → List ℕ
+commitDue g s = orSet (exitNow g s .names) (leadingSet s (g .n) (copy g))
+
+unfoldable pub commitOf : List ℕ → Act
+commitOf [] = Idle
+commitOf (x ∷ xs) = Commit (length (x ∷ xs))
+
+-- 2. "COMMIT, if none sent"
+unfoldable pub commitRule : Settings → List ℕ → Act
+commitRule g s = cond (commitSent s) Idle (commitOf (commitDue g s))
+
+-- 3. "SEND of the own input, once."
+unfoldable pub sendRule : List ℕ → Act
+sendRule s = cond (sendSent s) Idle (Send (word s inputAt))
+
+-- 6. "Votes, unless Exit 1 holds."
+unfoldable pub votesRule : Settings → List ℕ → Act
+votesRule g s =
+    cond (eqb (exitNow g s .number) 1) Idle
+    (firstAct (λ i. voteAct g s (present (output g s i)) (votesDecidedOne g s) i) (g .n))
+
+-- the rules in their order
+unfoldable pub due : Settings → List ℕ → Act
+due g s =
+    orAct (inForceRule g s)
+    (orAct (commitRule g s)
+    (orAct (sendRule s)
+    (orAct (echoRule g s)
+    (orAct (readyRule g s)
+    (votesRule g s)))))

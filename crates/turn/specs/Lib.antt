@@ -1,0 +1,10 @@
+pub mod Due
+pub mod Turn
+pub mod Told
+pub mod DueLaws
+pub mod Choosing
+pub mod Deciding
+pub mod Applying
+pub mod Admitting
+pub mod Taking
+pub mod Frame

@@ -1,0 +1,129 @@
+-- A turn: its outcome, the words after it, and the lent bytes.
+use Prim.Native.Nat.{ℕ, _+_}
+use mathlib.Core.Bool.{Bool, _&&_, not, cond}
+use mathlib.Core.List.{List, []}
+use lib.ListN.{length}
+use lib.Dec.{eqb, ltb}
+use Rattle.settings.specs.Refusals.{SHORT, NO-STATE, CLOSED}
+use Rattle.settings.specs.Settings.{roundLimit}
+use Rattle.records.specs.Layout.{turnsAt, flagsAt, closedMark, sendSentMark, commitSentMark, echoSentAt, readySentAt, roundAt, estSentAt, estSentMark, auxSentAt, decidedZeroAt, decidedOneAt}
+use Rattle.records.specs.Words.{word, put, setMark}
+use Rattle.records.specs.Records.{closed, coin, decided}
+use Rattle.acts.specs.Acts.{isDue}
+use Rattle.acts.specs.declared.Act.{Act}
+use Rattle.acts.specs.declared.Act.the-variants.{Idle, InForce, Commit, Send, Echo, Ready, Start, Relay, Aux, Move}
+use Rattle.acts.specs.declared.View.{View}
+use Rattle.votes.specs.Votes.{estimate, decides}
+use Rattle.session.specs.Session.{stored}
+use Rattle.session.specs.declared.Session.{Session}
+use Rattle.session.specs.declared.Stored.{Stored}
+use Rattle.session.specs.declared.Stored.the-variants.{NoState, Held}
+use Rattle.wire.specs.Message.{encode, atFront}
+use Rattle.wire.specs.declared.Message.{Message}
+use Rattle.wire.specs.declared.Message.the-variants as message
+use Rattle.turn.specs.Due.{due, commitDue}
+use Rattle.turn.specs.declared.Admitted.{Admitted}
+use Rattle.turn.specs.declared.Admitted.the-variants as admitted
+use Rattle.turn.specs.declared.Outcome.{Outcome}
+use Rattle.turn.specs.declared.Outcome.the-variants as outcome
+
+-- "Moving enters the next round and sends its EST. Moving out of round 32 sends nothing"
+unfoldable pub moveOutcome : List ℕ → ℕ → ℕ → View → Outcome
+moveOutcome s i r v = cond (ltb r roundLimit) (outcome.Sent (message.Est i (r + 1) (estimate (coin s i r) v))) outcome.MovedOut
+
+-- "A turn answers with one of four outcomes: sent (with the message), moved out of round 32, in force, idle."
+-- The outcome of an act of concentrator own in the state s. Starting and moving send the EST of the round that is entered.
+unfoldable pub outcomeOf : ℕ → List ℕ → Act → Outcome
+outcomeOf own s Idle = outcome.Idle
+outcomeOf own s InForce = outcome.InForce
+outcomeOf own s (Commit k) = outcome.Sent (message.Commit k)
+outcomeOf own s (Send v) = outcome.Sent (message.Send own v)
+outcomeOf own s (Echo i v) = outcome.Sent (message.Echo i v)
+outcomeOf own s (Ready i v) = outcome.Sent (message.Ready i v)
+outcomeOf own s (Start i b) = outcome.Sent (message.Est i 1 b)
+outcomeOf own s (Relay i r b) = outcome.Sent (message.Est i r b)
+outcomeOf own s (Aux i r b) = outcome.Sent (message.Aux i r b)
+outcomeOf own s (Move i r v) = moveOutcome s i r v
+
+-- "The count stored and reported is the number of turns since opening that did not answer idle"
+unfoldable pub counted : List ℕ → List ℕ
+counted s = put s turnsAt (word s turnsAt + 1)
+
+-- round r of vote i is entered, and its EST is sent: round 33 has none
+unfoldable pub entered : List ℕ → ℕ → ℕ → ℕ → List ℕ
+entered s i r b = cond (ltb roundLimit r) (put s (roundAt i) r) (setMark (put s (roundAt i) r) (estSentAt i) (estSentMark r b))
+
+-- vote i is decided b
+unfoldable pub decidedAs : List ℕ → ℕ → ℕ → List ℕ
+decidedAs s i b = setMark s (cond (eqb b 0) decidedZeroAt decidedOneAt) i
+
+-- "vote i is decided b if b equals the coin and no decision stands"
+unfoldable pub newDecision : List ℕ → ℕ → ℕ → View → Bool
+newDecision s i r v = not (decided s i) && decides (coin s i r) v
+
+unfoldable pub moveDecided : List ℕ → ℕ → ℕ → View → List ℕ
+moveDecided s i r v = cond (newDecision s i r v) (decidedAs s i (estimate (coin s i r) v)) s
+
+-- "Moving enters the next round and sends its EST."
+unfoldable pub moved : List ℕ → ℕ → ℕ → View → List ℕ
+moved s i r v = entered (moveDecided s i r v) i (r + 1) (estimate (coin s i r) v)
+
+-- the state in which an act is marked as done
+unfoldable pub marked : List ℕ → Act → List ℕ
+marked s Idle = s
+marked s InForce = setMark s flagsAt closedMark
+marked s (Commit k) = setMark s flagsAt commitSentMark
+marked s (Send v) = setMark s flagsAt sendSentMark
+marked s (Echo i v) = setMark s echoSentAt i
+marked s (Ready i v) = setMark s readySentAt i
+marked s (Start i b) = entered s i 1 b
+marked s (Relay i r b) = setMark s (estSentAt i) (estSentMark r b)
+marked s (Aux i r b) = setMark s (auxSentAt i) r
+marked s (Move i r v) = moved s i r v
+
+-- the state after an act; an idle turn is not counted
+unfoldable pub applied : List ℕ → Act → List ℕ
+applied s a = cond (isDue a) (marked (counted s) a) s
+
+-- "10 CLOSED: delivery or turn after closing." "8 SHORT: a turn lent under 140 bytes"
+unfoldable pub admittedIn : Session → List ℕ → ℕ → Admitted
+admittedIn x s room = cond (closed s) (admitted.Refused CLOSED) (cond (ltb room 140) (admitted.Refused SHORT) (admitted.Open x))
+
+unfoldable pub admittedFor : Stored → List ℕ → ℕ → Admitted
+admittedFor NoState s room = admitted.Refused NO-STATE
+admittedFor (Held x) s room = admittedIn x s room
+
+-- "Turn 9, 10, 8."
+unfoldable pub admits : List ℕ → ℕ → Admitted
+admits s room = admittedFor (stored s) s room
+
+-- the bytes after an outcome: "a success writes a message's own bytes .. and no others"; the values of a COMMIT are its set
+unfoldable pub bytesAfter : Session → List ℕ → Outcome → List ℕ → List ℕ
+bytesAfter x s (outcome.Refused k) out = out
+bytesAfter x s outcome.Idle out = out
+bytesAfter x s (outcome.Sent m) out = atFront (encode m (x .own) (x .number) (commitDue (x .settings) s)) out
+bytesAfter x s outcome.MovedOut out = out
+bytesAfter x s outcome.InForce out = out
+
+-- outcome, words and bytes of a turn that is admitted or refused
+unfoldable pub outcomeFor : Admitted → List ℕ → Outcome
+outcomeFor (admitted.Refused k) s = outcome.Refused k
+outcomeFor (admitted.Open x) s = outcomeOf (x .own) s (due (x .settings) s)
+
+unfoldable pub wordsFor : Admitted → List ℕ → List ℕ
+wordsFor (admitted.Refused k) s = s
+wordsFor (admitted.Open x) s = applied s (due (x .settings) s)
+
+unfoldable pub bytesFor : Admitted → List ℕ → List ℕ → List ℕ
+bytesFor (admitted.Refused k) s out = out
+bytesFor (admitted.Open x) s out = bytesAfter x s (outcomeOf (x .own) s (due (x .settings) s)) out
+
+-- the answer, the words and the bytes of a turn lent the bytes out
+unfoldable pub turnOutcome : List ℕ → ℕ → Outcome
+turnOutcome s room = outcomeFor (admits s room) s
+
+unfoldable pub turnWords : List ℕ → ℕ → List ℕ
+turnWords s room = wordsFor (admits s room) s
+
+unfoldable pub turnBytes : List ℕ → List ℕ → List ℕ
+turnBytes s out = bytesFor (admits s (length out)) s out
