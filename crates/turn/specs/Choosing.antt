@@ -1,12 +1,12 @@
 -- The paths of src/due.rt.
-use Prim.Native.Nat.{ℕ, zero, suc, _+_, _*_, _-_, _≤_, _<_}
+use Prim.Native.Nat.{ℕ, _+_, _*_, _-_, _≤_, _<_}
 use mathlib.Core.Bool.{Bool, true, false, cond}
 use mathlib.Core.List.{List, [], _∷_, _++_}
 use mathlib.Core.Path.{_≡_, refl, sym, ap, _∙_}
 use native.Mathlib.Omega.{arith}
 use lib.ListN.{length, take, drop, length-take, length-drop}
-use lib.Seq.{take-all, take-at, take-take, length-take-le}
-use lib.Dec.{eqb, leb, ltb}
+use lib.Seq.{take-all, take-at, length-take-le}
+use lib.Dec.{eqb, leb}
 use borrow.Author.Tests.{ne-eqb, eqb-false, ltb-true}
 use Rattle.settings.specs.Bools.{and-left}
 use Rattle.settings.specs.Laws.{Ruled}
@@ -19,20 +19,18 @@ use Rattle.records.specs.Words.{word, marked}
 use Rattle.records.specs.Records.{sendSent, commitSent, commitCount, commitSet, decidedZero, decidedOne}
 use Rattle.acts.specs.Acts.{isDue, orAct, actAt, firstAct}
 use Rattle.acts.specs.declared.Act.{Act}
-use Rattle.acts.specs.declared.Act.the-variants.{Idle, InForce, Commit, Send, Echo, Ready, Start, Relay, Aux, Move}
+use Rattle.acts.specs.declared.Act.the-variants.{Idle, InForce, Commit, Send}
 use Rattle.broadcasts.specs.Leading.{present}
 use Rattle.broadcasts.specs.Broadcasts.{output, echoRule, readyRule}
 use Rattle.broadcasts.specs.Outputs.{outputAt, Outputs}
 use Rattle.broadcasts.specs.Laws.{outputs-each, outputs-marks}
-use Rattle.broadcasts.specs.Due.{echo-rule-holds, ready-rule-holds}
 use Rattle.votes.specs.Votes.{votesDecidedOne, voteAct, voteRule}
-use Rattle.votes.specs.Choices.{all-cond, all-or}
 use Rattle.exits.specs.Exits.{Exit, exitOf, named}
 use Rattle.exits.specs.Stated.{Stated}
 use Rattle.exits.specs.Laws.{exit-agree}
 use Rattle.exits.specs.declared.Named.{Named}
 use Rattle.commits.specs.Commits.{commitHeld, setHolders, setLeads, setLeader, setOf, leadingSet}
-use Rattle.turn.specs.Due.{inForceRule, orSet, commitDue, commitOf, commitRule, sendRule, votesRule, due}
+use Rattle.turn.specs.Due.{inForceRule, orSet, commitDue, commitOf, commitRule, sendRule, votesRule}
 use Rattle.exits.specs.Now.{exitNow}
 
 -- what the readers of a state ask for, and an array for a set

@@ -8,7 +8,6 @@ use Rattle.settings.specs.Laws.{Ruled}
 use Rattle.settings.specs.declared.Settings.{Settings}
 use Rattle.acts.specs.Acts.{isDue, orAct}
 use Rattle.acts.specs.declared.Act.{Act}
-use Rattle.acts.specs.declared.Act.the-variants.{Commit}
 use Rattle.broadcasts.specs.Broadcasts.{echoRule, readyRule}
 use Rattle.broadcasts.specs.Outputs.{Outputs}
 use Rattle.exits.specs.Stated.{Stated}

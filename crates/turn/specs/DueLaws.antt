@@ -26,7 +26,7 @@ use Rattle.votes.specs.Votes.{votesDecidedOne, voteAct}
 use Rattle.votes.specs.Choices.{all-cond, all-or, all-first}
 use Rattle.votes.specs.Told.{StartTold, Told, Among}
 use Rattle.votes.specs.Laws.{vote-told}
-use Rattle.exits.specs.Exits.{Exit, noExit, exitOf}
+use Rattle.exits.specs.Exits.{Exit, noExit}
 use Rattle.exits.specs.Stated.{singleExit, outputsExit}
 use Rattle.exits.specs.Laws.{names-few}
 use Rattle.exits.specs.Ways.{Way, first, second, third, none, way}

@@ -8,3 +8,6 @@ pub mod Applying
 pub mod Admitting
 pub mod Taking
 pub mod Frame
+pub mod Marks
+pub mod Decisions
+pub mod Laws

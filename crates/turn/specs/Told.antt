@@ -1,6 +1,6 @@
 -- What an act that is due tells of the state: its evidence.
 use Prim.Native.Nat.{ℕ, _≤_}
-use mathlib.Core.Bool.{Bool, true, false}
+use mathlib.Core.Bool.{true, false}
 use mathlib.Core.List.{List}
 use mathlib.Core.Logic.{_≢_}
 use mathlib.Core.Path.{_≡_}
@@ -17,7 +17,6 @@ use Rattle.broadcasts.specs.Broadcasts.{output, readyDue}
 use Rattle.broadcasts.specs.declared.Output.the-variants.{Value}
 use Rattle.votes.specs.Votes.{votesDecidedOne}
 use Rattle.votes.specs.Told.{StartTold, RelayTold, AuxTold, MoveTold, Among}
-use Rattle.exits.specs.Exits.{Exit}
 use Rattle.commits.specs.Commits.{commitHeld, setHolders}
 use Rattle.turn.specs.Due.{commitDue}
 use Rattle.exits.specs.Now.{exitNow}

@@ -1,7 +1,7 @@
 -- A turn: its outcome, the words after it, and the lent bytes.
 use Prim.Native.Nat.{ℕ, _+_}
 use mathlib.Core.Bool.{Bool, _&&_, not, cond}
-use mathlib.Core.List.{List, []}
+use mathlib.Core.List.{List}
 use lib.ListN.{length}
 use lib.Dec.{eqb, ltb}
 use Rattle.settings.specs.Refusals.{SHORT, NO-STATE, CLOSED}
@@ -19,7 +19,6 @@ use Rattle.session.specs.declared.Session.{Session}
 use Rattle.session.specs.declared.Stored.{Stored}
 use Rattle.session.specs.declared.Stored.the-variants.{NoState, Held}
 use Rattle.wire.specs.Message.{encode, atFront}
-use Rattle.wire.specs.declared.Message.{Message}
 use Rattle.wire.specs.declared.Message.the-variants as message
 use Rattle.turn.specs.Due.{due, commitDue}
 use Rattle.turn.specs.declared.Admitted.{Admitted}
