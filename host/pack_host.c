@@ -44,10 +44,12 @@ static int number(const char *text, uint64_t *value)
     return errno == 0 && *text != '\0' && *text != '-' && *end == '\0';
 }
 
-/* Opens concentrator p; every coin is 0. */
+/* Opens concentrator p. The coins are a printed table, the same at each of them. */
 static unsigned open_one(struct feeder *feeder, unsigned p, uint64_t ta, uint64_t ts, uint64_t input)
 {
-    uint32_t coins[MOST] = {0};
+    uint32_t coins[MOST];
+    for (uint32_t i = 0; i < MOST; i++)
+        coins[i] = 0x9e3779b9u * (i + 1);
     return pack_refused(pack_open(feeder->states[p], PACK_STATE_WORDS, feeder->n, ta, ts, p + 1, 1, input, coins,
                                   feeder->n));
 }

@@ -8,31 +8,25 @@ use native.Mathlib.Nat.{min-le-right}
 use lib.ListN.{length, take, drop, length-take, length-drop}
 use lib.Seq.{take-all, length-take-le}
 use lib.Dec.{ltb}
-use borrow.Author.Tests.{eq-eqb, ne-eqb, ltb-false}
-use Rattle.settings.specs.Bools.{or-passed}
+use borrow.Author.Tests.{eq-eqb, ne-eqb}
 use Rattle.settings.specs.Laws.{Ruled}
 use Rattle.settings.specs.Settings.{quorum}
 use Rattle.settings.specs.declared.Settings.{Settings}
-use Rattle.quorum.specs.Marks.{mark}
 use Rattle.quorum.specs.Lowest.{lowest, lowest-le}
-use Rattle.records.specs.Words.{word, marked}
-use Rattle.records.specs.Records.{closed, commitCount, commitSet, decidedZero, decidedOne}
+use Rattle.records.specs.Words.{word}
+use Rattle.records.specs.Records.{closed, commitCount, commitSet}
 use Rattle.records.specs.Copy.{copied}
-use Rattle.broadcasts.specs.Broadcasts.{output}
-use Rattle.broadcasts.specs.Outputs.{outputAt, Outputs}
-use Rattle.broadcasts.specs.Laws.{outputs-each}
 use Rattle.commits.specs.Commits.{setLeads, setLeader, setOf, leadingSet}
-use Rattle.exits.specs.Exits.{Exit, exitOf, named}
+use Rattle.exits.specs.Exits.{Exit, named}
 use Rattle.exits.specs.Now.{exitNow}
-use Rattle.exits.specs.Laws.{exit-agree}
 use Rattle.exits.specs.Stated.{Stated}
 use Rattle.exits.specs.declared.Named.{Named}
-use Rattle.session.specs.Session.{stored, settingsOf, sessionWith, sessionOf}
-use Rattle.session.specs.Laws.{State, Read, held-read}
+use Rattle.session.specs.Session.{stored}
 use Rattle.session.specs.declared.Session.{Session}
 use Rattle.session.specs.declared.Stored.{Stored}
 use Rattle.session.specs.declared.Stored.the-variants.{NoState, Held}
 use Rattle.report.specs.Report.{inForceSet, figuresOf, admittedIn, admittedFor, admits, atFront, answerFor, namedFor, inForceFor, reportAnswer, reportNamed, reportInForce}
+use Rattle.report.specs.Laws.{Admitting, admitting}
 use Rattle.report.specs.declared.Figures.{Figures}
 use Rattle.report.specs.declared.Admitted.{Admitted}
 use Rattle.report.specs.declared.Admitted.the-variants as admitted
@@ -86,14 +80,6 @@ module _ (s : List ℕ) (a b : ℕ) (y : Stored) (e : y ≡ stored s) where
   a-state x v t f = rw (← e, t) f
 
 pub ruleset admit-cases = (short, long, no-state, a-state)
-
--- the exit: the array says the outputs of 1 to n, and no more is read
-pub exit-stated : (g : Settings) (s : List ℕ) (held : ℕ) (values : List ℕ) (w0 w1 : ℕ) (r : Named) → Ruled g → Outputs g s (g .n) held values → w0 ≡ word s 138 → w1 ≡ word s 139 → Stated r (exitOf g (outputAt held values) (mark w0) (mark w1)) → Stated r (exitNow g s)
-unfolding exitNow decidedZero decidedOne marked
-exit-stated g s held values w0 w1 r ruled x ez eo t =
-    let same : exitOf g (outputAt held values) (mark w0) (mark w1) ≡ exitOf g (output g s) (λ i. mark (word s 138) i) (λ i. mark (word s 139) i) =
-    exit-agree g _ _ _ _ _ _ (outputs-each g s held values ruled x) (λ i a b. ap (λ (w : ℕ). mark w i) eo) (λ i a b. ap (λ (w : ℕ). mark w i) ez) in
-    rw same at t
 
 -- the sender of the set in force
 
@@ -180,36 +166,7 @@ module _ (g : Settings) (s : List ℕ) (x : Named) (h : Stated x (exitNow g s)) 
         in-force-words = w .words;
       }
 
--- a report that is given
-
-pub record Admitting (s : List ℕ) (a b : ℕ) (g : Settings) : Type 0 where
-  pub state : State s
-  pub same : g ≡ settingsOf s
-  pub named-room : 16 ≤ a
-  pub in-force-room : 16 ≤ b
-
-pub admitting : (s : List ℕ) (a b : ℕ) (g : Settings) → admits s a b ≡ admitted.Open g → Admitting s a b g
-unfolding admits admittedFor admittedIn sessionOf sessionWith
-admitting s a b g e = of (stored s) refl e
-  where
-    settings-of : (x : Session) → x ≡ sessionOf s → x .settings ≡ settingsOf s
-    settings-of x r = ap (λ (y : Session). y .settings) r
-
-    room : (x : Session) → Read s x → (t : Bool) → (ltb a 16 || ltb b 16) ≡ t → cond t (admitted.Refused 8) (admitted.Open (x .settings)) ≡ admitted.Open g → Admitting s a b g
-    room x r true p f = absurd (let z : _≡_ {A = ℕ} 0 1 = cc in omega arith)
-    room x r false p f =
-        let q : x .settings ≡ g = cc in
-        let both = or-passed (ltb a 16) (ltb b 16) p in
-        record {
-          state = r .state;
-          same = sym q ∙ settings-of x (r .same);
-          named-room = ltb-false a 16 (both .0);
-          in-force-room = ltb-false b 16 (both .1);
-        }
-
-    of : (y : Stored) → stored s ≡ y → admittedFor y a b ≡ admitted.Open g → Admitting s a b g
-    of NoState t f = absurd (let z : _≡_ {A = ℕ} 0 1 = cc in omega arith)
-    of (Held x) t f = room x (held-read s x t) (ltb a 16 || ltb b 16) refl f
+-- a report that is given, or refused
 
 module _ (s a b : List ℕ) (v : Admitted) (e : v ≡ admits s (length a) (length b)) where
   module _ (g : Settings) (t : v ≡ admitted.Open g) where

@@ -16,7 +16,7 @@ use Rattle.quorum.specs.Lowest.{lowest, Lowest, lowest-is, lowest-agree, lowest
 use Rattle.quorum.specs.Marks.{mark}
 use Rattle.records.specs.Copy.{copied}
 use Rattle.records.specs.Words.{word, marked}
-use Rattle.records.specs.Records.{sendSent, commitSent, commitCount, commitSet, decidedZero, decidedOne}
+use Rattle.records.specs.Records.{sendSent, commitSent, commitCount, commitSet}
 use Rattle.acts.specs.Acts.{isDue, orAct, actAt, firstAct}
 use Rattle.acts.specs.declared.Act.{Act}
 use Rattle.acts.specs.declared.Act.the-variants.{Idle, InForce, Commit, Send}
@@ -25,9 +25,8 @@ use Rattle.broadcasts.specs.Broadcasts.{output, echoRule, readyRule}
 use Rattle.broadcasts.specs.Outputs.{outputAt, Outputs}
 use Rattle.broadcasts.specs.Laws.{outputs-each, outputs-marks}
 use Rattle.votes.specs.Votes.{votesDecidedOne, voteAct, voteRule}
-use Rattle.exits.specs.Exits.{Exit, exitOf, named}
+use Rattle.exits.specs.Exits.{Exit, named}
 use Rattle.exits.specs.Stated.{Stated}
-use Rattle.exits.specs.Laws.{exit-agree}
 use Rattle.exits.specs.declared.Named.{Named}
 use Rattle.commits.specs.Commits.{commitHeld, setHolders, setLeads, setLeader, setOf, leadingSet}
 use Rattle.turn.specs.Due.{inForceRule, orSet, commitDue, commitOf, commitRule, sendRule, votesRule}
@@ -223,16 +222,8 @@ module _ (g : Settings) (s : List ℕ) (held : ℕ) (first : Bool) (a : Act) (d 
 
 pub ruleset later-cases = (first-send, first-echo, rest-later)
 
--- the exit of the marks and the array is that of the state
+-- the marks and the array say what the rules ask of the outputs
 module _ (g : Settings) (s : List ℕ) (held : ℕ) (values : List ℕ) (r : Ruled g) (x : Outputs g s (g .n) held values) where
-  pub exit-same : (w0 w1 : ℕ) (y : Named) → w0 ≡ word s 138 → w1 ≡ word s 139 → Stated y (exitOf g (outputAt held values) (mark w0) (mark w1)) → Stated y (exitNow g s)
-  unfolding exitNow decidedZero decidedOne marked
-  exit-same w0 w1 y ez eo h =
-      let same : exitOf g (outputAt held values) (mark w0) (mark w1) ≡ exitNow g s =
-      exit-agree g (outputAt held values) (output g s) (mark w0) (mark w1) (decidedZero s) (decidedOne s) (outputs-each g s held values r x)
-      (λ i a b. ap (λ (w : ℕ). mark w i) eo) (λ i a b. ap (λ (w : ℕ). mark w i) ez) in
-      rw (← same) h
-
   -- acts that agree on 1 to n have the same first
   first-agree : (f h : ℕ → Act) (n : ℕ) → ((i : ℕ) → 1 ≤ i → i ≤ n → f i ≡ h i) → firstAct f n ≡ firstAct h n
   unfolding firstAct actAt

@@ -1,5 +1,5 @@
 -- The outputs of the array are those of the state.
-use Rattle.turn.specs.Choosing.{exit-same}
+use Rattle.exits.specs.Now.{exit-stated}
 use borrow.Author.Needs.{needs}
 use Rattle.turn.proofs.due.exit_now.Statement.{statement}
 use Rattle.turn.proofs.due.exit_now.Tie as tie
@@ -14,7 +14,7 @@ exit-of-requires : tie.Need-exit-of-requires
 exit-of-requires c κs = search needs
 
 returns : tie.Need-returns
-returns c = search exit-same
+returns c = search exit-stated
 
 pub exit-now-spec : {M : Type 1} → statement M
 exit-now-spec = tie.close (tie.spec word-requires word-requires-2 exit-of-requires returns)

@@ -1,0 +1,10 @@
+-- `agreement::agreement` states a theorem of specs/Agreement.antt.
+use Rattle.agreement.specs.Agreement.{agree}
+use Rattle.agreement.proofs.agreement.Statement.{statement}
+use Rattle.agreement.proofs.agreement.Tie as tie
+
+returns : tie.Need-returns
+returns c = agree
+
+pub agreement-spec : {M : Type 1} → statement M
+agreement-spec = tie.close (tie.spec returns)

@@ -1,0 +1,152 @@
+-- Histories of what the honest concentrators did, and which of them are lawful: each act has its evidence before it.
+-- Only ECHO for each concentrator and instance, and AUX for each concentrator, instance and round, are done once.
+use Prim.Native.Nat.{ℕ, suc, _+_, _*_, _≤_}
+use mathlib.Core.Bool.{true}
+use mathlib.Core.List.{List, [], _∷_}
+use mathlib.Core.Logic.{_⊎_, inl, inr}
+use mathlib.Core.Path.{_≡_}
+use Rattle.acts.specs.declared.View.{View}
+use Rattle.acts.specs.declared.View.the-variants.{Only, Both}
+use Rattle.votes.specs.Votes.{estimate, coinValue}
+use Rattle.broadcasts.specs.declared.Output.the-variants.{Value}
+use Rattle.exits.specs.Agree.{Standing, exitAt}
+use Rattle.settings.specs.declared.Settings.{Settings}
+use Rattle.agreement.specs.Evidence.{World, whole, Honest, Backed}
+
+-- what a turn does: SEND of the input, ECHO and READY of an instance and a value, a start with a value, relay and AUX of a vote, a round
+-- and a value, a move out of a round with what its AUXs carry, and COMMIT of a set
+pub data Act : Type 0 where
+  send : ℕ → Act
+  echo ready : ℕ → ℕ → Act
+  start : ℕ → ℕ → Act
+  relay aux : ℕ → ℕ → ℕ → Act
+  move : ℕ → ℕ → View → Act
+  commit : List ℕ → Act
+
+pub data Event : Type 0 where
+  by : ℕ → Act → Event
+
+-- newest first
+abbrev pub History : Type 0
+History = List Event
+
+abbrev pub Did : History → ℕ → Act → Type 0
+Did [] p a = ⊥
+Did (e ∷ h) p a = (e ≡ by p a) ⊎ Did h p a
+
+-- the view has the value c
+abbrev pub Occurs : ℕ → View → Type 0
+Occurs c (Only b) = c ≡ b
+Occurs c Both = (c ≡ 0) ⊎ (c ≡ 1)
+
+-- vote i is decided b in a standing
+pub data Decision (s : Standing) (i : ℕ) : ℕ → Type 0 where
+  zero : s .as0 i ≡ true → Decision s i 0
+  one : s .as1 i ≡ true → Decision s i 1
+
+-- the exits of a standing name X
+pub record Names (g : Settings) (s : Standing) (X : List ℕ) : Type 0 where
+  pub exit : exitAt g s .number ≡ 0 → ⊥
+  pub set : exitAt g s .names ≡ X
+
+module _ (W : World) where
+  abbrev ta : ℕ
+  ta = W .settings .ta
+
+  abbrev ts : ℕ
+  ts = W .settings .ts
+
+  -- m sent the EST of its own accord: "Starting enters round 1 .. and sends EST of that value", "Moving enters the next round and sends its EST"
+  pub data Own (h : History) (i r b m : ℕ) : Type 0 where
+    started : r ≡ 1 → Did h m (start i b) → Own h i r b m
+    moved : (q : ℕ) (v : View) → r ≡ suc q → estimate (W .coin i q) v ≡ b → Did h m (move i q v) → Own h i r b m
+
+  -- m sent EST b in round r of vote i
+  pub data Est (h : History) (i r b m : ℕ) : Type 0 where
+    own : Own h i r b m → Est h i r b m
+    relayed : Did h m (relay i r b) → Est h i r b m
+
+  -- "A value is accepted in a round when 2·ta+1 senders' ESTs hold it."
+  abbrev pub Accepted : History → ℕ → ℕ → ℕ → Type 0
+  Accepted h i r b = Backed W (2 * ta + 1) 0 (Est h i r b)
+
+  -- m sent an AUX of a value of the view
+  pub record Voiced (h : History) (i r : ℕ) (v : View) (m : ℕ) : Type 0 where
+    pub value : ℕ
+    pub occurs : Occurs value v
+    pub sent : Did h m (aux i r value)
+
+  -- "when at least n−ta held AUXs carry accepted values"
+  pub record Moving (h : History) (i r : ℕ) (v : View) : Type 0 where
+    pub round : 1 ≤ r
+    pub quorum : Backed W (whole W) ta (Voiced h i r v)
+    pub accepted : (c : ℕ) → Occurs c v → Accepted h i r c
+
+  -- "If those carry just one value b, .. vote i is decided b if b equals the coin"
+  pub record Deciding (h : History) (i b m : ℕ) : Type 0 where
+    pub round : ℕ
+    pub coin : b ≡ coinValue (W .coin i round)
+    pub move : Did h m (move i round (Only b))
+
+  -- vote i is decided b at p
+  pub data Decided (h : History) (p i b : ℕ) : Type 0 where
+    by-move : Deciding h i b p → Decided h p i b
+
+  -- "A broadcast has output v when n−ts senders' READYs hold v."
+  abbrev pub Delivers : History → ℕ → ℕ → Type 0
+  Delivers h i v = Backed W (whole W) ts (λ m. Did h m (ready i v))
+
+  -- what stands at p after the history h: each output and each decision has its cause there
+  pub record Stands (h : History) (p : ℕ) (s : Standing) : Type 0 where
+    pub outs : (i v : ℕ) → 1 ≤ i → i ≤ W .settings .n → s .out i ≡ Value v → Delivers h i v
+    pub decs : (i b : ℕ) → 1 ≤ i → i ≤ W .settings .n → Decision s i b → Decided h p i b
+
+  -- the exits name X at p
+  pub record Naming (h : History) (X : List ℕ) (p : ℕ) : Type 0 where
+    pub standing : Standing
+    pub stands : Stands h p standing
+    pub names : Names (W .settings) standing X
+
+  -- what is asked of an act of p after h
+  abbrev pub Guard : History → ℕ → Act → Type 0
+  Guard h p (send v) = Unit {0}
+  -- "ECHO of the value in the instance's SEND, once for each instance."
+  Guard h p (echo i v) = ((u : ℕ) → Did h p (echo i u) → ⊥) × (Honest W i → Did h i (send v))
+  -- "a value with n−ts ECHOs, else one with ts+1 READYs"
+  Guard h p (ready i v) = Backed W (whole W) ts (λ m. Did h m (echo i v)) ⊎ Backed W (ts + 1) 0 (λ m. Did h m (ready i v))
+  Guard h p (start i b) = Unit {0}
+  -- "held from ta+1 senders"
+  Guard h p (relay i r b) = Backed W (ta + 1) 0 (Est h i r b)
+  -- "AUX, once a round"
+  Guard h p (aux i r b) = (c : ℕ) → Did h p (aux i r c) → ⊥
+  Guard h p (move i r v) = Moving h i r v
+  -- "the set the exits name, else a set held from ts+1 senders"
+  Guard h p (commit X) = Naming h X p ⊎ Backed W (ts + 1) 0 (λ m. Did h m (commit X))
+
+  abbrev pub Allowed : History → Event → Type 0
+  Allowed h (by p a) = Guard h p a
+
+  abbrev pub Lawful : History → Type 0
+  Lawful [] = Unit {0}
+  Lawful (e ∷ h) = Lawful h × Allowed h e
+
+  -- Induction over a history: if each further event keeps Q, and each act a brings it about from its guard and from Q of the earlier acts a,
+  -- then Q holds once a was done.
+  pub by-history : (a : Act) (Q : History → Type 0) → ((e : Event) (h : History) → Q h → Q (e ∷ h)) → ((h : History) (p : ℕ) → Guard h p a → ((m : ℕ) → Did h m a → Q h) → Q h) → (h : History) → Lawful h → (p : ℕ) → Did h p a → Q h
+  by-history a Q keep step [] law p d = absurd d
+  by-history a Q keep step (e ∷ h) law p (inl q) = keep e h (step h p (rw q at (law .1)) (λ m d. by-history a Q keep step h (law .0) m d))
+  by-history a Q keep step (e ∷ h) law p (inr d) = keep e h (by-history a Q keep step h (law .0) p d)
+
+  -- an act that is done once for its subject: f x and f y are both by p, so x is y
+  once : (f : ℕ → Act) → ((p q x y : ℕ) → by p (f x) ≡ by q (f y) → x ≡ y) → ((h : History) (p x : ℕ) → Guard h p (f x) → (y : ℕ) → Did h p (f y) → ⊥) → (h : History) → Lawful h → (p x y : ℕ) → Did h p (f x) → Did h p (f y) → x ≡ y
+  once f inj fresh [] law p x y d c = absurd d
+  once f inj fresh (e ∷ h) law p x y (inl d) (inl c) = inj p p x y (rw d at c)
+  once f inj fresh (e ∷ h) law p x y (inl d) (inr c) = absurd (fresh h p x (rw d at (law .1)) y c)
+  once f inj fresh (e ∷ h) law p x y (inr d) (inl c) = absurd (fresh h p y (rw c at (law .1)) x d)
+  once f inj fresh (e ∷ h) law p x y (inr d) (inr c) = once f inj fresh h (law .0) p x y d c
+
+  pub one-echo : (h : History) → Lawful h → (p i u v : ℕ) → Did h p (echo i u) → Did h p (echo i v) → u ≡ v
+  one-echo h law p i u v = once (echo i) (λ p q x y e. cc) (λ h p x g. g .0) h law p u v
+
+  pub one-aux : (h : History) → Lawful h → (p i r b c : ℕ) → Did h p (aux i r b) → Did h p (aux i r c) → b ≡ c
+  one-aux h law p i r b c = once (aux i r) (λ p q x y e. cc) (λ h p x g. g) h law p b c

@@ -1,0 +1,75 @@
+-- The laws that a machine must keep so that the claims of specs/Calls.antt hold of it. A machine comes with a reading of its words:
+-- what they show, what a turn does, which words belong to a session, and what bytes say. The laws ask of words that belong to a session:
+--   opening    accepted: the settings are within the rules, the words belong to the session and show nothing held or decided.
+--   delivery   refused: the words stay. Accepted: the bytes say one message, and the words hold at most that one more.
+--   turn       it does nothing that shows, or one act that was due; the bytes that it sends say the message of that act; a SEND carries
+--              the own input.
+--   report     an output has its READYs; the set named is the exits'; a set in force has its COMMITs.
+use Prim.Native.Nat.{ℕ}
+use mathlib.Core.Bool.{Bool, true, false}
+use mathlib.Core.List.{List}
+use mathlib.Core.Option.{Option, none, some}
+use mathlib.Core.Path.{_≡_}
+use Rattle.settings.specs.Laws.{Ruled}
+use Rattle.agreement.specs.Evidence.{World, whole}
+use Rattle.agreement.specs.History.{Act, send, Names}
+use Rattle.agreement.specs.Runs.{Message, COMMIT, message, Seen, HeldFrom, OutputsHeld, Due, Kept, Delivered, Acted, Blank}
+use Rattle.agreement.specs.Calls.{Machine, world}
+
+-- a reading of a machine's words
+pub record Reading (M : Machine) : Type 1 where
+  pub seen : Seen (M .Words)
+  -- the act of a turn, and none where it is refused, idle or in force
+  pub act : M .Words → M .Lent → Option Act
+  -- the words are those of an accepted opening after any calls
+  pub Belongs : M .Opening → M .Words → Type 0
+  -- what bytes from a link say in a session
+  pub Says : M .Session → ℕ → M .Bytes → Message → Type 0
+
+module _ (M : Machine) (R : Reading M) (H : ℕ → Bool) where
+  -- the world of an opening
+  abbrev pub at : M .Opening → World
+  at o = world M (M .session o) H
+
+  -- an accepted delivery
+  pub record Delivery (o : M .Opening) (w : M .Words) (m : ℕ) (b : M .Bytes) : Type 0 where
+    pub belongs : R .Belongs o (M .delivered w m b)
+    pub said : Message
+    pub says : R .Says (M .session o) m b said
+    pub holds : Delivered (at o) (R .seen) w (M .delivered w m b) m said
+
+  -- a turn that does nothing that shows
+  pub record Quiet (o : M .Opening) (w : M .Words) (l : M .Lent) : Type 0 where
+    pub kept : Kept (at o) (R .seen) w (M .turned w l)
+    pub silent : (b : M .Bytes) → M .Sends w l b → ⊥
+
+  -- a turn that does a
+  pub record Active (o : M .Opening) (w : M .Words) (l : M .Lent) (a : Act) : Type 0 where
+    pub due : Due (at o) (R .seen) w a
+    pub acted : Acted (at o) (R .seen) w (M .turned w l) a
+    pub says : (b : M .Bytes) → M .Sends w l b → R .Says (M .session o) (M .own o) b (message (at o) a)
+    pub input : (v : ℕ) → a ≡ send v → v ≡ M .input o
+
+  abbrev pub Turned : M .Opening → M .Words → M .Lent → Option Act → Type 0
+  Turned o w l none = Quiet o w l
+  Turned o w l (some a) = Active o w l a
+
+  pub record Laws : Type 0 where
+    -- opening
+    pub open-ruled : (w : M .Words) (o : M .Opening) → M .opens w o ≡ true → Ruled (M .settings (M .session o))
+    pub open-belongs : (w : M .Words) (o : M .Opening) → M .opens w o ≡ true → R .Belongs o (M .opened w o)
+    pub open-blank : (w : M .Words) (o : M .Opening) → M .opens w o ≡ true → Blank (at o) (R .seen) (M .opened w o)
+    pub open-refused : (w : M .Words) (o : M .Opening) → M .opens w o ≡ false → M .opened w o ≡ w
+    -- delivery
+    pub deliver-refused : (w : M .Words) (m : ℕ) (b : M .Bytes) → M .accepts w m b ≡ false → M .delivered w m b ≡ w
+    pub deliver-accepted : (o : M .Opening) (w : M .Words) → R .Belongs o w → (m : ℕ) (b : M .Bytes) → M .accepts w m b ≡ true → Delivery o w m b
+    -- bytes say one message
+    pub says-one : (S : M .Session) (m : ℕ) (b : M .Bytes) (x y : Message) → R .Says S m b x → R .Says S m b y → x ≡ y
+    -- turn
+    pub turn-belongs : (o : M .Opening) (w : M .Words) → R .Belongs o w → (l : M .Lent) → R .Belongs o (M .turned w l)
+    pub turn-told : (o : M .Opening) (w : M .Words) → R .Belongs o w → (l : M .Lent) → Turned o w l (R .act w l)
+    -- report: what is named is what the exits name, and it is reported at least where a turn acts
+    pub outputs-held : (o : M .Opening) (w : M .Words) → R .Belongs o w → OutputsHeld (at o) (R .seen) w
+    pub names-exits : (o : M .Opening) (w : M .Words) → R .Belongs o w → (X : List ℕ) → M .Names w X → Names (at o .settings) (R .seen .standing w) X
+    pub exits-names : (o : M .Opening) (w : M .Words) → R .Belongs o w → (l : M .Lent) (a : Act) → R .act w l ≡ some a → (X : List ℕ) → Names (at o .settings) (R .seen .standing w) X → M .Names w X
+    pub force-held : (o : M .Opening) (w : M .Words) → R .Belongs o w → (X : List ℕ) → M .InForce w X → HeldFrom (at o) (R .seen) w (whole (at o)) (at o .settings .ts) (COMMIT X)

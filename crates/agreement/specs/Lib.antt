@@ -1,0 +1,13 @@
+pub mod Evidence
+pub mod Thresholds
+pub mod Moments
+pub mod History
+pub mod Broadcasts
+pub mod Votes
+pub mod Agreement
+pub mod Runs
+pub mod Calls
+pub mod Laws
+pub mod Openings
+pub mod Lists
+pub mod Demand

@@ -1,0 +1,17 @@
+// The agreement theorem. The functions do nothing: their contracts state what is proved in specs/.
+ghost use Rattle.agreement.specs.Agreement.{Agree, Named, Valid};
+
+// With up to ta liars all sets that exits name or that are in force are one and the same.
+pub fn agreement()
+    ensures { λ _. ⌜ Agree ⌝ }
+{}
+
+// With up to ts liars no set is in force that exits had not named before.
+pub fn named_before()
+    ensures { λ _. ⌜ Named ⌝ }
+{}
+
+// With up to ts liars and equal inputs, only the set of that input is named or in force.
+pub fn validity()
+    ensures { λ _. ⌜ Valid ⌝ }
+{}

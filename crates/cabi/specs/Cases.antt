@@ -1,0 +1,113 @@
+-- The cases of the code, and that a number gives its parts back.
+use Prim.Native.Nat.{ℕ, _+_, _*_, _/_, _%_, _^_, _≤_, _<_}
+use mathlib.Core.Bool.{Bool, true, false, cond}
+use mathlib.Core.List.{List}
+use mathlib.Core.Path.{_≡_, refl, sym, ap, _∙_}
+use native.Mathlib.Omega.{arith}
+use lib.Dec.{ltb}
+use mir.Val.{Fits}
+use mir.Syntax.{w64}
+use Rattle.settings.specs.declared.Settings.{Settings}
+use Rattle.records.specs.Records.{coin}
+use Rattle.acts.specs.declared.Act.{Act}
+use Rattle.acts.specs.declared.Act.the-variants.{Idle, InForce, Commit, Send, Echo, Ready, Start, Relay, Aux, Move}
+use Rattle.votes.specs.Votes.{estimate}
+use Rattle.wire.specs.Message.{lengthOf}
+use Rattle.wire.specs.declared.Message.{Message}
+use Rattle.wire.specs.declared.Message.the-variants as message
+use Rattle.turn.specs.Due.{due}
+use Rattle.turn.specs.Turn.{moveOutcome, outcomeOf, admits, outcomeFor, turnOutcome}
+use Rattle.turn.specs.Told.{ActTold}
+use Rattle.turn.specs.DueLaws.{due-told}
+use Rattle.turn.specs.Admitting.{admitting, admitted-ruled}
+use Rattle.turn.specs.declared.Admitted.{Admitted}
+use Rattle.turn.specs.declared.Admitted.the-variants as admitted
+use Rattle.turn.specs.declared.Outcome.{Outcome}
+use Rattle.turn.specs.declared.Outcome.the-variants as turn
+use Rattle.report.specs.Report.{reportAnswer}
+use Rattle.report.specs.Laws.{reported, turns-few}
+use Rattle.report.specs.declared.Figures.{Figures}
+use Rattle.report.specs.declared.Answer.{Answer}
+use Rattle.report.specs.declared.Answer.the-variants as report
+use Rattle.cabi.specs.Answers.{sentLength, outcomeNumber, figuresNumber, reportNumber}
+
+-- a message that is sent has at most 16 values
+act-few : (own : ℕ) (g : Settings) (s : List ℕ) (a : Act) → ActTold g s a → sentLength (outcomeOf own s a) ≤ 140
+unfolding outcomeOf moveOutcome
+act-few own g s Idle t = omega arith
+act-few own g s InForce t = omega arith
+act-few own g s (Commit k) t = omega (arith, t .few)
+act-few own g s (Send v) t = omega arith
+act-few own g s (Echo i v) t = omega arith
+act-few own g s (Ready i v) t = omega arith
+act-few own g s (Start i b) t = omega arith
+act-few own g s (Relay i r b) t = omega arith
+act-few own g s (Aux i r b) t = omega arith
+act-few own g s (Move i r v) t = go (ltb r 32)
+  where
+    go : (b : Bool) → sentLength (cond b (turn.Sent (message.Est i (r + 1) (estimate (coin s i r) v))) turn.MovedOut) ≤ 140
+    go true = omega arith
+    go false = omega arith
+
+pub sent-few : (s : List ℕ) (room : ℕ) → sentLength (turnOutcome s room) ≤ 140
+unfolding turnOutcome outcomeFor
+sent-few s room = go (admits s room) refl
+  where
+    go : (v : Admitted) → admits s room ≡ v → sentLength (outcomeFor v s) ≤ 140
+    go (admitted.Refused k) e = omega arith
+    go (admitted.Open x) e = act-few (x .own) (x .settings) s (due (x .settings) s) (due-told (x .settings) s (admitted-ruled s room x (admitting s room x e)))
+
+module _ (o : Outcome) (h : sentLength o ≤ 140) (m : Message) (e : o ≡ turn.Sent m) (l : ℕ) (f : l ≡ lengthOf m) where
+  length-few : l ≤ 140
+  length-few = rw f (rw e at h)
+
+  pub shifted-fits : Fits w64 (65536 * l)
+  shifted-fits = record { fits = omega (arith, length-few) }
+
+  pub sum-fits : Fits w64 (256 + 65536 * l)
+  sum-fits = record { fits = omega (arith, length-few) }
+
+  pub sent-number : 256 + 65536 * l ≡ outcomeNumber o
+  sent-number = rw (e, f)
+
+pub ruleset outcome-cases = (shifted-fits, sum-fits, sent-number)
+
+module _ (s : List ℕ) (room : ℕ) (o : Outcome) (e : o ≡ turnOutcome s room) where
+  pub turn-few : sentLength o ≤ 140
+  turn-few = rw e (sent-few s room)
+
+  pub turn-number : (r : ℕ) → r ≡ outcomeNumber o → r ≡ outcomeNumber (turnOutcome s room)
+  turn-number r f = f ∙ ap outcomeNumber e
+
+pub ruleset turn-cases = (turn-few, turn-number)
+
+module _ (s : List ℕ) (x y : ℕ) (a : Answer) (e : a ≡ reportAnswer s x y) where
+  pub report-refused : (k : ℕ) → a ≡ report.Refused k → k ≡ reportNumber (reportAnswer s x y)
+  report-refused k t = rw (← e, t)
+
+  module _ (f : Figures) (t : a ≡ report.Given f) where
+    pub turns-fit : f .turns < 4294967296
+    turns-fit = omega (arith, turns-few s f (reported s x y f (sym e ∙ t)))
+
+    pub report-given : (r : ℕ) → r ≡ figuresNumber f → r ≡ reportNumber (reportAnswer s x y)
+    report-given r q = q ∙ rw (← e, t)
+
+pub ruleset report-cases = (report-refused, turns-fit, report-given)
+
+-- the parts of a report's number
+pub record Parts (f : Figures) (r : ℕ) : Type 0 where
+  pub accepted : r % 2 ^ 8 ≡ 0
+  pub exit : r / 2 ^ 8 % 2 ^ 8 ≡ f .exit
+  pub named : r / 2 ^ 16 % 2 ^ 8 ≡ f .named
+  pub in-force : r / 2 ^ 24 % 2 ^ 8 ≡ f .in_force
+  pub turns : r / 2 ^ 32 ≡ f .turns
+
+pub parts : (f : Figures) → f .exit < 2 ^ 8 → f .named < 2 ^ 8 → f .in_force < 2 ^ 8 → Parts f (figuresNumber f)
+parts f a b c =
+    record {
+      accepted = omega arith;
+      exit = omega arith;
+      named = omega arith;
+      in-force = omega arith;
+      turns = omega arith;
+    }
