@@ -1,181 +1,258 @@
 /*
- * A concentrator's program over the pack agreement engine: it opens a session at n concentrators in one process, moves
- * every message that is sent to all of them, takes turns until nothing is left to do, and prints what came into force.
+ * A concentrator's own program, for trying a session out: it opens the session at all n concentrators in one process,
+ * moves the messages between them, and prints how each ended.
  */
 #include <errno.h>
 #include <inttypes.h>
+#include <stdbool.h>
 #include <stdio.h>
 #include <stdlib.h>
 #include <string.h>
 
 #include "pack_agreement.h"
 
-#define MOST 16
-/* Each of 16 concentrators takes at most 99 * 16 + 3 turns that are not idle. */
-#define MOST_MESSAGES (MOST * (99 * MOST + 3))
+struct options {
+    uint64_t n, ta, ts;
+    uint32_t session, coin;
+    uint64_t inputs[PACK_CONCENTRATORS];
+};
 
 struct message {
-    unsigned sender;
+    uint64_t sender;
     size_t length;
     uint8_t bytes[PACK_MESSAGE_BYTES];
 };
 
-struct feeder {
-    unsigned n;
-    uint64_t states[MOST][PACK_STATE_WORDS];
-    size_t sent;
-    size_t delivered;
-    struct message *messages;
+/* The messages in order of sending; those before `next` have gone to everybody. */
+struct queue {
+    struct message *items;
+    size_t count, capacity, next;
 };
 
-static const char usage[] =
-    "usage: pack_host [N TA TS INPUT...]\n"
-    "  N         number of concentrators, 1 to 16\n"
-    "  TA TS     limits on liars, TA <= TS and 2*TS + TA < N; a TA of 255 is unnamed and is then 0\n"
-    "  INPUT     N pack numbers, decimal or 0x...\n"
-    "Without arguments: four concentrators, TA unnamed, TS 1, all with input 5.\n"
-    "Prints for each concentrator: number, exit, closed (0 or 1), turns, the set in force or -.\n";
+struct concentrator {
+    uint64_t state[PACK_STATE_WORDS];
+    bool closed;
+};
 
-static int number(const char *text, uint64_t *value)
+struct session {
+    struct options options;
+    struct concentrator all[PACK_CONCENTRATORS];
+    struct queue queue;
+};
+
+static const char *const refusal_names[] = {"ACCEPTED", "SETTINGS", "LENGTH", "KIND",     "SESSION", "SENDER",
+                                            "FIELD",    "VALUE",    "SHORT",  "NO STATE", "CLOSED",  "HELD"};
+
+static const char *const usage =
+    "usage: pack_host [-s SESSION] [-c COIN] [N TA TS [INPUT ...]]\n"
+    "\n"
+    "Runs an agreement session of N concentrators, all honest, and prints a line for each, fields parted by tabs:\n"
+    "number, exit (0 for none), closed (0 or 1), turns, the values in force in hexadecimal, or \"-\".\n"
+    "\n"
+    "  N TA TS     the settings (4 - 1); TA as \"-\" is unnamed and then 0\n"
+    "  INPUT       the pack number of each concentrator, N of them (5 for each)\n"
+    "  -s SESSION  the session number, 32 bits (1)\n"
+    "  -c COIN     the coin word of every vote, 32 bits; bit r-1 is the coin of round r (0x55555555)\n"
+    "\n"
+    "Numbers are decimal, or hexadecimal after 0x. The status is 0, or 1 on an error.\n";
+
+/* Prints an error and gives false, for the caller to return. */
+static bool fail(const char *what, const char *about)
 {
-    char *end;
+    fprintf(stderr, "pack_host: %s: %s\n", about, what);
+    return false;
+}
+
+static bool refused(const char *call, uint64_t number, uint64_t answer)
+{
+    unsigned k = pack_refusal_of(answer);
+    const char *name = k < sizeof refusal_names / sizeof *refusal_names ? refusal_names[k] : "unknown";
+    fprintf(stderr, "pack_host: concentrator %" PRIu64 ": %s refused: %u %s\n", number, call, k, name);
+    return false;
+}
+
+/* Reads a number of at most `limit`. */
+static bool read_number(const char *text, uint64_t limit, uint64_t *number)
+{
+    bool hex = text[0] == '0' && (text[1] == 'x' || text[1] == 'X');
+    const char *digits = hex ? text + 2 : text;
+    const char *allowed = hex ? "0123456789abcdefABCDEF" : "0123456789";
+    if (digits[0] == '\0' || digits[strspn(digits, allowed)] != '\0')
+        return fail("not a number", text);
     errno = 0;
-    *value = strtoull(text, &end, 0);
-    return errno == 0 && *text != '\0' && *text != '-' && *end == '\0';
+    unsigned long long value = strtoull(digits, NULL, hex ? 16 : 10);
+    if (errno != 0 || value > limit)
+        return fail("too large", text);
+    *number = value;
+    return true;
 }
 
-/* Opens concentrator p. The coins are a printed table, the same at each of them. */
-static unsigned open_one(struct feeder *feeder, unsigned p, uint64_t ta, uint64_t ts, uint64_t input)
+/* Reads -s and -c; `at` is left at the first argument that is neither. */
+static bool read_flags(int argc, char **argv, int *at, struct options *o)
 {
-    uint32_t coins[MOST];
-    for (uint32_t i = 0; i < MOST; i++)
-        coins[i] = 0x9e3779b9u * (i + 1);
-    return pack_refused(pack_open(feeder->states[p], PACK_STATE_WORDS, feeder->n, ta, ts, p + 1, 1, input, coins,
-                                  feeder->n));
+    while (*at < argc && argv[*at][0] == '-' && argv[*at][1] != '\0') {
+        const char *flag = argv[*at];
+        uint32_t *place = strcmp(flag, "-s") == 0 ? &o->session : strcmp(flag, "-c") == 0 ? &o->coin : NULL;
+        uint64_t value;
+        if (place == NULL)
+            return fail("unknown option, see --help", flag);
+        if (*at + 1 == argc)
+            return fail("a number is missing", flag);
+        if (!read_number(argv[*at + 1], UINT32_MAX, &value))
+            return false;
+        *place = (uint32_t)value;
+        *at += 2;
+    }
+    return true;
 }
 
-/* Takes turns at concentrator p until one is idle, or the session is closed. */
-static int take_turns(struct feeder *feeder, unsigned p)
+/* Reads N TA TS. Whether they are settings of a session is the engine's to say; here N has only to fit the tables. */
+static bool read_settings(char **argv, struct options *o)
 {
-    for (;;) {
-        struct message *next = &feeder->messages[feeder->sent];
-        uint64_t answer = pack_turn(feeder->states[p], PACK_STATE_WORDS, next->bytes, sizeof next->bytes);
-        unsigned refusal = pack_refused(answer);
-        if (refusal == PACK_CLOSED)
-            return 0;
-        if (refusal != PACK_ACCEPTED) {
-            fprintf(stderr, "pack_host: turn of %u refused by %u\n", p + 1, refusal);
-            return -1;
+    if (!read_number(argv[0], UINT64_MAX, &o->n) || !read_number(argv[2], UINT64_MAX, &o->ts))
+        return false;
+    if (o->n < 1 || o->n > PACK_CONCENTRATORS)
+        return fail("N is not 1 to 16", argv[0]);
+    o->ta = PACK_UNNAMED;
+    return strcmp(argv[1], "-") == 0 || read_number(argv[1], UINT64_MAX, &o->ta);
+}
+
+static bool read_options(int argc, char **argv, struct options *o)
+{
+    int at = 1;
+    *o = (struct options){.n = 4, .ta = PACK_UNNAMED, .ts = 1, .session = 1, .coin = 0x55555555};
+    for (size_t i = 0; i < PACK_CONCENTRATORS; i++)
+        o->inputs[i] = 5;
+    if (!read_flags(argc, argv, &at, o))
+        return false;
+    if (at == argc)
+        return true;
+    if (argc - at < 3)
+        return fail("N TA TS wanted, see --help", argv[at]);
+    if (!read_settings(argv + at, o))
+        return false;
+    at += 3;
+    if (at == argc)
+        return true;
+    if ((uint64_t)(argc - at) != o->n)
+        return fail("not as many inputs as concentrators", argv[at]);
+    for (int i = 0; at + i < argc; i++)
+        if (!read_number(argv[at + i], UINT64_MAX, &o->inputs[i]))
+            return false;
+    return true;
+}
+
+static bool open_all(struct session *x)
+{
+    const struct options *o = &x->options;
+    uint32_t coins[PACK_CONCENTRATORS];
+    for (size_t i = 0; i < o->n; i++)
+        coins[i] = o->coin;
+    for (uint64_t p = 1; p <= o->n; p++) {
+        uint64_t answer = pack_open(x->all[p - 1].state, PACK_STATE_WORDS, o->n, o->ta, o->ts, p, o->session,
+                                    o->inputs[p - 1], coins, o->n);
+        if (pack_refusal_of(answer) != PACK_ACCEPTED)
+            return refused("opening", p, answer);
+    }
+    return true;
+}
+
+/* A place for one more message, or NULL. */
+static struct message *next_place(struct queue *q)
+{
+    if (q->count == q->capacity) {
+        size_t capacity = q->capacity == 0 ? 64 : 2 * q->capacity;
+        struct message *items = realloc(q->items, capacity * sizeof *items);
+        if (items == NULL)
+            return NULL;
+        q->items = items;
+        q->capacity = capacity;
+    }
+    return &q->items[q->count];
+}
+
+/* Turns at concentrator p until it is idle or closed; what it sends goes into the queue. */
+static bool take_turns(struct session *x, uint64_t p)
+{
+    struct concentrator *c = &x->all[p - 1];
+    while (!c->closed) {
+        struct message *m = next_place(&x->queue);
+        if (m == NULL)
+            return fail("out of memory", "queue");
+        uint64_t answer = pack_turn(c->state, PACK_STATE_WORDS, m->bytes, sizeof m->bytes);
+        if (pack_refusal_of(answer) != PACK_ACCEPTED)
+            return refused("turn", p, answer);
+        if (pack_outcome_of(answer) == PACK_IDLE)
+            return true;
+        if (pack_outcome_of(answer) == PACK_IN_FORCE)
+            c->closed = true;
+        if (pack_outcome_of(answer) == PACK_SENT) {
+            m->sender = p;
+            m->length = pack_length_of(answer);
+            x->queue.count++;
         }
-        switch (pack_turn_outcome(answer)) {
-        case PACK_IDLE:
-        case PACK_IN_FORCE:
-            return 0;
-        case PACK_SENT:
-            next->sender = p + 1;
-            next->length = pack_turn_length(answer);
-            feeder->sent++;
-            break;
-        default:
-            break;
-        }
     }
+    return true;
 }
 
-/* Delivers the oldest message that is left to every concentrator. A closed one refuses it. */
-static int deliver_next(struct feeder *feeder)
+/* Delivers the next message of the queue to all n; a closed concentrator wants none. */
+static bool deliver_next(struct session *x)
 {
-    const struct message *message = &feeder->messages[feeder->delivered++];
-    for (unsigned p = 0; p < feeder->n; p++) {
-        unsigned refusal = pack_refused(
-            pack_deliver(feeder->states[p], PACK_STATE_WORDS, message->sender, message->bytes, message->length));
-        if (refusal != PACK_ACCEPTED && refusal != PACK_CLOSED) {
-            fprintf(stderr, "pack_host: delivery to %u refused by %u\n", p + 1, refusal);
-            return -1;
-        }
+    const struct message *m = &x->queue.items[x->queue.next++];
+    for (uint64_t p = 1; p <= x->options.n; p++) {
+        struct concentrator *c = &x->all[p - 1];
+        if (c->closed)
+            continue;
+        uint64_t answer = pack_deliver(c->state, PACK_STATE_WORDS, m->sender, m->bytes, m->length);
+        if (pack_refusal_of(answer) != PACK_ACCEPTED)
+            return refused("delivery", p, answer);
     }
-    return 0;
+    return true;
 }
 
-static int run(struct feeder *feeder)
+/* Turns and deliveries until no message is left. */
+static bool run(struct session *x)
 {
-    for (;;) {
-        for (unsigned p = 0; p < feeder->n; p++)
-            if (take_turns(feeder, p) != 0)
-                return -1;
-        if (feeder->delivered == feeder->sent)
-            return 0;
-        if (deliver_next(feeder) != 0)
-            return -1;
-    }
+    do {
+        for (uint64_t p = 1; p <= x->options.n; p++)
+            if (!take_turns(x, p))
+                return false;
+        size_t sent = x->queue.count;
+        if (x->queue.next == sent)
+            return true;
+        while (x->queue.next < sent)
+            if (!deliver_next(x))
+                return false;
+    } while (true);
 }
 
-static int print_one(const struct feeder *feeder, unsigned p)
+static bool print_report(const struct session *x, uint64_t p)
 {
-    uint64_t named[PACK_SET_WORDS];
-    uint64_t in_force[PACK_SET_WORDS];
-    uint64_t answer =
-        pack_report(feeder->states[p], PACK_STATE_WORDS, named, PACK_SET_WORDS, in_force, PACK_SET_WORDS);
-    if (pack_refused(answer) != PACK_ACCEPTED) {
-        fprintf(stderr, "pack_host: report of %u refused by %u\n", p + 1, pack_refused(answer));
-        return -1;
-    }
-    size_t count = pack_report_in_force(answer);
-    printf("%u\t%u\t%d\t%" PRIu32 "\t", p + 1, pack_report_exit(answer), count > 0, pack_report_turns(answer));
-    for (size_t k = 0; k < count; k++)
-        printf("%s%016" PRIx64, k > 0 ? "," : "", in_force[k]);
-    printf("%s\n", count > 0 ? "" : "-");
-    return 0;
-}
-
-/* Opens the feeder of the arguments N TA TS INPUT.., or the one that --help describes. */
-static int open_feeder(struct feeder *feeder, int count, char **words)
-{
-    uint64_t n = 4, ta = PACK_TA_UNNAMED, ts = 1;
-    uint64_t inputs[MOST] = {5, 5, 5, 5};
-    if (count > 0) {
-        int right = count >= 3 && number(words[0], &n) && number(words[1], &ta) && number(words[2], &ts);
-        right = right && n >= 1 && n <= MOST && (uint64_t)count == n + 3;
-        for (uint64_t p = 0; right && p < n; p++)
-            right = number(words[p + 3], &inputs[p]);
-        if (!right) {
-            fputs(usage, stderr);
-            return -1;
-        }
-    }
-    feeder->n = (unsigned)n;
-    for (unsigned p = 0; p < feeder->n; p++) {
-        unsigned refusal = open_one(feeder, p, ta, ts, inputs[p]);
-        if (refusal != PACK_ACCEPTED) {
-            fprintf(stderr, "pack_host: opening refused by %u\n", refusal);
-            return -1;
-        }
-    }
-    return 0;
+    const struct concentrator *c = &x->all[p - 1];
+    uint64_t named[PACK_SET_WORDS], in_force[PACK_SET_WORDS];
+    uint64_t answer = pack_report(c->state, PACK_STATE_WORDS, named, PACK_SET_WORDS, in_force, PACK_SET_WORDS);
+    if (pack_refusal_of(answer) != PACK_ACCEPTED)
+        return refused("report", p, answer);
+    printf("%" PRIu64 "\t%u\t%d\t%" PRIu64 "\t", p, pack_exit_of(answer), c->closed, pack_turns_of(answer));
+    size_t count = pack_in_force_of(answer);
+    for (size_t i = 0; i < count; i++)
+        printf("%s%016" PRIx64, i == 0 ? "" : ",", in_force[i]);
+    puts(count == 0 ? "-" : "");
+    return true;
 }
 
 int main(int argc, char **argv)
 {
-    if (argc > 1 && strcmp(argv[1], "--help") == 0) {
+    static struct session x;
+    if (argc == 2 && strcmp(argv[1], "--help") == 0) {
         fputs(usage, stdout);
         return 0;
     }
-    struct feeder *feeder = calloc(1, sizeof *feeder);
-    /* One place more: a turn writes into the next one. */
-    struct message *messages = calloc(MOST_MESSAGES + 1, sizeof *messages);
-    int status = 1;
-    if (feeder == NULL || messages == NULL) {
-        fputs("pack_host: no memory\n", stderr);
-    } else {
-        feeder->messages = messages;
-        if (open_feeder(feeder, argc - 1, argv + 1) == 0 && run(feeder) == 0) {
-            status = 0;
-            for (unsigned p = 0; p < feeder->n; p++)
-                if (print_one(feeder, p) != 0)
-                    status = 1;
-        }
-    }
-    free(messages);
-    free(feeder);
-    return status;
+    bool done = read_options(argc, argv, &x.options) && open_all(&x) && run(&x);
+    for (uint64_t p = 1; done && p <= x.options.n; p++)
+        done = print_report(&x, p);
+    free(x.queue.items);
+    if (fflush(stdout) != 0)
+        done = fail(strerror(errno), "output");
+    return done ? 0 : 1;
 }

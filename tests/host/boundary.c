@@ -1,0 +1,112 @@
+/* The four calls as C makes them: refusals, null buffers, and what a call leaves alone. */
+#include <stdbool.h>
+#include <stdio.h>
+#include <string.h>
+
+#include "pack_agreement.h"
+
+static int failures;
+
+static void expect(bool held, const char *what)
+{
+    if (!held) {
+        printf("boundary: %s\n", what);
+        failures++;
+    }
+}
+
+static uint64_t state[PACK_STATE_WORDS];
+static const uint32_t coins[PACK_CONCENTRATORS] = {1, 1, 1, 1};
+
+/* Opens concentrator 1 of four in session 7 with input 5. */
+static void open_first(void)
+{
+    memset(state, 0xa5, sizeof state);
+    expect(pack_open(state, PACK_STATE_WORDS, 4, 1, 1, 1, 7, 5, coins, 4) == PACK_ACCEPTED, "opening is accepted");
+}
+
+static void test_opening(void)
+{
+    uint64_t old[PACK_STATE_WORDS];
+    memset(state, 0xa5, sizeof state);
+    memcpy(old, state, sizeof old);
+    expect(pack_open(NULL, 0, 4, 1, 1, 1, 7, 5, coins, 4) == PACK_NO_STATE, "opening, no words");
+    expect(pack_open(state, PACK_STATE_WORDS - 1, 4, 1, 1, 1, 7, 5, coins, 4) == PACK_NO_STATE, "opening, a word short");
+    expect(pack_open(state, PACK_STATE_WORDS, 4, 1, 1, 1, 7, 5, NULL, 0) == PACK_SETTINGS, "opening, no coin words");
+    expect(pack_open(state, PACK_STATE_WORDS, 4, 1, 1, 5, 7, 5, coins, 4) == PACK_SETTINGS, "opening, own above n");
+    expect(pack_open(state, PACK_STATE_WORDS, 4, 1, UINT64_MAX, 1, 7, 5, coins, 4) == PACK_SETTINGS, "opening, huge ts");
+    expect(memcmp(old, state, sizeof old) == 0, "a refused opening leaves the state");
+    expect(pack_open(state, PACK_STATE_WORDS, 4, PACK_UNNAMED, 1, 4, 7, 5, coins, 4) == PACK_ACCEPTED, "opening, ta unnamed");
+}
+
+static void test_turn(void)
+{
+    static const uint8_t send[20] = {1, 1, 1, 1, 0, 1, 0, 0, 0, 0, 0, 7, 0, 0, 0, 0, 0, 0, 0, 5};
+    uint8_t bytes[PACK_MESSAGE_BYTES], old[PACK_MESSAGE_BYTES];
+    memset(bytes, 0xa5, sizeof bytes);
+    memcpy(old, bytes, sizeof old);
+    open_first();
+    expect(pack_turn(state, PACK_STATE_WORDS, NULL, 0) == PACK_SHORT, "turn, no bytes");
+    expect(pack_turn(state, PACK_STATE_WORDS, bytes, 139) == PACK_SHORT, "turn, a byte short");
+    expect(pack_turn(NULL, 0, bytes, 139) == PACK_NO_STATE, "turn, no state before short");
+    expect(memcmp(old, bytes, sizeof old) == 0, "a refused turn leaves the bytes");
+    expect(pack_turn(state, PACK_STATE_WORDS, bytes, sizeof bytes) == (20u << 16 | PACK_SENT << 8), "the first turn sends");
+    expect(memcmp(send, bytes, sizeof send) == 0, "the SEND's bytes");
+    expect(memcmp(old + 20, bytes + 20, sizeof old - 20) == 0, "a turn writes no other bytes");
+    expect(pack_turn(state, PACK_STATE_WORDS, bytes, sizeof bytes) == PACK_IDLE << 8, "the second turn is idle");
+}
+
+/* What a delivery of a 20-byte SEND of concentrator 2 answers with one byte changed. */
+static uint64_t deliver_changed(size_t at, uint8_t value, uint64_t link, size_t length)
+{
+    uint8_t bytes[20] = {1, 1, 2, 2, 0, 1, 0, 0, 0, 0, 0, 7, 0, 0, 0, 0, 0, 0, 0, 6};
+    bytes[at] = value;
+    return pack_deliver(state, PACK_STATE_WORDS, link, bytes, length);
+}
+
+static void test_delivery(void)
+{
+    open_first();
+    expect(pack_deliver(NULL, 0, 2, NULL, 0) == PACK_NO_STATE, "delivery, no state");
+    expect(pack_deliver(state, PACK_STATE_WORDS, 2, NULL, 0) == PACK_LENGTH, "delivery, no bytes");
+    expect(deliver_changed(0, 1, 2, 19) == PACK_LENGTH, "delivery, a byte short");
+    expect(deliver_changed(1, 7, 2, 20) == PACK_KIND, "delivery, kind 7");
+    expect(deliver_changed(11, 8, 2, 20) == PACK_SESSION, "delivery, session 8");
+    expect(deliver_changed(0, 1, 258, 20) == PACK_SENDER, "delivery, link 258");
+    expect(deliver_changed(3, 3, 2, 20) == PACK_FIELD, "delivery, another instance");
+    expect(deliver_changed(0, 1, 2, 20) == PACK_ACCEPTED, "delivery is accepted");
+    expect(deliver_changed(0, 1, 2, 20) == PACK_HELD, "delivery, held");
+}
+
+/* One concentrator alone: five turns, and the set {input} is in force. */
+static void test_session(void)
+{
+    uint8_t bytes[PACK_MESSAGE_BYTES];
+    uint64_t answer, named[PACK_SET_WORDS], in_force[PACK_SET_WORDS + 1];
+    memset(in_force, 0xa5, sizeof in_force);
+    expect(pack_open(state, PACK_STATE_WORDS, 1, 0, 0, 1, 7, UINT64_MAX, coins, 1) == PACK_ACCEPTED, "opening alone");
+    while (pack_refusal_of(answer = pack_turn(state, PACK_STATE_WORDS, bytes, sizeof bytes)) == PACK_ACCEPTED) {
+        if (pack_outcome_of(answer) != PACK_SENT)
+            break;
+        expect(pack_deliver(state, PACK_STATE_WORDS, 1, bytes, pack_length_of(answer)) == PACK_ACCEPTED, "own message");
+    }
+    expect(answer == PACK_IN_FORCE << 8, "the last turn is in force");
+    expect(pack_turn(state, PACK_STATE_WORDS, bytes, 0) == PACK_CLOSED, "turn, closed before short");
+    expect(deliver_changed(0, 1, 2, 20) == PACK_CLOSED, "delivery, closed");
+    expect(pack_report(state, PACK_STATE_WORDS, named, 15, in_force, 16) == PACK_SHORT, "report, a word short");
+    expect(pack_report(state, PACK_STATE_WORDS, named, 16, NULL, 0) == PACK_SHORT, "report, no words in force");
+    expect(pack_report(NULL, 0, NULL, 0, NULL, 0) == PACK_NO_STATE, "report, no state before short");
+    answer = pack_report(state, PACK_STATE_WORDS, named, PACK_SET_WORDS, in_force, PACK_SET_WORDS + 1);
+    expect(answer == ((uint64_t)5 << 32 | 1 << 24 | 1 << 16 | 1 << 8), "the report's answer");
+    expect(named[0] == UINT64_MAX && in_force[0] == UINT64_MAX, "the report's sets");
+    expect(in_force[1] == in_force[PACK_SET_WORDS], "a report writes no other words");
+}
+
+int main(void)
+{
+    test_opening();
+    test_turn();
+    test_delivery();
+    test_session();
+    return failures == 0 ? 0 : 1;
+}
