@@ -37,7 +37,7 @@ pub sound : (W : World) (L : ℕ) → Ruled (W .settings) → L ≤ W .settings 
 sound W L r b f =
     record {
       ruled = r;
-      margin = omega (arith, r .honest, count-everyone (W .settings .n));
+      margin = omega (arith, r .margin, count-everyone (W .settings .n));
       bound = b;
       few = omega arith;
     }

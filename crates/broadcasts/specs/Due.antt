@@ -3,12 +3,9 @@ use Prim.Native.Nat.{ℕ, _≤_}
 use mathlib.Core.Bool.{Bool, true, false, cond}
 use mathlib.Core.List.{List}
 use mathlib.Core.Path.{_≡_, refl}
-use lib.Dec.{eqb}
-use borrow.Author.Tests.{eqb-false}
 use Rattle.settings.specs.declared.Settings.{Settings}
-use Rattle.quorum.specs.Lowest.{lowest, Lowest, lowest-is}
 use Rattle.records.specs.Records.{echoSent, readySent, sendHeld, sendValue}
-use Rattle.acts.specs.Acts.{isDue, actAt, firstAct}
+use Rattle.acts.specs.Choices.{all-first}
 use Rattle.acts.specs.declared.Act.{Act}
 use Rattle.acts.specs.declared.Act.the-variants.{Idle, Echo, Ready}
 use Rattle.broadcasts.specs.Broadcasts.{echoAct, readyDue, readyOf, readyAct, echoRule, readyRule}
@@ -16,17 +13,6 @@ use Rattle.broadcasts.specs.declared.Output.{Output}
 use Rattle.broadcasts.specs.declared.Output.the-variants.{Value, Nothing}
 
 module _ (P : Act → Type 0) where
-  pub first-holds : (f : ℕ → Act) (n : ℕ) → P Idle → ((i : ℕ) → 1 ≤ i → i ≤ n → P (f i)) → P (firstAct f n)
-  unfolding firstAct actAt
-  first-holds f n idle each = go (lowest (λ i. isDue (f i)) n) refl (eqb (lowest (λ i. isDue (f i)) n) 0) refl
-    where
-      at : (p : ℕ) → Lowest (λ i. isDue (f i)) n p → P (f p)
-      at p x = each p (x .low) (x .high)
-
-      go : (p : ℕ) → lowest (λ i. isDue (f i)) n ≡ p → (b : Bool) → eqb p 0 ≡ b → P (cond b Idle (f p))
-      go p e true t = idle
-      go p e false t = at p (lowest-is (λ i. isDue (f i)) n p e (eqb-false p 0 t))
-
   module _ (s : List ℕ) (i : ℕ) (idle : P Idle) where
     pub echo-holds : (echoSent s i ≡ false → sendHeld s i ≡ true → P (Echo i (sendValue s i))) → P (echoAct s i)
     unfolding echoAct
@@ -49,8 +35,8 @@ module _ (P : Act → Type 0) where
   module _ (g : Settings) (s : List ℕ) (idle : P Idle) where
     pub echo-rule-holds : ((i : ℕ) → 1 ≤ i → i ≤ g .n → echoSent s i ≡ false → sendHeld s i ≡ true → P (Echo i (sendValue s i))) → P (echoRule g s)
     unfolding echoRule
-    echo-rule-holds due = first-holds (echoAct s) (g .n) idle (λ i a b. echo-holds s i idle (due i a b))
+    echo-rule-holds due = all-first P (echoAct s) (g .n) idle (λ i a b. echo-holds s i idle (due i a b))
 
     pub ready-rule-holds : ((i v : ℕ) → 1 ≤ i → i ≤ g .n → readySent s i ≡ false → readyDue g s i ≡ Value v → P (Ready i v)) → P (readyRule g s)
     unfolding readyRule
-    ready-rule-holds due = first-holds (readyAct g s) (g .n) idle (λ i a b. ready-holds s i idle g (λ v. due i v a b))
+    ready-rule-holds due = all-first P (readyAct g s) (g .n) idle (λ i a b. ready-holds s i idle g (λ v. due i v a b))

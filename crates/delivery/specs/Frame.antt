@@ -17,9 +17,9 @@ use Rattle.wire.specs.declared.Message.{Message}
 use Rattle.wire.specs.declared.Message.the-variants.{Send, Echo, Ready, Est, Aux, Commit}
 use Rattle.delivery.specs.Delivery.{recorded}
 
--- a message of sender p within the layout
+-- a message of sender p within the layout; "In SEND the instance equals the sender."
 abbrev pub InLayout : ℕ → Message → Type 0
-InLayout p (Send i x) = (1 ≤ p) × (p ≤ 16) × (1 ≤ i) × (i ≤ 16)
+InLayout p (Send i x) = (1 ≤ p) × (p ≤ 16) × (i ≡ p)
 InLayout p (Echo i x) = (1 ≤ p) × (p ≤ 16) × (1 ≤ i) × (i ≤ 16)
 InLayout p (Ready i x) = (1 ≤ p) × (p ≤ 16) × (1 ≤ i) × (i ≤ 16)
 InLayout p (Est i r b) = (1 ≤ p) × (p ≤ 16) × (1 ≤ i) × (i ≤ 16) × (1 ≤ r) × (r ≤ 32) × (b ≤ 1)

@@ -2,3 +2,6 @@ pub mod Delivery
 pub mod Cases
 pub mod Accepting
 pub mod Frame
+pub mod Answers
+pub mod Values
+pub mod Kept

@@ -161,19 +161,19 @@ module _ (g : Settings) (r : Ruled g) (s t : Standing) (c : Compatible (g .n) s 
   case11 : (u v : ℕ) → First g (s .out) u → First g (t .out) v → u ≡ v
   case11 u v x y =
       meets g s t c u v (holding s u) (holding t v) (λ i k. k) (λ i k. k)
-      (omega (arith, r .honest, whole, first-many g s u x, first-many g t v y, total-meet (λ p. 1) (holding s u) (holding t v) (g .n)))
+      (omega (arith, r .margin, whole, first-many g s u x, first-many g t v y, total-meet (λ p. 1) (holding s u) (holding t v) (g .n)))
 
   case12 : (u v : ℕ) → First g (s .out) u → Done g t → Second g (t .out) (t .as1) v → u ≡ v
   case12 u v x d y =
       meets g s t c u v (holding s u) (both t v) (λ i k. k) (λ i k. and-right (t .as1 i) (holding t v i) k)
-      (omega (arith, r .honest, whole, first-many g s u x, second-more g t v y, done-size g t d, total-meet (λ p. 1) (holding s u) (both t v) (g .n)))
+      (omega (arith, r .margin, whole, first-many g s u x, second-more g t v y, done-size g t d, total-meet (λ p. 1) (holding s u) (both t v) (g .n)))
 
   case13 : (u : ℕ) → First g (s .out) u → Done g t → NoMajority g t → Full g t → ⊥
   case13 u x d z f =
       no-majority g t z u
       (omega (
         arith,
-        r .honest,
+        r .margin,
         whole,
         first-many g s u x,
         done-size g t d,

@@ -51,14 +51,14 @@ module _ (g : Settings) (r : Ruled g) (good : ℕ → Bool) (few : count (λ i. 
           }
 
   fair1 : (v : ℕ) → First g (s .out) v → Fair g good s v
-  fair1 v x = fair-holder v (holding s v) (λ i k. k) (omega (arith, r .honest, first-many g s v x))
+  fair1 v x = fair-holder v (holding s v) (λ i k. k) (omega (arith, r .margin, first-many g s v x))
 
   fair2 : (v : ℕ) → Done g s → Second g (s .out) (s .as1) v → Fair g good s v
-  fair2 v d x = fair-holder v (both s v) (λ i k. and-right (s .as1 i) (holding s v i) k) (omega (arith, r .honest, second-more g s v x, done-size g s d))
+  fair2 v d x = fair-holder v (both s v) (λ i k. and-right (s .as1 i) (holding s v i) k) (omega (arith, r .margin, second-more g s v x, done-size g s d))
 
   fair3 : Done g s → Full g s → Witness g good s (outputsOfS (s .out) (s .as1) (g .n))
   fair3 d f =
-      at (total-member (λ p. 1) (λ i. s .as1 i && good i) (g .n) (omega (arith, r .honest, total-meet (λ p. 1) (s .as1) good (g .n), heavy, whole, done-size g s d)))
+      at (total-member (λ p. 1) (λ i. s .as1 i && good i) (g .n) (omega (arith, r .margin, total-meet (λ p. 1) (s .as1) good (g .n), heavy, whole, done-size g s d)))
     where
       at : Member (g .n) (λ i. s .as1 i && good i) → Witness g good s (outputsOfS (s .out) (s .as1) (g .n))
       at m =
@@ -104,7 +104,7 @@ module _ (g : Settings) (r : Ruled g) (good : ℕ → Bool) (few : count (λ i. 
         absurd (no-majority g s z v
         (omega (
           arith,
-          r .honest,
+          r .margin,
           total-meet (λ p. 1) (s .as1) good (g .n),
           total-mono (λ p. 1) (λ i. s .as1 i && good i) (both s v) (g .n) (good-holds f),
           heavy,

@@ -3,3 +3,4 @@ pub mod Layout
 pub mod Records
 pub mod Fill
 pub mod Copy
+pub mod Bounds

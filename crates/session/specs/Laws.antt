@@ -6,11 +6,11 @@ use mathlib.Core.Path.{_≡_, refl, sym, ap, _∙_}
 use native.Mathlib.Omega.{arith}
 use lib.ListN.{length}
 use lib.Dec.{eqb, leb}
-use borrow.Author.Tests.{eqb-true, leb-true}
+use borrow.Author.Tests.{eqb-true, eq-eqb, leb-true, le-leb}
 use Rattle.settings.specs.Bools.{and-left, and-right}
 use Rattle.settings.specs.Settings.{validSettings, turnBound}
-use Rattle.settings.specs.Laws.{Ruled, valid-rules}
-use Rattle.quorum.specs.Every.{every, every-each}
+use Rattle.settings.specs.Laws.{Ruled, valid-rules, rules-valid}
+use Rattle.quorum.specs.Every.{every, every-each, each-every}
 use Rattle.records.specs.Layout.{nAt, taAt, tsAt, ownAt, turnsAt, roundAt, commitCountAt}
 use Rattle.records.specs.Words.{word}
 use Rattle.session.specs.Session.{numbered, roundsRight, commitsRight, numbersRight, settingsOf, isState, sessionWith, sessionOf, stored}
@@ -52,6 +52,19 @@ is-state s e =
       rounds = λ i lo hi. leb-true (word s (roundAt i)) 33 (every-each (λ j. leb (word s (roundAt j)) 33) n (and-right ((low && high) && bound) rounds c) i lo hi);
       counts = λ p lo hi. leb-true (word s (commitCountAt p)) n (every-each (λ j. leb (word s (commitCountAt j)) n) n (and-right ((low && high) && bound && rounds) counts b) p lo hi);
     }
+
+pub state-is : (s : List ℕ) → State s → isState s ≡ true
+unfolding isState numbersRight numbered roundsRight commitsRight settingsOf
+state-is s h =
+    rw (
+      eq-eqb (length s) 2048 (h .size),
+      rules-valid (word s nAt) (word s taAt) (word s tsAt) (h .ruled),
+      le-leb 1 (word s ownAt) (h .own-low),
+      le-leb (word s ownAt) (word s nAt) (h .own-high),
+      le-leb (word s turnsAt) (turnBound (settingsOf s)) (h .turns),
+      each-every (λ i. leb (word s (roundAt i)) 33) (word s nAt) (λ i low high. le-leb (word s (roundAt i)) 33 (h .rounds i low high)),
+      each-every (λ p. leb (word s (commitCountAt p)) (word s nAt)) (word s nAt) (λ p low high. le-leb (word s (commitCountAt p)) (word s nAt) (h .counts p low high)),
+    )
 
 -- a session that is read is that of a state
 pub record Read (s : List ℕ) (x : Session) : Type 0 where

@@ -37,4 +37,4 @@ module _ (n ta ts : ℕ) where
 
   pub taken : 1 ≤ n → n ≤ 16 → ta ≤ ts → 2 * ts + ta < n → Valid (record { n = n; ta = ta; ts = ts }) ≡ checkSettings n ta ts
   unfolding checkSettings
-  taken a b d h = rw (rules-valid n ta ts (record { some = a; few = b; ordered = d; honest = h }))
+  taken a b d h = rw (rules-valid n ta ts (record { some = a; few = b; ordered = d; margin = h }))

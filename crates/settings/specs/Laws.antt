@@ -15,7 +15,7 @@ pub record Rules (n ta ts : ℕ) : Type 0 where
   pub some : 1 ≤ n
   pub few : n ≤ 16
   pub ordered : ta ≤ ts
-  pub honest : 2 * ts + ta < n
+  pub margin : 2 * ts + ta < n
 
 -- settings within the rules
 abbrev pub Ruled : Settings → Type 0
@@ -30,12 +30,12 @@ valid-rules n ta ts e =
       some = leb-true 1 n (and-left (leb 1 n) (leb n 16) range);
       few = leb-true n 16 (and-right (leb 1 n) (leb n 16) range);
       ordered = leb-true ta ts (and-right (leb 1 n && leb n 16) (leb ta ts) first);
-      honest = ltb-true (2 * ts + ta) n (and-right (leb 1 n && leb n 16 && leb ta ts) _ e);
+      margin = ltb-true (2 * ts + ta) n (and-right (leb 1 n && leb n 16 && leb ta ts) _ e);
     }
 
 pub rules-valid : (n ta ts : ℕ) → Rules n ta ts → validSettings n ta ts ≡ true
 unfolding validSettings
-rules-valid n ta ts r = simp (le-leb 1 n (r .some), le-leb n 16 (r .few), le-leb ta ts (r .ordered), lt-ltb (2 * ts + ta) n (r .honest))
+rules-valid n ta ts r = simp (le-leb 1 n (r .some), le-leb n 16 (r .few), le-leb ta ts (r .ordered), lt-ltb (2 * ts + ta) n (r .margin))
 
 -- what `checkSettings` takes, and the settings that it makes
 pub record Taken (n ta ts : ℕ) (g : Settings) : Type 0 where

@@ -23,7 +23,7 @@ use Rattle.broadcasts.specs.Leading.{present}
 use Rattle.broadcasts.specs.Broadcasts.{output, echoRule, readyRule}
 use Rattle.broadcasts.specs.Due.{echo-rule-holds, ready-rule-holds}
 use Rattle.votes.specs.Votes.{votesDecidedOne, voteAct}
-use Rattle.votes.specs.Choices.{all-cond, all-or, all-first}
+use Rattle.acts.specs.Choices.{all-cond, all-or, all-first}
 use Rattle.votes.specs.Told.{StartTold, Told, Among}
 use Rattle.votes.specs.Laws.{vote-told}
 use Rattle.exits.specs.Exits.{Exit, noExit}

@@ -18,7 +18,7 @@ use Rattle.acts.specs.declared.Act.{Act}
 use Rattle.acts.specs.declared.Act.the-variants.{Idle, Start, Relay, Aux, Move}
 use Rattle.votes.specs.Votes.{estCount, accepted, startAct, relayValue, relayRound, relayAct, running, auxValue, auxAct, carriers, view}
 use Rattle.votes.specs.Votes.{moveValue, moveAct, roundAct, voteAct, voteRule}
-use Rattle.votes.specs.Choices.{all-cond, all-or, all-first}
+use Rattle.acts.specs.Choices.{all-cond, all-or, all-first}
 use Rattle.votes.specs.Told.{Told, Among}
 use Rattle.votes.specs.Views.{view-shown}
 

@@ -1,6 +1,5 @@
 pub mod Votes
 pub mod Cases
-pub mod Choices
 pub mod Told
 pub mod Views
 pub mod Laws
