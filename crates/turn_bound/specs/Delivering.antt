@@ -1,0 +1,159 @@
+-- A delivery keeps the words sound, and does not count as a turn.
+use Prim.Native.Nat.{ℕ, _≤_, _<_}
+use mathlib.Core.List.{List}
+use mathlib.Core.Logic.{_≢_, inl, inr}
+use mathlib.Core.Path.{_≡_, refl, ap, _∙_}
+use native.Mathlib.Omega.{arith}
+use native.Mathlib.Decide.{ℕ-discrete}
+use lib.ListN.{length, drop}
+use Rattle.settings.specs.Laws.{Ruled}
+use Rattle.settings.specs.declared.Settings.{Settings}
+use Rattle.quorum.specs.Marks.{mark}
+use Rattle.records.specs.Layout.{ownAt, turnsAt, roundAt, estSentAt, auxSentAt, commitCountAt, commitRowAt}
+use Rattle.records.specs.Words.{word, word-put-same}
+use Rattle.records.specs.Fill.{length-storeOf}
+use Rattle.session.specs.Session.{settingsOf, sessionWith, sessionOf}
+use Rattle.wire.specs.Bytes.{valueAt}
+use Rattle.wire.specs.declared.Message.{Message}
+use Rattle.wire.specs.declared.Message.the-variants.{Send, Echo, Ready, Est, Aux, Commit}
+use Rattle.wire_laws.specs.Laws.{Form}
+use Rattle.wire_laws.specs.Proper.{Layout}
+use Rattle.wire_laws.proofs.Converse.{taken-form}
+use Rattle.delivery.specs.Delivery.{recorded, verdict, wordsAfter, delivered}
+use Rattle.delivery.specs.Frame.{Changed, word-recorded, length-recorded}
+use Rattle.delivery.specs.Accepting.{accepting}
+use Rattle.delivery.specs.declared.Verdict.{Verdict}
+use Rattle.delivery.specs.declared.Verdict.the-variants.{Refused, Accepted}
+use Rattle.turn.specs.Marks.{Keeps}
+use Rattle.turn_bound.specs.Potential.{Grows, potential-grows}
+use Rattle.turn_bound.specs.Rounds.{still, orderly-kept}
+use Rattle.turn_bound.specs.Sound.{Sound}
+
+-- a word of what is held: neither below 72, where the settings and what turns write stand, nor of the ECHOs and READYs sent
+record Held (a : ℕ) : Type 0 where
+  above : 72 ≤ a
+  not-echo : a ≢ 136
+  not-ready : a ≢ 137
+
+-- recording a message writes only words of what is held
+changed-held : (n p : ℕ) (m : Message) (a : ℕ) → n ≤ 16 → 1 ≤ p → p ≤ n → Layout n p m → Changed p m a → Held a
+changed-held n p (Send i x) a f lo hi l (inl e) = record { above = omega arith; not-echo = λ z. omega arith; not-ready = λ z. omega arith }
+changed-held n p (Send i x) a f lo hi l (inr e) = record { above = omega arith; not-echo = λ z. omega arith; not-ready = λ z. omega arith }
+changed-held n p (Echo i x) a f lo hi l (inl e) = record { above = omega arith; not-echo = λ z. omega arith; not-ready = λ z. omega arith }
+changed-held n p (Echo i x) a f lo hi l (inr e) = record { above = omega arith; not-echo = λ z. omega arith; not-ready = λ z. omega arith }
+changed-held n p (Ready i x) a f lo hi l (inl e) = record { above = omega arith; not-echo = λ z. omega arith; not-ready = λ z. omega arith }
+changed-held n p (Ready i x) a f lo hi l (inr e) = record { above = omega arith; not-echo = λ z. omega arith; not-ready = λ z. omega arith }
+changed-held n p (Est i r b) a f lo hi l e = record { above = omega arith; not-echo = λ z. omega arith; not-ready = λ z. omega arith }
+changed-held n p (Aux i r b) a f lo hi l e = record { above = omega arith; not-echo = λ z. omega arith; not-ready = λ z. omega arith }
+changed-held n p (Commit k) a f lo hi l (inl e) = record { above = omega arith; not-echo = λ z. omega arith; not-ready = λ z. omega arith }
+changed-held n p (Commit k) a f lo hi l (inr e) = record { above = omega arith; not-echo = λ z. omega arith; not-ready = λ z. omega arith }
+
+-- a COMMIT that is recorded has at most n values
+module _ (n : ℕ) (few : n ≤ 16) (s v : List ℕ) (size : length s ≡ 2048) (p : ℕ) (low : 1 ≤ p) (high : p ≤ n) where
+  abbrev Counts : List ℕ → Type 0
+  Counts t = (q : ℕ) → 1 ≤ q → q ≤ n → word t (commitCountAt q) ≤ n
+
+  other-count : (m : Message) (q : ℕ) → word s (commitCountAt q) ≤ n → (Changed p m (commitCountAt q) → ⊥) → word (recorded s p m v) (commitCountAt q) ≤ n
+  other-count m q c h = omega (arith, word-recorded s v p m (commitCountAt q) h)
+
+  new-count : (k : ℕ) → word (recorded s p (Commit k) v) (commitCountAt p) ≡ k
+  unfolding recorded
+  new-count k = word-put-same _ (commitCountAt p) k (omega (arith, length-storeOf (valueAt v) (commitRowAt p) s k))
+
+  counts-recorded : (m : Message) → Layout n p m → Counts s → Counts (recorded s p m v)
+  counts-recorded (Send i x) l c q lo hi = other-count (Send i x) q (c q lo hi) no-place
+    where
+      no-place : Changed p (Send i x) (commitCountAt q) → ⊥
+      no-place (inl e) = omega arith
+      no-place (inr e) = omega arith
+  counts-recorded (Echo i x) l c q lo hi = other-count (Echo i x) q (c q lo hi) no-place
+    where
+      no-place : Changed p (Echo i x) (commitCountAt q) → ⊥
+      no-place (inl e) = omega arith
+      no-place (inr e) = omega arith
+  counts-recorded (Ready i x) l c q lo hi = other-count (Ready i x) q (c q lo hi) no-place
+    where
+      no-place : Changed p (Ready i x) (commitCountAt q) → ⊥
+      no-place (inl e) = omega arith
+      no-place (inr e) = omega arith
+  counts-recorded (Est i r b) l c q lo hi = other-count (Est i r b) q (c q lo hi) (λ e. omega arith)
+  counts-recorded (Aux i r b) l c q lo hi = other-count (Aux i r b) q (c q lo hi) (λ e. omega arith)
+  counts-recorded (Commit k) l c q lo hi = at (ℕ-discrete q p)
+    where
+      no-place : q ≢ p → Changed p (Commit k) (commitCountAt q) → ⊥
+      no-place ne (inl e) = ne (omega arith)
+      no-place ne (inr e) = omega arith
+
+      at : Dec (q ≡ p) → word (recorded s p (Commit k) v) (commitCountAt q) ≤ n
+      at (yes e) = rw (e, new-count k) (l .1)
+      at (no ne) = other-count (Commit k) q (c q lo hi) (no-place ne)
+
+-- words that differ only in what is held
+module _ (g : Settings) (ruled : Ruled g) (s t : List ℕ) (same : (a : ℕ) → (Held a → ⊥) → word t a ≡ word s a) where
+  low-same : (a : ℕ) → a < 72 → word t a ≡ word s a
+  low-same a l = same a (λ h. omega arith)
+
+  same-keeps : (k : ℕ) → word t k ≡ word s k → Keeps k s t
+  same-keeps k e p h = ap (λ (w : ℕ). mark w p) e ∙ h
+
+  same-grows : Grows (g .n) s t
+  same-grows =
+      record {
+        flags = same-keeps 7 (low-same 7 (omega arith));
+        echoes = same-keeps 136 (same 136 (λ h. h .not-echo refl));
+        readies = same-keeps 137 (same 137 (λ h. h .not-ready refl));
+        ests = λ i low high. same-keeps (estSentAt i) (low-same (estSentAt i) (omega (arith, ruled .few)));
+        auxs = λ i low high. same-keeps (auxSentAt i) (low-same (auxSentAt i) (omega (arith, ruled .few)));
+        moved-out = λ i low high e. low-same (roundAt i) (omega (arith, ruled .few)) ∙ e;
+      }
+
+  same-settings : settingsOf t ≡ settingsOf s
+  unfolding settingsOf
+  same-settings = rw (low-same 0 (omega arith), low-same 1 (omega arith), low-same 2 (omega arith))
+
+  same-sound : Sound g s → length t ≡ length s → ((p : ℕ) → 1 ≤ p → p ≤ g .n → word t (commitCountAt p) ≤ g .n) → Sound g t
+  same-sound h l c =
+      record {
+        size = l ∙ h .size;
+        settings = same-settings ∙ h .settings;
+        own-low = omega (arith, low-same ownAt (omega arith), h .own-low);
+        own-high = omega (arith, low-same ownAt (omega arith), h .own-high);
+        counts = c;
+        orderly =
+            orderly-kept (g .n) (ruled .few) s t (h .orderly)
+            (still (record { rounds = λ j lo hi. low-same (roundAt j) (omega arith); ests = λ j lo hi. low-same (estSentAt j) (omega arith) }));
+        turns = omega (arith, low-same turnsAt (omega arith), h .turns, potential-grows (g .n) s t same-grows);
+      }
+
+-- what a delivery leaves
+pub record Delivered (g : Settings) (s t : List ℕ) : Type 0 where
+  pub sound : Sound g t
+  pub count : word t turnsAt ≡ word s turnsAt
+
+module _ (g : Settings) (ruled : Ruled g) (s : List ℕ) (h : Sound g s) (link : ℕ) (b : List ℕ) where
+  accepted-sound : (m : Message) → Form (g .n) (sessionOf s .number) link b m → Delivered g s (recorded s link m (drop 12 b))
+  accepted-sound m f =
+      record {
+        sound =
+            same-sound g ruled s (recorded s link m (drop 12 b)) same h (length-recorded s (drop 12 b) link m)
+            (counts-recorded (g .n) (ruled .few) s (drop 12 b) (h .size) link (f .link-low) (f .link-high) m (f .layout) (h .counts));
+        count = same turnsAt (λ x. omega arith);
+      }
+    where
+      same : (a : ℕ) → (Held a → ⊥) → word (recorded s link m (drop 12 b)) a ≡ word s a
+      same a x = word-recorded s (drop 12 b) link m a (λ c. x (changed-held (g .n) link m a (ruled .few) (f .link-low) (f .link-high) (f .layout) c))
+
+  session-settings : sessionOf s .settings ≡ g
+  unfolding sessionOf sessionWith
+  session-settings = h .settings
+
+  of-verdict : (v : Verdict) → verdict s link b ≡ v → Delivered g s (wordsAfter v s link b)
+  unfolding wordsAfter
+  of-verdict (Refused k) e = record { sound = h; count = refl }
+  of-verdict (Accepted m) e =
+      accepted-sound m
+      (taken-form (g .n) (sessionOf s .number) link b m (rw session-settings at (accepting s link b m e .taken)))
+
+  pub delivery-sound : Delivered g s (delivered s link b)
+  unfolding delivered
+  delivery-sound = of-verdict (verdict s link b) refl

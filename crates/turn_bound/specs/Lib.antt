@@ -1,0 +1,10 @@
+pub mod TurnBound
+pub mod Sums
+pub mod Potential
+pub mod Rounds
+pub mod Raising
+pub mod Sound
+pub mod Delivering
+pub mod Turning
+pub mod Opened
+pub mod Count

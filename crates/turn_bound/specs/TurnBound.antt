@@ -1,0 +1,69 @@
+-- The count of turns after an opening, and its bound, as a claim about a whole list of calls at one concentrator.
+use Prim.Native.Nat.{ℕ, _+_, _≤_}
+use mathlib.Core.Bool.{Bool, true, false, cond}
+use mathlib.Core.List.{List, [], _∷_}
+use mathlib.Core.Path.{_≡_}
+use lib.ListN.{length}
+use Rattle.settings.specs.Settings.{namedTa, turnBound}
+use Rattle.settings.specs.declared.Settings.{Settings}
+use Rattle.records.specs.Layout.{turnsAt}
+use Rattle.records.specs.Words.{word}
+use Rattle.session.specs.Session.{isState}
+use Rattle.opening.specs.Opening.{openAnswer, opened}
+use Rattle.delivery.specs.Delivery.{delivered}
+use Rattle.turn.specs.Turn.{turnOutcome, turnWords}
+use Rattle.turn.specs.declared.Outcome.{Outcome}
+use Rattle.report.specs.Report.{reportAnswer}
+use Rattle.report.specs.declared.Figures.{Figures}
+use Rattle.report.specs.declared.Answer.the-variants.{Given}
+use Rattle.turn.specs.declared.Outcome.the-variants.{Refused, Idle, Sent, MovedOut, InForce}
+
+-- a call after the opening: a delivery of any bytes from any link, a turn lent any bytes, or a report
+pub data Step : Type 0 where
+  delivery : ℕ → List ℕ → Step
+  turn : List ℕ → Step
+  report : Step
+
+-- the words after a list of calls, newest first, on the words s; a report writes none of them
+unfoldable pub after : List ℕ → List Step → List ℕ
+after s [] = s
+after s (delivery link b ∷ cs) = delivered (after s cs) link b
+after s (turn out ∷ cs) = turnWords (after s cs) (length out)
+after s (report ∷ cs) = after s cs
+
+-- a turn "that did not answer idle"; one that is refused took no turn
+unfoldable pub acts : Outcome → Bool
+acts (Refused k) = false
+acts Idle = false
+acts (Sent m) = true
+acts MovedOut = true
+acts InForce = true
+
+-- "the number of turns since opening that did not answer idle"
+unfoldable pub acting : List ℕ → List Step → ℕ
+acting s [] = 0
+acting s (delivery link b ∷ cs) = acting s cs
+acting s (turn out ∷ cs) = cond (acts (turnOutcome (after s cs) (length out))) (acting s cs + 1) (acting s cs)
+acting s (report ∷ cs) = acting s cs
+
+-- a report lent 16 words for each set gives the count k
+pub record Reports (w : List ℕ) (k : ℕ) : Type 0 where
+  pub figures : Figures
+  pub given : reportAnswer w 16 16 ≡ Given figures
+  pub count : figures .turns ≡ k
+
+-- what holds after the calls cs in a session of settings g, opened with the words s
+pub record Counted (g : Settings) (s : List ℕ) (cs : List Step) : Type 0 where
+  -- "The count stored and reported is the number of turns since opening that did not answer idle"
+  pub stored : word (after s cs) turnsAt ≡ acting s cs
+  pub reported : Reports (after s cs) (acting s cs)
+  -- "Apart from idle, a session takes at most 99·n+3 turns, whatever was delivered."
+  pub bounded : acting s cs ≤ turnBound g
+  -- so no call after an accepted opening makes the words "9 NO STATE"
+  pub state : isState (after s cs) ≡ true
+
+-- for every accepted opening of any buffer and every list of calls after it
+unfoldable pub TurnCount : Type 0
+TurnCount =
+    (s coins : List ℕ) (n ta ts own session input : ℕ) → openAnswer (length s) n ta ts own (length coins) ≡ 0 →
+    (cs : List Step) → Counted (record { n = n; ta = namedTa ta; ts = ts }) (opened s n ta ts own session input coins) cs
