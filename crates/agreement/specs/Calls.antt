@@ -1,12 +1,28 @@
--- Demand 3 as claims about a whole list of calls at the honest concentrators, for any machine: "The list behind demand 3".
--- specs/Laws.antt says which laws a machine must keep, and specs/Demand.antt shows the claims of each that keeps them.
-use Prim.Native.Nat.{ℕ, _≤_}
+-- Demand 3 as claims about a whole list of calls at the honest concentrators: "The list behind demand 3". The claims are made of any
+-- machine, then of the engine, whose four calls are those that the contracts of the code cite.
+use Prim.Native.Nat.{ℕ, _≤_, _<_, _^_}
 use mathlib.Core.Bool.{Bool, true, false, cond}
 use mathlib.Core.List.{List, [], _∷_}
-use mathlib.Core.Logic.{_⊎_}
+use mathlib.Core.Logic.{_⊎_, _≢_}
 use mathlib.Core.Path.{_≡_}
 use lib.Dec.{eqb}
+use lib.ListN.{length, take}
+use Rattle.settings.specs.Settings.{namedTa}
 use Rattle.settings.specs.declared.Settings.{Settings}
+use Rattle.quorum.specs.Marks.{mark}
+use Rattle.records.specs.Words.{word}
+use Rattle.wire.specs.Message.{lengthOf}
+use Rattle.wire.specs.declared.Message as wire
+use Rattle.wire_laws.specs.Proper.{AllBytes}
+use Rattle.opening.specs.Opening.{openAnswer, coinWord}
+use Rattle.opening.specs.Opening as opening-words
+use Rattle.delivery.specs.Delivery.{deliverAnswer}
+use Rattle.delivery.specs.Delivery as delivery-words
+use Rattle.turn.specs.Turn.{turnOutcome, turnWords, turnBytes}
+use Rattle.turn.specs.declared.Outcome.the-variants as outcome
+use Rattle.report.specs.Report.{reportAnswer, reportNamed, reportInForce}
+use Rattle.report.specs.declared.Figures.{Figures}
+use Rattle.report.specs.declared.Answer.the-variants as answer
 use Rattle.agreement.specs.Evidence.{World, liars, Honest}
 use Rattle.agreement.specs.Moments.{Within, Before}
 
@@ -34,6 +50,8 @@ pub record Machine : Type 1 where
   pub Lent : Type 0
   pub Sends : Words → Lent → Bytes → Type 0
   pub turned : Words → Lent → Words
+  -- what a report is lent; it changes no words of the state
+  pub LentSets : Type 0
   -- "a report lent 16 words for each set would give the set as the exits', or as in force"
   pub Names : Words → List ℕ → Type 0
   pub InForce : Words → List ℕ → Type 0
@@ -44,7 +62,7 @@ pub data Call (M : Machine) : Type 0 where
   opening : ℕ → M .Opening → Call M
   delivery : ℕ → ℕ → M .Bytes → Call M
   turn : ℕ → M .Lent → Call M
-  report : ℕ → Call M
+  report : ℕ → M .LentSets → Call M
 
 -- the session, and who is honest in it
 abbrev pub world : (M : Machine) → M .Session → (ℕ → Bool) → World
@@ -56,14 +74,14 @@ module _ (M : Machine) where
   place (opening p o) = p
   place (delivery p m b) = p
   place (turn p l) = p
-  place (report p) = p
+  place (report p r) = p
 
   -- the words that a call leaves there
   abbrev pub left : Call M → M .Words → M .Words
   left (opening p o) w = M .opened w o
   left (delivery p m b) w = M .delivered w m b
   left (turn p l) w = M .turned w l
-  left (report p) w = w
+  left (report p r) w = w
 
   -- a set is named or in force
   abbrev pub Shows : M .Words → List ℕ → Type 0
@@ -153,3 +171,85 @@ pub record DemandThree (M : Machine) : Type 0 where
   pub one-set : OneSet M
   pub named-first : NamedFirst M
   pub only-input : OnlyInput M
+
+-- ---- the engine
+
+-- the arguments of an opening: the code takes 32 bits for the session number and each coin word, and 64 for the own input
+pub record Arguments : Type 0 where
+  pub n : ℕ
+  pub ta : ℕ
+  pub ts : ℕ
+  pub own : ℕ
+  pub session : ℕ
+  pub input : ℕ
+  pub coins : List ℕ
+  pub session-fits : session < 2 ^ 32
+  pub input-fits : input < 2 ^ 64
+  pub coins-fit : (i : ℕ) → word coins i < 2 ^ 32
+
+-- "All these openings agree in n, ts, session number, coin words, and ta once 255 is read."
+pub record Agreed : Type 0 where
+  pub settings : Settings
+  pub number : ℕ
+  pub coins : List ℕ
+
+abbrev pub agreed : Arguments → Agreed
+agreed o =
+    record { settings = record { n = o .n; ta = namedTa (o .ta); ts = o .ts }; number = o .session; coins = o .coins }
+
+pub record Bytes : Type 0 where
+  pub list : List ℕ
+  pub each : AllBytes list
+
+-- a turn lent the bytes `lent` answers that a message is sent, and b are its bytes
+pub record SendsBytes (w lent : List ℕ) (b : Bytes) : Type 0 where
+  pub message : wire.Message
+  pub outcome : turnOutcome w (length lent) ≡ outcome.Sent message
+  pub bytes : b .list ≡ take (lengthOf message) (turnBytes w lent)
+
+-- "a report lent 16 words for each set would give the set as the exits'"
+pub record ReportNames (w X : List ℕ) : Type 0 where
+  pub lent : List ℕ
+  pub room : length lent ≡ 16
+  pub figures : Figures
+  pub given : reportAnswer w 16 16 ≡ answer.Given figures
+  pub exit : figures .exit ≢ 0
+  pub set : X ≡ take (figures .named) (reportNamed w lent 16)
+
+-- ".. or as in force"
+pub record ReportEnforces (w X : List ℕ) : Type 0 where
+  pub lent : List ℕ
+  pub room : length lent ≡ 16
+  pub figures : Figures
+  pub given : reportAnswer w 16 16 ≡ answer.Given figures
+  pub some : figures .in_force ≢ 0
+  pub set : X ≡ take (figures .in_force) (reportInForce w 16 lent)
+
+-- the four calls, by the definitions that their contracts cite; a buffer holds any numbers
+abbrev pub engine : Machine
+engine =
+    record {
+      Words = List ℕ;
+      Opening = Arguments;
+      own = λ o. o .own;
+      input = λ o. o .input;
+      Session = Agreed;
+      session = agreed;
+      settings = λ S. S .settings;
+      coin = λ S i r. mark (coinWord (S .coins) i) r;
+      opens = λ w o. eqb (openAnswer (length w) (o .n) (o .ta) (o .ts) (o .own) (length (o .coins))) 0;
+      opened = λ w o. opening-words.opened w (o .n) (o .ta) (o .ts) (o .own) (o .session) (o .input) (o .coins);
+      Bytes = Bytes;
+      accepts = λ w m b. eqb (deliverAnswer w m (b .list)) 0;
+      delivered = λ w m b. delivery-words.delivered w m (b .list);
+      Lent = List ℕ;
+      Sends = SendsBytes;
+      turned = λ w lent. turnWords w (length lent);
+      LentSets = List ℕ × List ℕ;
+      Names = ReportNames;
+      InForce = ReportEnforces;
+    }
+
+-- demand 3 of the engine
+abbrev pub EngineAgrees : Type 0
+EngineAgrees = DemandThree engine

@@ -11,3 +11,16 @@ pub mod Laws
 pub mod Openings
 pub mod Lists
 pub mod Demand
+pub mod EngineSeen
+pub mod EngineReading
+pub mod EngineOpening
+pub mod EngineColumns
+pub mod EngineHeld
+pub mod EngineDelivery
+pub mod EngineKept
+pub mod EngineDue
+pub mod EngineActed
+pub mod EngineSent
+pub mod EngineTurn
+pub mod EngineReport
+pub mod EngineDemand

@@ -207,7 +207,7 @@ module _ (M : Machine) (R : Reading M) (H : ℕ → Bool) (laws : Laws M R H) (s
     placed (opening p o) c = placed-opening p o c
     placed (delivery p m b) c = placed-delivery p m b c
     placed (turn p l) c = placed-turn p l
-    placed (report p) c = record { lawful = good-now .lawful; at = good-now .each p }
+    placed (report p r) c = record { lawful = good-now .lawful; at = good-now .each p }
 
     step : (c : Call M) → Conditions M start S H (c ∷ cs) → Good (c ∷ cs)
     unfolding status history words

@@ -21,7 +21,7 @@ module _ (M : Machine) (R : Reading M) where
   becomes (opening p o) w st = cond (eqb (M .own o) p && M .opens w o) (some o) st
   becomes (delivery p m b) w st = st
   becomes (turn p l) w st = st
-  becomes (report p) w st = st
+  becomes (report p r) w st = st
 
   -- the act of a call: only the turns of an opened one count
   abbrev pub did : Call M → M .Words → Option (M .Opening) → Option Act
@@ -29,7 +29,7 @@ module _ (M : Machine) (R : Reading M) where
   did (delivery p m b) w st = none
   did (turn p l) w none = none
   did (turn p l) w (some o) = R .act w l
-  did (report p) w st = none
+  did (report p r) w st = none
 
   abbrev pub tell : ℕ → Option Act → History → History
   tell p none h = h
@@ -63,7 +63,7 @@ module _ (M : Machine) (R : Reading M) (start : ℕ → M .Words) where
       call (opening q o) w u = opened-or-not (eqb (M .own o) q && M .opens w o) o u
       call (delivery q m b) w u = (u, refl)
       call (turn q l) w u = (u, refl)
-      call (report q) w u = (u, refl)
+      call (report q r) w u = (u, refl)
 
       at : (b : Bool) → eqb p (place M c) ≡ b → Known (c ∷ cs) p
       at true e =
@@ -116,7 +116,7 @@ module _ (M : Machine) (R : Reading M) (start : ℕ → M .Words) where
       call (opening q u) t s f rest = opens q u s t (eqb (M .own u) q) (M .opens (words M start cs p) u) refl refl f rest
       call (delivery q m b) t s f rest = rest f
       call (turn q l) t s f rest = rest f
-      call (report q) t s f rest = rest f
+      call (report q r) t s f rest = rest f
 
       at : (b : Bool) → eqb p (place M c) ≡ b → cond b (becomes M R c (words M start cs p) (status cs p)) (status cs p) ≡ some o → (status cs p ≡ some o → OpenedBy (c ∷ cs) p o) → OpenedBy (c ∷ cs) p o
       at true x f rest = call c refl (eqb-true p (place M c) x) f rest
@@ -134,4 +134,4 @@ module _ (M : Machine) (R : Reading M) (start : ℕ → M .Words) where
   did-turn (delivery p m b) w st a e = absurd (none-some a e)
   did-turn (turn p l) w none a e = absurd (none-some a e)
   did-turn (turn p l) w (some o) a e = record { lent = l; by-opening = o; known = refl; acts = e }
-  did-turn (report p) w st a e = absurd (none-some a e)
+  did-turn (report p r) w st a e = absurd (none-some a e)

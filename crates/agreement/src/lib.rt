@@ -1,5 +1,13 @@
-// The agreement theorem. The functions do nothing: their contracts state what is proved in specs/.
+// Demand 3. The functions do nothing: their contracts state what is proved in specs/.
 ghost use Rattle.agreement.specs.Agreement.{Agree, Named, Valid};
+ghost use Rattle.agreement.specs.Calls.{EngineAgrees};
+
+// Demand 3 of the engine, all of it: specs/Calls.antt states it of whole lists of calls.
+pub fn demand_three()
+    ensures { λ _. ⌜ EngineAgrees ⌝ }
+{}
+
+// The theory behind it, of lawful histories.
 
 // With up to ta liars all sets that exits name or that are in force are one and the same.
 pub fn agreement()

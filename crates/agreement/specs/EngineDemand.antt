@@ -1,0 +1,32 @@
+-- The engine keeps the laws, so demand 3 holds of it.
+use Prim.Native.Nat.{ℕ}
+use mathlib.Core.Bool.{Bool}
+use Rattle.agreement.specs.Calls.{engine, EngineAgrees}
+use Rattle.agreement.specs.Laws.{Laws}
+use Rattle.agreement.specs.Demand.{demand-three}
+use Rattle.agreement.specs.EngineReading.{engineReading}
+use Rattle.agreement.specs.EngineOpening.{open-ruled, open-belongs, open-blank, open-refused}
+use Rattle.agreement.specs.EngineDelivery.{deliver-refused, deliver-accepted, says-one}
+use Rattle.agreement.specs.EngineTurn.{turn-belongs, turn-told}
+use Rattle.agreement.specs.EngineReport.{outputs-have-readies, names-exits, exits-names, force-held}
+
+engine-laws : (H : ℕ → Bool) → Laws engine engineReading H
+engine-laws H =
+    record {
+      open-ruled = open-ruled;
+      open-belongs = open-belongs;
+      open-blank = open-blank H;
+      open-refused = open-refused;
+      deliver-refused = deliver-refused;
+      deliver-accepted = deliver-accepted H;
+      says-one = says-one;
+      turn-belongs = λ o w x lent. turn-belongs o w x lent;
+      turn-told = λ o w x lent. turn-told o w x lent H;
+      outputs-held = λ o w x. outputs-have-readies o H w (x .words);
+      names-exits = λ o w x. names-exits o H w (x .words);
+      exits-names = λ o w x. exits-names o H w (x .words);
+      force-held = λ o w x. force-held o H w (x .words);
+    }
+
+pub engine-agrees : EngineAgrees
+engine-agrees = demand-three engine engineReading engine-laws

@@ -1,0 +1,155 @@
+-- What a turn leaves as it was: all that is held, and the session that the words belong to.
+use Prim.Native.Nat.{ℕ, _+_, _*_, _≤_, _<_, _^_}
+use mathlib.Core.Bool.{Bool, true, false, cond}
+use mathlib.Core.List.{List}
+use mathlib.Core.Path.{_≡_, refl, sym, ap, _∙_}
+use native.Mathlib.Omega.{arith}
+use lib.Dec.{eqb, ltb}
+use lib.ListN.{length}
+use Rattle.settings.specs.Settings.{roundLimit}
+use Rattle.settings.specs.Laws.{Ruled}
+use Rattle.settings.specs.declared.Settings.{Settings}
+use Rattle.quorum.specs.Marks.{mark}
+use Rattle.records.specs.Layout.{turnsAt, roundAt, estSentAt, estSentMark, decidedZeroAt, decidedOneAt}
+use Rattle.records.specs.Words.{word, put, marked, setMark}
+use Rattle.records.specs.Records.{sendHeld, sendValue, echoHeld, echoValue, readyHeld, readyValue, estHeld, auxHeld, commitCount, commitValue, commitSet, coin}
+use Rattle.records.specs.Bounds.{Fit, fit-put, fit-setMark}
+use Rattle.commits.specs.Commits.{commitHeld}
+use Rattle.commits.specs.Sets.{set-agree}
+use Rattle.acts.specs.Acts.{isDue}
+use Rattle.acts.specs.declared.Act as acts
+use Rattle.acts.specs.declared.Act.the-variants.{Idle, InForce, Commit, Send, Echo, Ready, Start, Relay, Aux, Move}
+use Rattle.acts.specs.declared.View.{View}
+use Rattle.votes.specs.Votes.{estimate}
+use Rattle.turn.specs.Turn.{counted, entered, decidedAs, newDecision, moveDecided, moved, applied}
+use Rattle.turn.specs.Turn as turn
+use Rattle.turn.specs.Told.{ActTold}
+use Rattle.turn.specs.Frame.{Placed, told-placed, Kept, setting, coins, held, beyond, length-applied, applied-kept}
+use Rattle.agreement.specs.Runs.{Message, SEND, ECHO, READY, EST, AUX, COMMIT}
+use Rattle.agreement.specs.Calls.{Arguments}
+use Rattle.agreement.specs.EngineSeen.{Numbered, Voting, Valued, Cast, Committed, holds}
+use Rattle.agreement.specs.EngineReading.{Belongs}
+
+-- ---- what is held stays
+
+module _ (s t : List ℕ) (size : length s ≡ 2048) (sizes : length t ≡ length s) (same : (j : ℕ) → Kept j → word t j ≡ word s j) where
+  mark-back : (j p : ℕ) → Kept j → marked t j p ≡ true → marked s j p ≡ true
+  unfolding marked
+  mark-back j p k e = ap (λ (w : ℕ). mark w p) (sym (same j k)) ∙ e
+
+  pub count-back : (m : ℕ) → 1 ≤ m → m ≤ 16 → commitCount t m ≡ commitCount s m
+  unfolding commitCount
+  count-back m low high = rw (same (119 + m) (held (omega arith) (omega arith)))
+
+  value-back : (m k : ℕ) → commitValue t m k ≡ commitValue s m k
+  unfolding commitValue
+  value-back m k = same (751 + 16 * m + k) (beyond (omega arith))
+
+  pub set-back : (m : ℕ) → 1 ≤ m → m ≤ 16 → commitSet t m ≡ commitSet s m
+  set-back m low high = set-agree s t m m size (sizes ∙ size) high high (count-back m low high) (λ k lo hi. value-back m k)
+
+  commit-back : (m : ℕ) → 1 ≤ m → m ≤ 16 → (X : List ℕ) → Committed (commitHeld t m ≡ true) (commitSet t m) X → Committed (commitHeld s m ≡ true) (commitSet s m) X
+  unfolding commitHeld
+  commit-back m low high X h =
+      record { there = rw (← count-back m low high) (h .there); same = sym (set-back m low high) ∙ h .same }
+
+  pub held-back : (m : ℕ) (x : Message) → 1 ≤ m → m ≤ 16 → holds t m x → holds s m x
+  unfolding sendHeld sendValue echoHeld echoValue readyHeld readyValue estHeld auxHeld
+  held-back m (SEND v) low high h =
+      record { instance = h .instance; there = mark-back 140 m (beyond (omega arith)) (h .there); same = sym (same (71 + m) (held (omega arith) (omega arith))) ∙ h .same }
+  held-back m (ECHO i v) low high h =
+      let n : Numbered i = h .instance in
+      record { instance = n; there = mark-back (87 + i) m (held (omega (arith, n .low)) (omega (arith, n .high))) (h .there); same = sym (same (239 + 16 * i + m) (beyond (omega arith))) ∙ h .same }
+  held-back m (READY i v) low high h =
+      let n : Numbered i = h .instance in
+      record { instance = n; there = mark-back (103 + i) m (held (omega (arith, n .low)) (omega (arith, n .high))) (h .there); same = sym (same (495 + 16 * i + m) (beyond (omega arith))) ∙ h .same }
+  held-back m (EST i r b) low high h = record { vote = h .vote; there = mark-back (991 + 32 * i + r) (16 * b + m) (beyond (omega arith)) (h .there) }
+  held-back m (AUX i r b) low high h = record { vote = h .vote; there = mark-back (991 + 32 * i + r) (32 + 16 * b + m) (beyond (omega arith)) (h .there) }
+  held-back m (COMMIT X) low high h = commit-back m low high X h
+
+-- ---- the words belong to the session still
+
+fit-entered : (s : List ℕ) (i r b : ℕ) → Fit s → r ≤ 33 → Fit (entered s i r b)
+unfolding entered
+fit-entered s i r b f h = go (ltb roundLimit r)
+  where
+    at-round : Fit (put s (roundAt i) r)
+    at-round = fit-put s (roundAt i) r f (omega arith)
+
+    go : (t : Bool) → Fit (cond t (put s (roundAt i) r) (setMark (put s (roundAt i) r) (estSentAt i) (estSentMark r b)))
+    go true = at-round
+    go false = fit-setMark (put s (roundAt i) r) (estSentAt i) (estSentMark r b) at-round
+
+fit-decided : (s : List ℕ) (i r : ℕ) (v : View) → Fit s → Fit (moveDecided s i r v)
+unfolding moveDecided decidedAs
+fit-decided s i r v f = go (newDecision s i r v)
+  where
+    go : (t : Bool) → Fit (cond t (setMark s (cond (eqb (estimate (coin s i r) v) 0) decidedZeroAt decidedOneAt) i) s)
+    go true = fit-setMark s (cond (eqb (estimate (coin s i r) v) 0) decidedZeroAt decidedOneAt) i f
+    go false = f
+
+-- rounds end at 33
+abbrev Ended : acts.Act → Type 0
+Ended Idle = Unit {0}
+Ended InForce = Unit {0}
+Ended (Commit k) = Unit {0}
+Ended (Send v) = Unit {0}
+Ended (Echo i v) = Unit {0}
+Ended (Ready i v) = Unit {0}
+Ended (Start i b) = Unit {0}
+Ended (Relay i r b) = Unit {0}
+Ended (Aux i r b) = Unit {0}
+Ended (Move i r v) = r ≤ 32
+
+told-ended : (g : Settings) (s : List ℕ) (a : acts.Act) → ActTold g s a → Ended a
+told-ended g s Idle x = tt
+told-ended g s InForce x = tt
+told-ended g s (Commit k) x = tt
+told-ended g s (Send v) x = tt
+told-ended g s (Echo i v) x = tt
+told-ended g s (Ready i v) x = tt
+told-ended g s (Start i b) x = tt
+told-ended g s (Relay i r b) x = tt
+told-ended g s (Aux i r b) x = tt
+told-ended g s (Move i r v) x = x .1 .high
+
+fit-marked : (s : List ℕ) (a : acts.Act) → Ended a → Fit s → Fit (turn.marked s a)
+unfolding turn.marked moved
+fit-marked s Idle e f = f
+fit-marked s InForce e f = fit-setMark s _ _ f
+fit-marked s (Commit k) e f = fit-setMark s _ _ f
+fit-marked s (Send v) e f = fit-setMark s _ _ f
+fit-marked s (Echo i v) e f = fit-setMark s _ _ f
+fit-marked s (Ready i v) e f = fit-setMark s _ _ f
+fit-marked s (Start i b) e f = fit-entered s i 1 b f (omega arith)
+fit-marked s (Relay i r b) e f = fit-setMark s _ _ f
+fit-marked s (Aux i r b) e f = fit-setMark s _ _ f
+fit-marked s (Move i r v) e f = fit-entered (moveDecided s i r v) i (r + 1) (estimate (coin s i r) v) (fit-decided s i r v f) (omega arith)
+
+fit-applied : (s : List ℕ) (a : acts.Act) → Ended a → word s turnsAt ≤ 65535 → Fit s → Fit (applied s a)
+unfolding applied counted
+fit-applied s a e few f = go (isDue a)
+  where
+    go : (b : Bool) → Fit (cond b (turn.marked (put s turnsAt (word s turnsAt + 1)) a) s)
+    go true = fit-marked (put s turnsAt (word s turnsAt + 1)) a e (fit-put s turnsAt (word s turnsAt + 1) f (omega arith))
+    go false = f
+
+pub belongs-applied : (o : Arguments) (g : Settings) (w : List ℕ) → Belongs o w → Ruled g → (a : acts.Act) → ActTold g w a → word w turnsAt ≤ 65535 → Belongs o (applied w a)
+belongs-applied o g w x ruled a told few = of (told-placed g w ruled a told)
+  where
+    of : Placed a → Belongs o (applied w a)
+    of p =
+        record {
+          ruled = x .ruled;
+          own-low = x .own-low;
+          own-high = x .own-high;
+          size = length-applied w a ∙ x .size;
+          is-n = applied-kept w a p 0 (setting (omega arith)) ∙ x .is-n;
+          is-ta = applied-kept w a p 1 (setting (omega arith)) ∙ x .is-ta;
+          is-ts = applied-kept w a p 2 (setting (omega arith)) ∙ x .is-ts;
+          is-own = applied-kept w a p 3 (setting (omega arith)) ∙ x .is-own;
+          is-session = applied-kept w a p 4 (setting (omega arith)) ∙ x .is-session;
+          is-input = applied-kept w a p 5 (setting (omega arith)) ∙ x .is-input;
+          is-coin = λ i low high. applied-kept w a p (7 + i) (coins (omega arith) (omega (arith, x .ruled .few))) ∙ x .is-coin i low high;
+          fits = fit-applied w a (told-ended g w a told) few (x .fits);
+        }

@@ -1,0 +1,162 @@
+-- The laws of a turn, of the engine.
+use Prim.Native.Nat.{ℕ, _≤_, _<_, _^_, _%_}
+use mathlib.Core.Bool.{Bool, true}
+use mathlib.Core.List.{List}
+use mathlib.Core.Option.{Option, none, some}
+use mathlib.Core.Path.{_≡_, refl, sym, ap, subst, _∙_}
+use native.Mathlib.Omega.{arith}
+use lib.ListN.{length}
+use Rattle.settings.specs.Laws.{Ruled}
+use Rattle.settings.specs.declared.Settings.{Settings}
+use Rattle.acts.specs.declared.Act as acts
+use Rattle.acts.specs.declared.Act.the-variants as act
+use Rattle.acts.specs.declared.View.{View}
+use Rattle.wire.specs.declared.Message as wire
+use Rattle.session.specs.Session.{settingsOf, sessionWith, sessionOf}
+use Rattle.session.specs.declared.Session.{Session}
+use Rattle.turn.specs.Due.{due}
+use Rattle.turn.specs.DueLaws.{due-told}
+use Rattle.turn.specs.Turn.{applied, admits, outcomeFor, wordsFor, bytesFor, turnOutcome, turnWords, turnBytes}
+use Rattle.turn.specs.Told.{ActTold}
+use Rattle.turn.specs.Admitting.{Admitting, admitting, admitted-ruled, admitted-turns}
+use Rattle.turn.specs.Frame.{told-placed, length-applied, applied-kept}
+use Rattle.turn.specs.Laws.{Taken}
+use Rattle.turn.specs.declared.Admitted.{Admitted}
+use Rattle.turn.specs.declared.Admitted.the-variants as admitted
+use Rattle.turn.specs.declared.Outcome.{Outcome}
+use Rattle.turn.specs.declared.Outcome.the-variants as outcome
+use Rattle.agreement.specs.Evidence.{World}
+use Rattle.agreement.specs.History.{Act, send}
+use Rattle.agreement.specs.Runs.{Kept}
+use Rattle.agreement.specs.Calls.{Arguments, agreed, Bytes, SendsBytes, engine, world}
+use Rattle.agreement.specs.Laws.{Quiet, Active, Turned}
+use Rattle.agreement.specs.EngineSeen.{engineSeen}
+use Rattle.agreement.specs.EngineReading.{Belongs, Sets, Belonging, shownAct, admittedAct, actOf, engineReading}
+use Rattle.agreement.specs.EngineKept.{belongs-applied, count-back, set-back}
+use Rattle.agreement.specs.EngineDue.{ShownDue, shown-due}
+use Rattle.agreement.specs.EngineActed.{unchanged, kept-by, ShownActed, shown-acted}
+use Rattle.agreement.specs.EngineSent.{silent, shown-says}
+
+module _ (o : Arguments) (w : List ℕ) (x : Belongs o w) where
+  abbrev pub session : Session
+  session = record { settings = agreed o .settings; own = o .own; number = o .session }
+
+  pub settings-same : settingsOf w ≡ agreed o .settings
+  unfolding settingsOf
+  settings-same = rw (x .is-n, x .is-ta, x .is-ts)
+
+  session-same : sessionOf w ≡ session
+  unfolding sessionOf sessionWith
+  session-same = rw (settings-same, x .is-own, x .is-session, short (o .session) (o .session-fits))
+    where
+      short : (k : ℕ) → k < 2 ^ 32 → k % 2 ^ 32 ≡ k
+      short k h = omega arith
+
+  -- a turn that is admitted is one of the session
+  module _ (lent : List ℕ) where
+    taken-as : (y : Session) → admits w (length lent) ≡ admitted.Open y → Taken w lent y
+    unfolding turnOutcome outcomeFor turnWords wordsFor turnBytes bytesFor
+    taken-as y e =
+        let h : Admitting w (length lent) y = admitting w (length lent) y e in
+        record { admits = h; told = due-told (y .settings) w (admitted-ruled w (length lent) y h); answer = rw e; words = rw e; bytes = rw e }
+
+    pub taken-session : (y : Session) → admits w (length lent) ≡ admitted.Open y → y ≡ session
+    taken-session y e = admitting w (length lent) y e .same ∙ session-same
+
+    taken : (y : Session) → admits w (length lent) ≡ admitted.Open y → Taken w lent session
+    taken y e = subst (Taken w lent) (taken-session y e) (taken-as y e)
+
+    refused-words : (k : ℕ) → admits w (length lent) ≡ admitted.Refused k → turnWords w (length lent) ≡ w
+    unfolding turnWords wordsFor
+    refused-words k e = rw e
+
+    refused-answer : (k : ℕ) → admits w (length lent) ≡ admitted.Refused k → turnOutcome w (length lent) ≡ outcome.Refused k
+    unfolding turnOutcome outcomeFor
+    refused-answer k e = rw e
+
+    refused-silent : (k : ℕ) → admits w (length lent) ≡ admitted.Refused k → (b : Bytes) → SendsBytes w lent b → ⊥
+    refused-silent k e b h = of (h .message) (sym (refused-answer k e) ∙ h .outcome)
+      where
+        of : (m : wire.Message) → outcome.Refused k ≡ outcome.Sent m → ⊥
+        of m f = let z : _≡_ {A = ℕ} 0 1 = cc in omega arith
+
+module _ (o : Arguments) (w : List ℕ) (x : Belonging o w) (lent : List ℕ) where
+  abbrev g : Settings
+  g = agreed o .settings
+
+  sets-applied : (a : acts.Act) → ActTold g w a → Sets o (applied w a)
+  sets-applied a told =
+      let kept = applied-kept w a (told-placed g w (x .words .ruled) a told) in
+      record {
+        rising = λ p lo hi. rw (set-back w (applied w a) (x .words .size) (length-applied w a) kept p lo (omega (arith, x .words .ruled .few))) (x .sets .rising p lo hi);
+        few = λ p lo hi. rw (count-back w (applied w a) (x .words .size) (length-applied w a) kept p lo (omega (arith, x .words .ruled .few))) (x .sets .few p lo hi);
+      }
+
+  pub turn-belongs : Belonging o (turnWords w (length lent))
+  turn-belongs = go (admits w (length lent)) refl
+    where
+      of : Taken w lent (session o w (x .words)) → Belonging o (turnWords w (length lent))
+      of t =
+          rw (t .words)
+          (record { words = belongs-applied o g w (x .words) (x .words .ruled) (due g w) (t .told) (admitted-turns w (length lent) (session o w (x .words)) (t .admits)); sets = sets-applied (due g w) (t .told) })
+
+      go : (v : Admitted) → admits w (length lent) ≡ v → Belonging o (turnWords w (length lent))
+      go (admitted.Refused k) e = rw (refused-words o w (x .words) lent k e) x
+      go (admitted.Open y) e = of (taken o w (x .words) lent y e)
+
+  -- ---- what a turn tells
+
+  module _ (H : ℕ → Bool) where
+    abbrev W : World
+    W = world engine (agreed o) H
+
+    due-shown : (a : acts.Act) → ActTold g w a → ShownDue W w (shownAct g w a)
+    due-shown =
+        subst (λ (y : Settings). Ruled y → (a : acts.Act) → ActTold y w a → ShownDue (record { settings = y; honest = H; coin = W .coin }) w (shownAct y w a))
+        (settings-same o w (x .words)) (λ ruled. shown-due w ruled (x .words .size) H (W .coin)) (x .words .ruled)
+
+    input-shown : (a : acts.Act) → ActTold g w a → (v : ℕ) → shownAct g w a ≡ some (send v) → v ≡ o .input
+    input-shown act.Idle t v e = absurd (let z : _≡_ {A = ℕ} 0 1 = cc in omega arith)
+    input-shown act.InForce t v e = absurd (let z : _≡_ {A = ℕ} 0 1 = cc in omega arith)
+    input-shown (act.Commit k) t v e = absurd (let z : _≡_ {A = ℕ} 0 1 = cc in omega arith)
+    input-shown (act.Send u) t v e = let same : v ≡ u = cc in same ∙ t .own ∙ x .words .is-input
+    input-shown (act.Echo i u) t v e = absurd (let z : _≡_ {A = ℕ} 0 1 = cc in omega arith)
+    input-shown (act.Ready i u) t v e = absurd (let z : _≡_ {A = ℕ} 0 1 = cc in omega arith)
+    input-shown (act.Start i b) t v e = absurd (let z : _≡_ {A = ℕ} 0 1 = cc in omega arith)
+    input-shown (act.Relay i r b) t v e = absurd (let z : _≡_ {A = ℕ} 0 1 = cc in omega arith)
+    input-shown (act.Aux i r b) t v e = absurd (let z : _≡_ {A = ℕ} 0 1 = cc in omega arith)
+    input-shown (act.Move i r u) t v e = absurd (let z : _≡_ {A = ℕ} 0 1 = cc in omega arith)
+
+    hidden : (a : acts.Act) → shownAct g w a ≡ none → (i r : ℕ) (v : View) → a ≡ act.Move i r v → ⊥
+    hidden a e i r v f = let z : none ≡ shownAct g w (act.Move i r v) = sym e ∙ ap (shownAct g w) f in let y : _≡_ {A = ℕ} 0 1 = cc in omega arith
+
+    told-by : Taken w lent (session o w (x .words)) → (c : Option Act) → shownAct g w (due g w) ≡ c → ShownDue W w c → ShownActed o H w (x .words) (due g w) c → Turned engine engineReading H o w lent c
+    told-by t none e d k =
+        record {
+          kept = rw (t .words) (kept-by o H w (x .words) (due g w) (told-placed g w (x .words .ruled) (due g w) (t .told)) (hidden (due g w) e));
+          silent = λ b h. silent o H w (x .words) (x .sets) lent t b h e;
+        }
+    told-by t (some a) e d k =
+        record {
+          due = d;
+          acted = rw (t .words) k;
+          says = λ b h. shown-says o H w (x .words) (x .sets) lent t b h a e;
+          input = λ v f. input-shown (due g w) (t .told) v (e ∙ ap some f);
+        }
+
+    pub turn-told : Turned engine engineReading H o w lent (actOf w lent)
+    unfolding actOf admittedAct
+    turn-told = go (admits w (length lent)) refl
+      where
+        open-told : (y : Session) → admits w (length lent) ≡ admitted.Open y → Taken w lent (session o w (x .words)) → Turned engine engineReading H o w lent (shownAct (y .settings) w (due (y .settings) w))
+        open-told y e t =
+            rw (taken-session o w (x .words) lent y e)
+            (told-by t (shownAct g w (due g w)) refl (due-shown (due g w) (t .told)) (shown-acted o H w (x .words) g (x .words .ruled) (due g w) (t .told)))
+
+        go : (v : Admitted) → admits w (length lent) ≡ v → Turned engine engineReading H o w lent (admittedAct v w)
+        go (admitted.Refused k) e =
+            record {
+              kept = rw (refused-words o w (x .words) lent k e) (unchanged o H w (x .words));
+              silent = refused-silent o w (x .words) lent k e;
+            }
+        go (admitted.Open y) e = open-told y e (taken o w (x .words) lent y e)
