@@ -1,0 +1,20 @@
+-- `counted` goes by the form.
+use Rattle.drill_lines.specs.Cases.{digits-cases}
+use borrow.Author.Needs.{needs}
+use Rattle.drill_lines.proofs.reading.counted.Statement.{statement}
+use Rattle.drill_lines.proofs.reading.counted.Tie as tie
+
+returns : tie.Need-returns
+returns c = search digits-cases
+
+add-result : tie.Need-add-result
+add-result c = search needs
+
+returns-2 : tie.Need-returns-2
+returns-2 c = search digits-cases
+
+returns-3 : tie.Need-returns-3
+returns-3 c = search digits-cases
+
+pub counted-spec : {M : Type 1} → statement M
+counted-spec = tie.close (tie.spec returns add-result returns-2 returns-3)

@@ -1,0 +1,67 @@
+-- The digits that the `io` library gives are the text of the definition.
+use Prim.Native.Nat.{ℕ, zero, suc, _+_, _-_, _/_, _%_, _^_, _≤_, _<_}
+use mathlib.Core.List.{List, [], _∷_, _++_}
+use mathlib.Core.Path.{_≡_, ap, subst, _∙_}
+use native.Mathlib.Omega.{arith}
+use native.Mathlib.Decide.{decLe}
+use native.Mathlib.Nat.{le-div-iff-mul-le, div-lt-iff-lt-mul, mod-eq-of-lt, mod-lt, pow-suc, one-le-pow, pow-le-pow-right}
+use lib.ListN.{take}
+use borrow.Author.Tests.{lt-ltb, le-ltb}
+use Rattle.io.specs.Digits.{digits, glyph, Fewest}
+use Rattle.drill_lines.specs.Text.{decimalIn, decimalText, hexText}
+use Rattle.drill_lines.specs.Paste.{Wrote}
+
+less-one : (j : ℕ) → suc j - 1 ≡ j
+less-one j = omega arith
+
+-- a digit below 10
+figure : (n : ℕ) → n < 10 → glyph n ≡ 48 + n
+figure n h = rw (lt-ltb n 10 h)
+
+tenth-below : (n f : ℕ) → n < 10 ^ suc f → n / 10 < 10 ^ f
+tenth-below n f h = div-lt-iff-lt-mul {k = 10} (omega arith) .1 (rw (pow-suc 10 f) at h)
+
+tenth-least : (n f : ℕ) → 10 ^ suc f ≤ n → 10 ^ f ≤ n / 10
+tenth-least n f h = le-div-iff-mul-le {k = 10} (omega arith) .1 (rw (pow-suc 10 f) at h)
+
+decimal-digits : (f k n : ℕ) → n < 10 ^ suc f → Fewest 10 1 n k → digits 10 k n ≡ decimalIn (suc f) n
+unfolding decimalIn
+decimal-digits f zero n h w = absurd (omega (arith, w .0))
+decimal-digits f (suc zero) n h w =
+    let l : n < 10 = omega (arith, w .1) in
+    rw (lt-ltb n 10 l, mod-eq-of-lt l, lt-ltb n 10 l)
+decimal-digits zero (suc (suc j)) n h w =
+    let p : 10 ^ suc j ≤ n = rw (less-one (suc j)) at (w .2 (omega arith)) in
+    absurd (omega (arith, pow-suc 10 j, one-le-pow j 10 (omega arith)))
+decimal-digits (suc f) (suc (suc j)) n h w =
+    let p : 10 ^ suc j ≤ n = rw (less-one (suc j)) at (w .2 (omega arith)) in
+    let big : 10 ≤ n = omega (arith, pow-suc 10 j, one-le-pow j 10 (omega arith)) in
+    let few : Fewest 10 1 (n / 10) (suc j) = (omega arith, tenth-below n (suc j) (w .1), λ q. rw (less-one j) (tenth-least n j p)) in
+    rw (le-ltb n 10 big, figure (n % 10) (mod-lt n (omega arith)))
+    (ap (λ (t : List ℕ). t ++ ((48 + n % 10) ∷ []))
+    (decimal-digits f (suc j) (n / 10) (tenth-below n (suc f) h) few))
+
+pub decimal-text : (n k : ℕ) → n < 2 ^ 64 → Fewest 10 1 n k → digits 10 k n ≡ decimalText n
+unfolding decimalText
+decimal-text n k h w = decimal-digits 19 k n (omega arith) w
+
+sixteen : (n k : ℕ) → n < 2 ^ 64 → Fewest 16 16 n k → k ≡ 16
+sixteen n k h w = go (decLe k 16)
+  where
+    go : Dec (k ≤ 16) → k ≡ 16
+    go (yes l) = omega (arith, w .0)
+    go (no l) =
+        let p : 16 ^ (k - 1) ≤ n = w .2 (omega arith) in
+        let q : 16 ^ 16 ≤ 16 ^ (k - 1) = pow-le-pow-right {n = 16} (omega arith) {i = 16} {j = k - 1} (omega arith) in
+        absurd (omega arith)
+
+pub hex-text : (n k : ℕ) → n < 2 ^ 64 → Fewest 16 16 n k → digits 16 k n ≡ hexText n
+unfolding hexText
+hex-text n k h w = ap (λ (m : ℕ). digits 16 m n) (sixteen n k h w)
+
+module _ (n k : ℕ) (t s after : List ℕ) (a r : ℕ) (h : n < 2 ^ 64) (w : Wrote (take k t) s a r after) where
+  pub wrote-decimal : Fewest 10 1 n k → take k t ≡ digits 10 k n → Wrote (decimalText n) s a r after
+  wrote-decimal f e = subst (λ (u : List ℕ). Wrote u s a r after) (e ∙ decimal-text n k h f) w
+
+  pub wrote-hex : Fewest 16 16 n k → take k t ≡ digits 16 k n → Wrote (hexText n) s a r after
+  wrote-hex f e = subst (λ (u : List ℕ). Wrote u s a r after) (e ∙ hex-text n k h f) w

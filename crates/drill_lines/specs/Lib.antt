@@ -1,0 +1,10 @@
+pub mod Grammar
+pub mod Automaton
+pub mod Cases
+pub mod Theorem
+pub mod Examples
+pub mod Text
+pub mod Paste
+pub mod Digits
+pub mod Printing
+pub mod Laws

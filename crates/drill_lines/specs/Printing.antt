@@ -1,0 +1,106 @@
+-- The cases of the code that prints.
+use Prim.Native.Nat.{ℕ, suc, _+_, _-_, _≤_, _<_}
+use mathlib.Core.List.{List, [], _∷_, _++_, append-nil, append-assoc}
+use mathlib.Core.Path.{_≡_, refl, sym, ap, subst, _∙_}
+use native.Mathlib.Omega.{arith}
+use native.Mathlib.Numerals.{add-one}
+use lib.ListN.{length, getD, take, drop}
+use lib.Seq.{take-suc, take-all, length-take-le}
+use Rattle.drill_lines.specs.Text.{decimalText, hexText, commaTexts, valuesText, fieldText, resultLine, endText, sentLine, badLine}
+use Rattle.drill_lines.specs.Paste.{Wrote, wrote-both, length-pasted, ended, pasted}
+
+module _ (s s' s'' : List ℕ) (a r q : ℕ) where
+  pub wrote-comma : (n : ℕ) → Wrote (44 ∷ []) s a r s' → Wrote (hexText n) s' r q s'' → Wrote (44 ∷ hexText n) s a q s''
+  wrote-comma n h l = wrote-both (44 ∷ []) (hexText n) s s' s'' a r q h l
+
+  pub wrote-field : (n : ℕ) → Wrote (decimalText n) s a r s' → Wrote (9 ∷ []) s' r q s'' → Wrote (fieldText n) s a q s''
+  unfolding fieldText
+  wrote-field n h l = wrote-both (decimalText n) (9 ∷ []) s s' s'' a r q h l
+
+  pub wrote-end : (n : ℕ) → Wrote (decimalText n) s a r s' → Wrote (10 ∷ []) s' r q s'' → Wrote (endText n) s a q s''
+  unfolding endText
+  wrote-end n h l = wrote-both (decimalText n) (10 ∷ []) s s' s'' a r q h l
+
+  pub wrote-sent : (n : ℕ) → Wrote (115 ∷ 101 ∷ 110 ∷ 116 ∷ 9 ∷ []) s a r s' → Wrote (endText n) s' r q s'' → Wrote (sentLine n) s a q s''
+  unfolding sentLine
+  wrote-sent n h l = wrote-both (115 ∷ 101 ∷ 110 ∷ 116 ∷ 9 ∷ []) (endText n) s s' s'' a r q h l
+
+  pub wrote-bad : (n : ℕ) → Wrote (98 ∷ 97 ∷ 100 ∷ 9 ∷ []) s a r s' → Wrote (endText n) s' r q s'' → Wrote (badLine n) s a q s''
+  unfolding badLine
+  wrote-bad n h l = wrote-both (98 ∷ 97 ∷ 100 ∷ 9 ∷ []) (endText n) s s' s'' a r q h l
+
+pub ruleset two-texts = (wrote-comma, wrote-field, wrote-end, wrote-sent, wrote-bad)
+
+commas-append : (xs ys : List ℕ) → commaTexts (xs ++ ys) ≡ commaTexts xs ++ commaTexts ys
+unfolding commaTexts
+commas-append [] ys = refl
+commas-append (x ∷ xs) ys = ap (λ (t : List ℕ). 44 ∷ t) (rw (commas-append xs ys) (sym (append-assoc (hexText x) (commaTexts xs) (commaTexts ys))))
+
+-- one value more
+commas-more : (xs : List ℕ) (k : ℕ) → k < length xs → commaTexts (take (k + 1) xs) ≡ commaTexts (take k xs) ++ (44 ∷ hexText (getD xs k 0))
+unfolding commaTexts
+commas-more xs k h =
+    rw (add-one, take-suc xs k 0 h) (commas-append (take k xs) (getD xs k 0 ∷ []) ∙ ap (λ (t : List ℕ). commaTexts (take k xs) ++ (44 ∷ t)) (append-nil (hexText (getD xs k 0))))
+
+-- a loop that has written the first k values
+pub record Commas (xs s : List ℕ) (a k r : ℕ) (after : List ℕ) : Type 0 where
+  pub within : k ≤ length xs
+  pub front : Wrote (commaTexts (take k xs)) s a r after
+
+pub commas-start : (xs s : List ℕ) (a : ℕ) → Commas xs s a 0 a s
+unfolding ended pasted commaTexts
+commas-start xs s a = record { within = omega arith; front = record { answer = refl; bytes = refl } }
+
+pub commas-next : (xs s s' s'' : List ℕ) (a k r q : ℕ) → Commas xs s a k r s' → k < length xs → Wrote (44 ∷ hexText (getD xs k 0)) s' r q s'' → Commas xs s a (k + 1) q s''
+commas-next xs s s' s'' a k r q h l w =
+    record {
+      within = omega arith;
+      front = rw (commas-more xs k l) (wrote-both (commaTexts (take k xs)) (44 ∷ hexText (getD xs k 0)) s s' s'' a r q (h .front) w);
+    }
+
+pub commas-done : (xs s after : List ℕ) (a k r : ℕ) → Commas xs s a k r after → length xs ≤ k → Wrote (commaTexts xs) s a r after
+commas-done xs s after a k r h l = subst (λ (u : List ℕ). Wrote (commaTexts u) s a r after) (take-all k xs l) (h .front)
+
+pub commas-length : (xs s after : List ℕ) (a k r : ℕ) → Commas xs s a k r after → length after ≡ length s
+commas-length xs s after a k r h = ap length (h .front .bytes) ∙ length-pasted (commaTexts (take k xs)) s a
+
+pub ruleset commas = (commas-start, commas-next, commas-done, commas-length)
+
+-- no value, and one or more
+pub values-none : (xs s after : List ℕ) (a r : ℕ) → length xs ≡ 0 → Wrote (45 ∷ []) s a r after → Wrote (valuesText xs) s a r after
+unfolding valuesText
+values-none [] s after a r e w = w
+values-none (x ∷ xs) s after a r e w = absurd (omega arith)
+
+pub values-some : (xs s s' s'' : List ℕ) (a r q : ℕ) → (length xs ≡ 0 → ⊥) → Wrote (hexText (getD xs 0 0)) s a r s' →
+    Wrote (commaTexts (take (length xs - 1) (drop 1 xs))) s' r q s'' → Wrote (valuesText xs) s a q s''
+unfolding valuesText
+values-some [] s s' s'' a r q e w v = absurd (e refl)
+values-some (x ∷ xs) s s' s'' a r q e w v =
+    wrote-both (hexText x) (commaTexts xs) s s' s'' a r q w (subst (λ (u : List ℕ). Wrote (commaTexts u) s' r q s'') (take-all (suc (length xs) - 1) xs (omega arith)) v)
+
+pub ruleset values-cases = (values-none, values-some)
+
+pub counted-all : (xs s after : List ℕ) (n a r : ℕ) → length xs ≤ n → Wrote (valuesText xs) s a r after → Wrote (valuesText (take n xs)) s a r after
+counted-all xs s after n a r h w = rw (take-all n xs h) w
+
+pub counted-length : (xs : List ℕ) (n : ℕ) → n < length xs → n ≡ length (take n xs)
+counted-length xs n h = sym (length-take-le n xs (omega arith))
+
+pub counted-front : (xs s after : List ℕ) (n a r : ℕ) → Wrote (valuesText (take n xs)) s a r after → Wrote (valuesText (take n xs)) s a r after
+counted-front xs s after n a r w = w
+
+pub ruleset counted-cases = (counted-all, counted-length, counted-front)
+
+pub wrote-result : (n e c t : ℕ) (xs s s1 s2 s3 s4 s5 s6 : List ℕ) (a r1 r2 r3 r4 r5 r6 : ℕ) →
+    Wrote (fieldText n) s a r1 s1 → Wrote (fieldText e) s1 r1 r2 s2 → Wrote (fieldText c) s2 r2 r3 s3 → Wrote (fieldText t) s3 r3 r4 s4 →
+    Wrote (valuesText xs) s4 r4 r5 s5 → Wrote (10 ∷ []) s5 r5 r6 s6 → Wrote (resultLine n e c t xs) s a r6 s6
+unfolding resultLine
+wrote-result n e c t xs s s1 s2 s3 s4 s5 s6 a r1 r2 r3 r4 r5 r6 h1 h2 h3 h4 h5 h6 =
+    wrote-both _ _ s s1 s6 a r1 r6 h1
+    (wrote-both _ _ s1 s2 s6 r1 r2 r6 h2
+    (wrote-both _ _ s2 s3 s6 r2 r3 r6 h3
+    (wrote-both _ _ s3 s4 s6 r3 r4 r6 h4
+    (wrote-both _ _ s4 s5 s6 r4 r5 r6 h5 h6))))
+
+pub ruleset result-cases = wrote-result
