@@ -1,0 +1,71 @@
+-- Laws of the tests and tables of specs/Checking.antt.
+use Prim.Native.Nat.{ℕ}
+use mathlib.Core.Bool.{Bool, true, false, _||_, not, cond, false≢true}
+use mathlib.Core.List.{List, [], _∷_}
+use mathlib.Core.Path.{_≡_, refl, sym, ap, _∙_}
+use borrow.Author.Tests.{eqb-true}
+use lib.Dec.{eqb}
+use Rattle.settings.specs.Bools.{and-left, and-right}
+use Rattle.agreement.specs.Calls.{Agreed}
+use Rattle.agreement_example.specs.Checking.{Entry, isOpened, wordsOf, withWords, sameList, sameSession}
+
+-- one of two tests passed, and the first did not
+pub or-second : (a b : Bool) → a || b ≡ true → a ≡ false → b ≡ true
+or-second true b e f = absurd (false≢true (sym f))
+or-second false b e f = e
+
+pub not-of-true : (a : Bool) → a ≡ true → not a ≡ false
+not-of-true a e = rw e
+
+pub same-list : (xs ys : List ℕ) → sameList xs ys ≡ true → xs ≡ ys
+unfolding sameList
+same-list [] [] e = refl
+same-list [] (y ∷ ys) e = absurd (false≢true e)
+same-list (x ∷ xs) [] e = absurd (false≢true e)
+same-list (x ∷ xs) (y ∷ ys) e =
+    let h : x ≡ y = eqb-true x y (and-left (eqb x y) (sameList xs ys) e) in
+    let t : xs ≡ ys = same-list xs ys (and-right (eqb x y) (sameList xs ys) e) in
+    rw (h, t)
+
+pub same-session : (a b : Agreed) → sameSession a b ≡ true → a ≡ b
+unfolding sameSession
+same-session a b e =
+    let e1 = and-right (eqb (a .settings .n) (b .settings .n)) _ e in
+    let e2 = and-right (eqb (a .settings .ta) (b .settings .ta)) _ e1 in
+    let e3 = and-right (eqb (a .settings .ts) (b .settings .ts)) _ e2 in
+    same
+    (eqb-true _ _ (and-left (eqb (a .settings .n) (b .settings .n)) _ e))
+    (eqb-true _ _ (and-left (eqb (a .settings .ta) (b .settings .ta)) _ e1))
+    (eqb-true _ _ (and-left (eqb (a .settings .ts) (b .settings .ts)) _ e2))
+    (eqb-true _ _ (and-left (eqb (a .number) (b .number)) _ e3))
+    (same-list _ _ (and-right (eqb (a .number) (b .number)) _ e3))
+  where
+    same : a .settings .n ≡ b .settings .n → a .settings .ta ≡ b .settings .ta → a .settings .ts ≡ b .settings .ts → a .number ≡ b .number → a .coins ≡ b .coins → a ≡ b
+    same n ta ts k c = λ i. record { settings = record { n = n i; ta = ta i; ts = ts i }; number = k i; coins = c i }
+
+module _ (p : ℕ) (w : List ℕ) (xs : List Entry) where
+  -- the same ones are opened
+  pub opened-with : (q : ℕ) → isOpened (withWords p w xs) q ≡ isOpened xs q
+  unfolding withWords isOpened
+  opened-with q = go (isOpened xs p) refl
+    where
+      same : (b : Bool) → isOpened xs p ≡ true → eqb q p ≡ b → cond b true (isOpened xs q) ≡ isOpened xs q
+      same true h e = rw (eqb-true q p e, h)
+      same false h e = refl
+
+      go : (b : Bool) → isOpened xs p ≡ b → isOpened (cond b (record { who = p; list = w } ∷ xs) xs) q ≡ isOpened xs q
+      go true h = same (eqb q p) h refl
+      go false h = refl
+
+  -- p has the words w, the others those they had
+  pub words-with : (q : ℕ) → isOpened xs q ≡ true → wordsOf (withWords p w xs) q ≡ cond (eqb q p) w (wordsOf xs q)
+  unfolding withWords wordsOf
+  words-with q k = go (isOpened xs p) refl
+    where
+      other : (b : Bool) → isOpened xs p ≡ false → eqb q p ≡ b → wordsOf xs q ≡ cond b w (wordsOf xs q)
+      other true h e = absurd (false≢true (sym h ∙ ap (isOpened xs) (sym (eqb-true q p e)) ∙ k))
+      other false h e = refl
+
+      go : (b : Bool) → isOpened xs p ≡ b → wordsOf (cond b (record { who = p; list = w } ∷ xs) xs) q ≡ cond (eqb q p) w (wordsOf xs q)
+      go true h = refl
+      go false h = other (eqb q p) h refl

@@ -1,0 +1,11 @@
+pub mod Lists
+pub mod Checking
+pub mod Lengths
+pub mod Entries
+pub mod Tracking
+pub mod Example
+pub mod Refusals
+pub mod Messages
+pub mod Computing
+pub mod One
+pub mod Four

@@ -1,0 +1,90 @@
+-- The conditions of demand 3, call by call: a list meets them if each call of it does after the calls before it.
+use Prim.Native.Nat.{ℕ}
+use mathlib.Core.Bool.{Bool, true, false}
+use mathlib.Core.List.{List, [], _∷_}
+use mathlib.Core.Logic.{_⊎_, inl, inr}
+use mathlib.Core.Path.{_≡_, refl}
+use Rattle.agreement.specs.Evidence.{Honest}
+use Rattle.agreement.specs.Moments.{Within, now, after}
+use Rattle.agreement.specs.Calls.{Machine, Call, opening, delivery, turn, report, world, place, words, Opened, Sent, Conditions, PutIn}
+
+module _ (M : Machine) (start : ℕ → M .Words) where
+  module _ {cs : List (Call M)} (c : Call M) where
+    -- what was opened or sent stays so
+    pub opened-later : {p : ℕ} → Opened M start cs p → Opened M start (c ∷ cs) p
+    opened-later x =
+        record { given = x .given; past = x .past; within = after c (x .within); numbered = x .numbered; accepted = x .accepted }
+
+    pub sent-later : {m : ℕ} {b : M .Bytes} → Sent M start cs m b → Sent M start (c ∷ cs) m b
+    sent-later x =
+        record { lent = x .lent; past = x .past; within = after c (x .within); opened = x .opened; sends = x .sends }
+
+  none-within : {c : Call M} {ds : List (Call M)} → Within (c ∷ ds) [] → ⊥
+  none-within w = elim w [ ]
+
+  pub not-opened : {p : ℕ} → Opened M start [] p → ⊥
+  not-opened x = none-within (x .within)
+
+  abbrev pub NoOpening : Call M → Type 0
+  NoOpening (opening p o) = ⊥
+  NoOpening (delivery p m b) = Unit
+  NoOpening (turn p l) = Unit
+  NoOpening (report p r) = Unit
+
+  within-before : {c : Call M} {p : ℕ} {o : M .Opening} {ds cs : List (Call M)} → NoOpening c → Within (opening p o ∷ ds) (c ∷ cs) → Within (opening p o ∷ ds) cs
+  within-before n now = absurd n
+  within-before n (after c w) = w
+
+  -- no other call opens
+  pub opened-before : {c : Call M} {cs : List (Call M)} {p : ℕ} → NoOpening c → Opened M start (c ∷ cs) p → Opened M start cs p
+  opened-before n x =
+      record { given = x .given; past = x .past; within = within-before n (x .within); numbered = x .numbered; accepted = x .accepted }
+
+  cases-within : {p q : ℕ} {o g : M .Opening} {ds cs : List (Call M)} → Within (opening q g ∷ ds) (opening p o ∷ cs) → M .own g ≡ q → M .opens (words M start ds q) g ≡ true → ((q ≡ p) × (M .opens (words M start cs p) o ≡ true)) ⊎ Opened M start cs q
+  cases-within now n a = inl (refl, a)
+  cases-within (after c w) n a = inr (record { given = _; past = _; within = w; numbered = n; accepted = a })
+
+  -- one opened after an opening is the one that it opened, or was opened before
+  pub opened-cases : {p q : ℕ} {o : M .Opening} {cs : List (Call M)} → Opened M start (opening p o ∷ cs) q → ((q ≡ p) × (M .opens (words M start cs p) o ≡ true)) ⊎ Opened M start cs q
+  opened-cases x = cases-within (x .within) (x .numbered) (x .accepted)
+
+  module _ (S : M .Session) (H : ℕ → Bool) (v : ℕ) where
+    -- what `agree`, `once` and PutIn ask of an opening after the calls ds
+    pub record OpeningMeets (p : ℕ) (o : M .Opening) (ds : List (Call M)) : Type 0 where
+      pub agree : M .own o ≡ p → M .opens (words M start ds p) o ≡ true → M .session o ≡ S
+      pub once : Opened M start ds p → M .opens (words M start ds p) o ≡ false
+      pub put-in : M .own o ≡ p → M .opens (words M start ds p) o ≡ true → M .input o ≡ v
+
+    -- what `credited` asks of a delivery after the calls ds
+    pub record DeliveryMeets (p m : ℕ) (b : M .Bytes) (ds : List (Call M)) : Type 0 where
+      pub credited : Opened M start ds p → M .accepts (words M start ds p) m b ≡ true → Honest (world M S H) m → Sent M start ds m b
+
+    abbrev pub Meets : Call M → List (Call M) → Type 0
+    Meets (opening p o) ds = OpeningMeets p o ds
+    Meets (delivery p m b) ds = DeliveryMeets p m b ds
+    Meets (turn p l) ds = Unit
+    Meets (report p r) ds = Unit
+
+    abbrev pub AllMeet : List (Call M) → Type 0
+    AllMeet [] = Unit
+    AllMeet (c ∷ ds) = Honest (world M S H) (place M c) × Meets c ds × AllMeet ds
+
+    honest-within : {c : Call M} {ds cs : List (Call M)} → Within (c ∷ ds) cs → AllMeet cs → Honest (world M S H) (place M c)
+    honest-within now x = x .0
+    honest-within (after d w) x = honest-within w (x .2)
+
+    meets-within : {c : Call M} {ds cs : List (Call M)} → Within (c ∷ ds) cs → AllMeet cs → Meets c ds
+    meets-within now x = x .1
+    meets-within (after d w) x = meets-within w (x .2)
+
+    pub conditions-met : (cs : List (Call M)) → AllMeet cs → Conditions M start S H cs
+    conditions-met cs x =
+        record {
+          honest = λ c ds w. honest-within w x;
+          agree = λ p o ds w. meets-within w x .agree;
+          once = λ p o ds w. meets-within w x .once;
+          credited = λ p m b ds w. meets-within w x .credited;
+        }
+
+    pub put-in-met : (cs : List (Call M)) → AllMeet cs → PutIn M start v cs
+    put-in-met cs x p o ds w = meets-within w x .put-in
