@@ -1,17 +1,23 @@
 -- The paths of the code.
 use Prim.Native.Nat.{ℕ, _+_, _≤_, _<_}
-use mathlib.Core.Bool.{Bool, true, false}
+use mathlib.Core.Bool.{Bool, true, false, _&&_, and-false}
 use mathlib.Core.List.{List}
-use mathlib.Core.Path.{_≡_}
+use mathlib.Core.Path.{_≡_, _∙_}
 use native.Mathlib.Omega.{arith}
-use lib.Dec.{leb}
-use borrow.Author.Tests.{ne-eqb}
+use native.Mathlib.Nat.{zero-add}
+use lib.Dec.{leb, eqb}
+use borrow.Author.Tests.{ne-eqb, lt-leb}
 use Rattle.settings.specs.Settings.{quorum, copy}
 use Rattle.settings.specs.declared.Settings.{Settings}
-use Rattle.quorum.specs.Lowest.{lowest, Passed, passed-found, passed-missing}
+use Rattle.settings.specs.Bools.{and-left}
+use Rattle.quorum.specs.Marks.{mark}
+use Rattle.quorum.specs.Total.{count}
+use Rattle.quorum.specs.TotalLaws.{total-mono, total-agree}
+use Rattle.quorum.specs.Lowest.{lowest, none-lowest, Passed, passed-found, passed-missing}
+use Rattle.records.specs.Words.{word, marked}
 use Rattle.records.specs.Records.{echoSent, readySent, sendHeld, sendValue, echoHeld, echoValue, readyHeld, readyValue}
 use Rattle.acts.specs.declared.Act.the-variants.{Idle, Echo, Ready}
-use Rattle.broadcasts.specs.Leading.{holders, leads, valueOf, leading}
+use Rattle.broadcasts.specs.Leading.{heldCount, holders, leads, valueOf, leading}
 use Rattle.broadcasts.specs.Broadcasts.{readyDue, echoAct, readyAct}
 use Rattle.broadcasts.specs.declared.Output.{Output}
 use Rattle.broadcasts.specs.declared.Output.the-variants.{Value, Nothing}
@@ -38,9 +44,24 @@ module _ (held : ℕ → Bool) (value : ℕ → ℕ) (n q : ℕ) where
       let p : 0 ≡ lowest (leads held value n q) n = passed-missing (leads held value n q) n k i l in
       rw (← p)
 
+  -- fewer than q hold anything
+  pub leading-few : (c : ℕ) → c ≡ count held n → c < q → Nothing ≡ leading held value n q
+  unfolding leading valueOf leads holders
+  leading-few c e l = rw (none-lowest (leads held value n q) n none)
+    where
+      fewer : (v : ℕ) → count (λ p. held p && eqb (value p) v) n ≤ count held n
+      fewer v = total-mono (λ p. 1) (λ p. held p && eqb (value p) v) held n (λ p a b h. and-left (held p) (eqb (value p) v) h)
+
+      none : (p : ℕ) → 1 ≤ p → p ≤ n → leads held value n q p ≡ false
+      none p a b = rw (lt-leb q (count (λ k. held k && eqb (value k) (value p)) n) (omega (arith, fewer (value p)))) (and-false (held p))
+
 pub ruleset leaders = (leads-held, leads-missing)
 
 pub ruleset leading-ends = (leading-found, leading-missing)
+
+pub held-counted : (s : List ℕ) (k n w c : ℕ) → w ≡ word s k → c ≡ count (λ p. mark w (0 + p)) n → c ≡ heldCount s k n
+unfolding heldCount marked
+held-counted s k n w c e f = f ∙ total-agree (λ p. 1) (λ p. mark w (0 + p)) (λ p. mark (word s k) p) n (λ p a b. rw (e, zero-add))
 
 module _ (s : List ℕ) (i : ℕ) where
   pub echo-was-sent : (a : Bool) → a ≡ echoSent s i → a ≡ true → Idle ≡ echoAct s i

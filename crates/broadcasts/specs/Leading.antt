@@ -1,11 +1,17 @@
 -- A value that enough senders hold. The senders are 1 to n; `held p` tells whether one is held from sender p, `value p` which.
 use Prim.Native.Nat.{ℕ}
 use mathlib.Core.Bool.{Bool, true, false, _&&_, cond}
+use mathlib.Core.List.{List}
 use lib.Dec.{eqb, leb}
 use Rattle.quorum.specs.Total.{count}
 use Rattle.quorum.specs.Lowest.{lowest}
+use Rattle.records.specs.Words.{marked}
 use Rattle.broadcasts.specs.declared.Output.{Output}
 use Rattle.broadcasts.specs.declared.Output.the-variants.{Value, Nothing}
+
+-- how many senders have their mark in word k
+unfoldable pub heldCount : List ℕ → ℕ → ℕ → ℕ
+heldCount s k n = count (marked s k) n
 
 -- how many senders hold v
 unfoldable pub holders : (ℕ → Bool) → (ℕ → ℕ) → ℕ → ℕ → ℕ

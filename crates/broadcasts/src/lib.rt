@@ -8,7 +8,7 @@ ghost use mathlib.Core.Bool.{_&&_};
 ghost use lib.Dec.{eqb};
 ghost use Rattle.records.specs.Records.{readyHeld, readyValue, echoHeld, echoValue};
 ghost use Rattle.records.specs.Words.{word, marked};
-ghost use Rattle.broadcasts.specs.Leading.{holders, leads, leading};
+ghost use Rattle.broadcasts.specs.Leading.{heldCount, holders, leads, leading};
 ghost use Rattle.broadcasts.specs.Broadcasts.{output, echoAct, readyDue, readyAct, echoRule, readyRule};
 ghost use Rattle.broadcasts.specs.Outputs.{outputAt, Stored, Outputs};
 
@@ -51,8 +51,8 @@ fn leads(s: &[u64], marks: u16, values: u16, n: u8, q: u64, p: u8) -> bool
     }
 }
 
-// A value that q of the senders 1 to n hold: of several, the lowest sender's.
-fn leading(s: &[u64], marks: u16, values: u16, n: u8, q: u64) -> Output
+// A value that q of the senders 1 to n hold: of several, the lowest sender's. The senders are looked at one by one.
+fn leading_of(s: &[u64], marks: u16, values: u16, n: u8, q: u64) -> Output
     ensures { λ r. ⌜ r ≡ leading (λ k. marked (now (s .entry)) marks k) (λ k. word (now (s .entry)) (values + k)) n q ⌝ }
 {
     let mut p: u8 = 0;
@@ -63,6 +63,23 @@ fn leading(s: &[u64], marks: u16, values: u16, n: u8, q: u64) -> Output
         }
     }
     Output::Nothing
+}
+
+// How many of the senders 1 to n have their mark in word marks.
+fn held_count(s: &[u64], marks: u16, n: u8) -> u64
+    ensures { λ r. ⌜ r ≡ heldCount (now (s .entry)) marks n ⌝ }
+{
+    quorum::count_marks(records::word(s, marks as usize), 0, n)
+}
+
+// The same; where fewer than q hold anything, nobody's value is looked at.
+fn leading(s: &[u64], marks: u16, values: u16, n: u8, q: u64) -> Output
+    ensures { λ r. ⌜ r ≡ leading (λ k. marked (now (s .entry)) marks k) (λ k. word (now (s .entry)) (values + k)) n q ⌝ }
+{
+    if held_count(s, marks, n) < q {
+        return Output::Nothing;
+    }
+    leading_of(s, marks, values, n, q)
 }
 
 // The READYs of instance i: a value that q senders hold.

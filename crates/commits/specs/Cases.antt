@@ -1,15 +1,18 @@
 -- The cases of the code.
 use Prim.Native.Nat.{ℕ, _+_, _≤_, _<_}
-use mathlib.Core.Bool.{Bool, true, false, _&&_, not}
+use mathlib.Core.Bool.{Bool, true, false, _&&_, not, and-false}
 use mathlib.Core.List.{List}
 use mathlib.Core.Path.{_≡_, sym, ap, _∙_}
+use native.Mathlib.Omega.{arith}
 use lib.Dec.{eqb, leb}
-use borrow.Author.Tests.{eq-eqb, ne-eqb, not-true, not-false}
+use borrow.Author.Tests.{eq-eqb, ne-eqb, not-true, not-false, lt-leb}
+use Rattle.settings.specs.Bools.{and-left}
 use Rattle.quorum.specs.Total.{count}
-use Rattle.quorum.specs.Lowest.{lowest}
+use Rattle.quorum.specs.TotalLaws.{total-mono}
+use Rattle.quorum.specs.Lowest.{lowest, none-lowest}
 use Rattle.quorum.specs.Every.{every}
 use Rattle.records.specs.Records.{commitCount, commitValue}
-use Rattle.commits.specs.Commits.{commitHeld, sameSet, setHolders, setLeads, setLeader}
+use Rattle.commits.specs.Commits.{commitHeld, commitsHeld, sameSet, setHolders, setLeads, setLeader}
 
 module _ (s : List ℕ) (p q : ℕ) where
   pub counts-differ : (n m : ℕ) → n ≡ commitCount s p → m ≡ commitCount s q → (n ≡ m → ⊥) → false ≡ sameSet s p q
@@ -43,4 +46,19 @@ pub leader-found : (s : List ℕ) (n k p : ℕ) → p ≡ lowest (λ q. setLeads
 unfolding setLeader
 leader-found s n k p e = e
 
-pub ruleset commit-cases = (counts-differ, sets-compared, set-compared, set-missing, holders-counted, leads-compared, leads-missing, leader-found)
+pub commits-counted : (s : List ℕ) (n c : ℕ) → c ≡ count (λ p. commitHeld s p) n → c ≡ commitsHeld s n
+unfolding commitsHeld
+commits-counted s n c e = e
+
+-- fewer than k COMMITs are held
+pub leader-none : (s : List ℕ) (n k c : ℕ) → c ≡ commitsHeld s n → c < k → 0 ≡ setLeader s n k
+unfolding commitsHeld setLeader setLeads setHolders
+leader-none s n k c e l = sym (none-lowest (setLeads s n k) n none)
+  where
+    fewer : (p : ℕ) → count (λ q. commitHeld s q && sameSet s p q) n ≤ count (λ q. commitHeld s q) n
+    fewer p = total-mono (λ q. 1) (λ q. commitHeld s q && sameSet s p q) (λ q. commitHeld s q) n (λ q a b h. and-left (commitHeld s q) (sameSet s p q) h)
+
+    none : (p : ℕ) → 1 ≤ p → p ≤ n → setLeads s n k p ≡ false
+    none p a b = rw (lt-leb k (count (λ q. commitHeld s q && sameSet s p q) n) (omega (arith, fewer p))) (and-false (commitHeld s p))
+
+pub ruleset commit-cases = (counts-differ, sets-compared, set-compared, set-missing, holders-counted, leads-compared, leads-missing, leader-found, commits-counted, leader-none)

@@ -12,6 +12,10 @@ use Rattle.records.specs.Records.{commitCount, commitValue, commitSet}
 unfoldable pub commitHeld : List ℕ → ℕ → Bool
 commitHeld s p = ltb 0 (commitCount s p)
 
+-- how many of the senders 1 to n have a COMMIT held
+unfoldable pub commitsHeld : List ℕ → ℕ → ℕ
+commitsHeld s n = count (λ p. commitHeld s p) n
+
 -- the COMMITs of senders p and q hold the same set: sets are compared as their words
 unfoldable pub sameSet : List ℕ → ℕ → ℕ → Bool
 sameSet s p q =

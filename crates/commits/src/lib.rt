@@ -3,7 +3,7 @@ ghost use mathlib.Core.Path.{_≡_};
 ghost use mathlib.Core.Bool.{_&&_};
 ghost use lib.Dec.{eqb};
 ghost use Rattle.records.specs.Records.{commitValue};
-ghost use Rattle.commits.specs.Commits.{commitHeld, sameSet, setHolders, setLeads, setLeader};
+ghost use Rattle.commits.specs.Commits.{commitHeld, commitsHeld, sameSet, setHolders, setLeads, setLeader};
 
 // Whether a COMMIT of sender p is held.
 pub fn commit_held(s: &[u64], p: u8) -> bool
@@ -72,8 +72,21 @@ fn set_leads(s: &[u64], n: u8, k: u64, p: u8) -> bool
     }
 }
 
-// The lowest sender with a set that k of the senders 1 to n hold, and 0 if there is none.
-pub fn set_leader(s: &[u64], n: u8, k: u64) -> u8
+// How many of the senders 1 to n have a COMMIT held.
+fn commits_held(s: &[u64], n: u8) -> u64
+    ensures { λ r. ⌜ r ≡ commitsHeld (now (s .entry)) n ⌝ }
+{
+    let mut c: u64 = 0;
+    let mut p: u8 = 0;
+    while p < n {
+        p += 1;
+        c += commit_held(s, p) as u64;
+    }
+    c
+}
+
+// The lowest sender with a set that k of the senders 1 to n hold, and 0 if there is none. The senders are looked at one by one.
+fn leader_of(s: &[u64], n: u8, k: u64) -> u8
     ensures { λ r. ⌜ r ≡ setLeader (now (s .entry)) n k ⌝ }
 {
     let mut p: u8 = 0;
@@ -84,4 +97,14 @@ pub fn set_leader(s: &[u64], n: u8, k: u64) -> u8
         }
     }
     0
+}
+
+// The same; where fewer than k COMMITs are held, no set is looked at.
+pub fn set_leader(s: &[u64], n: u8, k: u64) -> u8
+    ensures { λ r. ⌜ r ≡ setLeader (now (s .entry)) n k ⌝ }
+{
+    if commits_held(s, n) < k {
+        return 0;
+    }
+    leader_of(s, n, k)
 }

@@ -1,63 +1,22 @@
--- The value of the lowest sender that leads.
-use Prim.Native.Nat.{_+_, _-_}
-use borrow.Author.Needs.{needs}
-use Rattle.quorum.specs.Lowest.{Passed, finding}
-use Rattle.records.specs.Words.{word, marked}
-use Rattle.broadcasts.specs.Leading.{leads}
-use Rattle.broadcasts.specs.Cases.{leading-ends}
+-- Where too few marks are set nobody leads.
+use Rattle.broadcasts.specs.Leading.{heldCount}
+use Rattle.broadcasts.specs.Cases.{leading-few}
 use borrow.Author.Needs.{needs}
 use Rattle.broadcasts.proofs.leading.Statement.{statement}
 use Rattle.broadcasts.proofs.leading.Tie as tie
 
-abbrev Inv-loop : tie.InvT-loop
-Inv-loop s marks values n q p₀ p = Passed (leads (λ k. marked s marks k) (λ k. word s (values + k)) n q) n p
+held-count-requires : tie.Need-held-count-requires
+held-count-requires c κs = search needs
 
-abbrev μ-loop : tie.MeasureT-loop
-μ-loop s marks values n q p₀ p = n - p
+returns : tie.Need-returns
+unfolding heldCount
+returns c = search leading-few
 
-loop-holds : tie.Need-loop-holds Inv-loop μ-loop
-loop-holds c = search finding
+leading-of-requires : tie.Need-leading-of-requires
+leading-of-requires c κs = search needs
 
-add-p : tie.Need-add-p Inv-loop μ-loop
-add-p c = search needs
-
-leads-requires : tie.Need-leads-requires Inv-loop μ-loop
-leads-requires c κs = search needs
-
-cast-word : tie.Need-cast-word Inv-loop μ-loop
-cast-word c = search needs
-
-add-word : tie.Need-add-word Inv-loop μ-loop
-add-word c = search needs
-
-word-requires : tie.Need-word-requires Inv-loop μ-loop
-word-requires c κs = search needs
-
-returns : tie.Need-returns Inv-loop μ-loop
-returns c = search leading-ends
-
-loop-less : tie.Need-loop-less Inv-loop μ-loop
-loop-less c = search needs
-
-loop-again : tie.Need-loop-again Inv-loop μ-loop
-loop-again c = search finding
-
-returns-2 : tie.Need-returns-2 Inv-loop μ-loop
-returns-2 c = search leading-ends
+returns-2 : tie.Need-returns-2
+returns-2 c = search needs
 
 pub leading-spec : {M : Type 1} → statement M
-leading-spec =
-    tie.close
-    (tie.spec
-    Inv-loop
-    μ-loop
-    loop-holds
-    add-p
-    leads-requires
-    cast-word
-    add-word
-    word-requires
-    returns
-    loop-less
-    loop-again
-    returns-2)
+leading-spec = tie.close (tie.spec held-count-requires returns leading-of-requires returns-2)

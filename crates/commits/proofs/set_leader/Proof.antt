@@ -1,49 +1,20 @@
--- After p steps no sender of 1 to p leads.
-use Prim.Native.Nat.{_-_}
-use Rattle.quorum.specs.Lowest.{Passed, finding}
-use Rattle.commits.specs.Commits.{setLeads}
+-- Where too few COMMITs are held no set leads.
 use Rattle.commits.specs.Cases.{commit-cases}
 use borrow.Author.Needs.{needs}
 use Rattle.commits.proofs.set_leader.Statement.{statement}
 use Rattle.commits.proofs.set_leader.Tie as tie
 
-abbrev Inv-loop : tie.InvT-loop
-Inv-loop s n k p₀ p = Passed (λ q. setLeads s n k q) n p
+commits-held-requires : tie.Need-commits-held-requires
+commits-held-requires c κs = search needs
 
-abbrev μ-loop : tie.MeasureT-loop
-μ-loop s n k p₀ p = n - p
+returns : tie.Need-returns
+returns c = search commit-cases
 
-loop-holds : tie.Need-loop-holds Inv-loop μ-loop
-loop-holds c = search finding
+leader-of-requires : tie.Need-leader-of-requires
+leader-of-requires c κs = search needs
 
-add-p : tie.Need-add-p Inv-loop μ-loop
-add-p c = search needs
-
-set-leads-requires : tie.Need-set-leads-requires Inv-loop μ-loop
-set-leads-requires c κs = search needs
-
-returns : tie.Need-returns Inv-loop μ-loop
-returns c = search (commit-cases, finding)
-
-loop-less : tie.Need-loop-less Inv-loop μ-loop
-loop-less c = search needs
-
-loop-again : tie.Need-loop-again Inv-loop μ-loop
-loop-again c = search finding
-
-returns-2 : tie.Need-returns-2 Inv-loop μ-loop
-returns-2 c = search (commit-cases, finding)
+returns-2 : tie.Need-returns-2
+returns-2 c = search needs
 
 pub set-leader-spec : {M : Type 1} → statement M
-set-leader-spec =
-    tie.close
-    (tie.spec
-    Inv-loop
-    μ-loop
-    loop-holds
-    add-p
-    set-leads-requires
-    returns
-    loop-less
-    loop-again
-    returns-2)
+set-leader-spec = tie.close (tie.spec commits-held-requires returns leader-of-requires returns-2)
