@@ -99,7 +99,8 @@ uint64_t pack_turn(uint64_t *state, size_t words, uint8_t *message, size_t capac
 
 /*
  * Reports on a state, also on a closed one. The set that the exits name stands at the front of the first lent buffer,
- * the set in force at the front of the second, both rising; the other words keep their value.
+ * the set in force at the front of the second, both rising in a state that these calls wrote; the other words keep
+ * their value.
  * Answer: bits 8 to 15 the exit (1 to 3, 0 for none), bits 16 to 23 the number of values named, bits 24 to 31 the
  * number of values in force (0: none), bits 32 to 63 the number of turns since opening that did not answer idle.
  * Refusals, in this order: PACK_NO_STATE, PACK_SHORT.

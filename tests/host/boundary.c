@@ -82,8 +82,10 @@ static void test_delivery(void)
 static void test_session(void)
 {
     uint8_t bytes[PACK_MESSAGE_BYTES];
-    uint64_t answer, named[PACK_SET_WORDS], in_force[PACK_SET_WORDS + 1];
+    uint64_t answer, named[PACK_SET_WORDS], in_force[PACK_SET_WORDS + 1], untouched[PACK_SET_WORDS];
+    memset(named, 0xa5, sizeof named);
     memset(in_force, 0xa5, sizeof in_force);
+    memset(untouched, 0xa5, sizeof untouched);
     expect(pack_open(state, PACK_STATE_WORDS, 1, 0, 0, 1, 7, UINT64_MAX, coins, 1) == PACK_ACCEPTED, "opening alone");
     while (pack_refusal_of(answer = pack_turn(state, PACK_STATE_WORDS, bytes, sizeof bytes)) == PACK_ACCEPTED) {
         if (pack_outcome_of(answer) != PACK_SENT)
@@ -99,7 +101,8 @@ static void test_session(void)
     answer = pack_report(state, PACK_STATE_WORDS, named, PACK_SET_WORDS, in_force, PACK_SET_WORDS + 1);
     expect(answer == ((uint64_t)5 << 32 | 1 << 24 | 1 << 16 | 1 << 8), "the report's answer");
     expect(named[0] == UINT64_MAX && in_force[0] == UINT64_MAX, "the report's sets");
-    expect(in_force[1] == in_force[PACK_SET_WORDS], "a report writes no other words");
+    expect(memcmp(in_force + 1, untouched, sizeof untouched) == 0, "a report writes no other words in force");
+    expect(memcmp(named + 1, untouched, sizeof named - sizeof named[0]) == 0, "a report names no other words");
 }
 
 int main(void)

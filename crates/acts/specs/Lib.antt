@@ -1,4 +1,3 @@
 pub mod Acts
-pub mod Cases
 pub mod First
 pub mod Choices

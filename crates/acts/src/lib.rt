@@ -1,6 +1,6 @@
 // What a turn can do, as a reader of the state answers it and a writer carries it out.
 ghost use mathlib.Core.Path.{_≡_};
-ghost use Rattle.acts.specs.Acts.{isDue, orAct};
+ghost use Rattle.acts.specs.Acts.{isDue};
 
 // The values that the counted AUXs of a round carry.
 pub enum View {
@@ -42,11 +42,4 @@ pub fn is_due(a: Act) -> bool
         Act::Aux(_, _, _) => true,
         Act::Move(_, _, _) => true,
     }
-}
-
-// The first, unless that is idle.
-pub fn or_act(a: Act, b: Act) -> Act
-    ensures { λ r. ⌜ r ≡ orAct a b ⌝ }
-{
-    if is_due(a) { a } else { b }
 }

@@ -73,7 +73,7 @@ decidedOne s i = marked s decidedOneAt i
 unfoldable pub decided : List ℕ → ℕ → Bool
 decided s i = decidedZero s i || decidedOne s i
 
--- the number of values in the COMMIT of sender p, 0 where none is held; a higher one than 16 is no state
+-- the number of values in the COMMIT of sender p, 0 where none is held; one above n is no state, and 16 is all that has room
 unfoldable pub commitCount : List ℕ → ℕ → ℕ
 commitCount s p = min (word s (commitCountAt p)) 16
 

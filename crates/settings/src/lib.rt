@@ -79,7 +79,7 @@ impl Settings {
         self.ts as u64 + 1
     }
 
-    // n − ta: a move, and the votes decided 1 that exits 2 and 3 ask for.
+    // n − ta: a move, and the votes decided 1 that a start with 0 and exits 2 and 3 ask for.
     pub fn vote_quorum(self) -> u64
         ensures { λ r. ⌜ r ≡ voteQuorum self ⌝ }
     {

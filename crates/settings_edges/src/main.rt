@@ -1,7 +1,5 @@
-// Settings on the edge of the rules: for each a line `n ta ts open`, or `n ta ts 1`.
+// Openings with settings on the edge of the rules: for each a line `n ta ts open`, or `n ta ts 1`.
 use libc::STDOUT_FILENO;
-use settings::Checked;
-use settings::Settings;
 
 const LARGEST: u64 = 18446744073709551615;
 // Twice this is 2^64, which wraps to 0.
@@ -12,23 +10,35 @@ fn number(x: u64) {
     io::write_all(STDOUT_FILENO, b" ");
 }
 
-fn answer(n: u64, ta: u64, ts: u64) {
-    match Settings::check(n, Settings::named_ta(ta), ts) {
-        Checked::Valid(_) => {
-            io::write_all(STDOUT_FILENO, b"open\n");
-        }
-        Checked::Invalid => {
-            io::print_decimal(STDOUT_FILENO, settings::refusal::SETTINGS);
-            io::write_all(STDOUT_FILENO, b"\n");
-        }
+// What an opening by concentrator 1 answers, lent n coin words, or all of them where there are fewer.
+fn open_with(state: &mut [u64], coins: &[u32], n: u64, ta: u64, ts: u64) -> u64 {
+    if coins.len() as u64 <= n {
+        return opening::open(state, n, ta, ts, 1, 7, 5, coins);
     }
+    opening::open(state, n, ta, ts, 1, 7, 5, &coins[..n as usize])
+}
+
+// Above 17 an opening is refused for n before its coin words are counted.
+fn answer(n: u64, ta: u64, ts: u64) -> u64 {
+    let mut state = [0u64; 2048];
+    let coins = [0u32; 17];
+    open_with(&mut state, &coins, n, ta, ts)
+}
+
+fn print_answer(answer: u64) {
+    if answer == 0 {
+        io::write_all(STDOUT_FILENO, b"open");
+    } else {
+        io::print_decimal(STDOUT_FILENO, answer);
+    }
+    io::write_all(STDOUT_FILENO, b"\n");
 }
 
 fn edge(n: u64, ta: u64, ts: u64) {
     number(n);
     number(ta);
     number(ts);
-    answer(n, ta, ts);
+    print_answer(answer(n, ta, ts));
 }
 
 fn main() {

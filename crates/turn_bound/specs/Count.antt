@@ -1,19 +1,22 @@
 -- The theorem of specs/TurnBound.antt, by induction on the calls.
 use Prim.Native.Nat.{ℕ, _+_}
-use mathlib.Core.Bool.{true, cond}
+use mathlib.Core.Bool.{Bool, true, false, cond}
 use mathlib.Core.List.{List, [], _∷_}
-use mathlib.Core.Path.{_≡_, ap, _∙_}
+use mathlib.Core.Path.{_≡_, refl, ap, _∙_}
 use native.Mathlib.Omega.{arith}
+use lib.Dec.{eqb}
 use lib.ListN.{length}
+use borrow.Author.Tests.{eqb-true}
 use Rattle.settings.specs.Laws.{Ruled}
 use Rattle.settings.specs.declared.Settings.{Settings}
 use Rattle.records.specs.Layout.{turnsAt}
 use Rattle.records.specs.Words.{word}
 use Rattle.session.specs.Session.{settingsOf, isState}
+use Rattle.opening.specs.Opening.{opened}
 use Rattle.turn.specs.Turn.{turnOutcome}
 use Rattle.report.specs.Report.{figuresOf}
 use Rattle.report.specs.Laws.{report-gives}
-use Rattle.turn_bound.specs.TurnBound.{Step, delivery, turn, report, after, acts, acting, Reports, Counted, TurnCount}
+use Rattle.turn_bound.specs.TurnBound.{Arguments, answer, openedBy, settingsBy, Step, opening, delivery, turn, report, after, acts, acting, current, Reports, Counted, TurnCount}
 use Rattle.turn_bound.specs.Sound.{Sound, sound-bound, sound-state}
 use Rattle.turn_bound.specs.Delivering.{delivery-sound}
 use Rattle.turn_bound.specs.Turning.{turn-sound}
@@ -24,34 +27,58 @@ told : (w : List ℕ) (k : ℕ) → isState w ≡ true → word w turnsAt ≡ k 
 unfolding figuresOf
 told w k is e = record { figures = figuresOf (settingsOf w) w; given = report-gives w is 16 16 (omega arith) (omega arith); count = e }
 
-module _ (g : Settings) (ruled : Ruled g) (s : List ℕ) (h : Sound g s) (start : word s turnsAt ≡ 0) where
-  all-sound : (cs : List Step) → Sound g (after s cs)
-  unfolding after
-  all-sound [] = h
-  all-sound (delivery link b ∷ cs) = delivery-sound g ruled (after s cs) (all-sound cs) link b .sound
-  all-sound (turn out ∷ cs) = turn-sound g ruled (after s cs) (all-sound cs) out .sound
-  all-sound (report ∷ cs) = all-sound cs
+-- a session of settings g goes on in the words w
+record Going (g : Settings) (w : List ℕ) (k : ℕ) : Type 0 where
+  ruled : Ruled g
+  sound : Sound g w
+  count : word w turnsAt ≡ k
 
-  all-counted : (cs : List Step) → word (after s cs) turnsAt ≡ acting s cs
-  unfolding after acting
-  all-counted [] = start
-  all-counted (delivery link b ∷ cs) = delivery-sound g ruled (after s cs) (all-sound cs) link b .count ∙ all-counted cs
-  all-counted (turn out ∷ cs) =
-      turn-sound g ruled (after s cs) (all-sound cs) out .count
-      ∙ ap (λ (k : ℕ). cond (acts (turnOutcome (after s cs) (length out))) (k + 1) k) (all-counted cs)
-  all-counted (report ∷ cs) = all-counted cs
+opening-going : (w : List ℕ) (o : Arguments) → answer w o ≡ 0 → Going (settingsBy o) (openedBy w o) 0
+opening-going w o e =
+    record {
+      ruled = opened-ruled w (o .coins) (o .n) (o .ta) (o .ts) (o .own) (o .session) (o .input) e;
+      sound = opened-sound w (o .coins) (o .n) (o .ta) (o .ts) (o .own) (o .session) (o .input) e;
+      count = opened-turns w (o .coins) (o .n) (o .ta) (o .ts) (o .own) (o .session) (o .input) e;
+    }
 
-  counted : (cs : List Step) → Counted g s cs
-  counted cs =
+refused-words : (w : List ℕ) (o : Arguments) → eqb (answer w o) 0 ≡ false → openedBy w o ≡ w
+unfolding opened
+refused-words w o e = rw e
+
+module _ (g : Settings) (s : List ℕ) (start : Going g s 0) where
+  going : (cs : List Step) → Going (current g s cs) (after s cs) (acting s cs)
+  unfolding current after acting
+  going [] = start
+  going (opening o ∷ cs) = at (eqb (answer (after s cs) o) 0) refl (going cs)
+    where
+      at : (b : Bool) → eqb (answer (after s cs) o) 0 ≡ b → Going (current g s cs) (after s cs) (acting s cs) → Going (cond b (settingsBy o) (current g s cs)) (openedBy (after s cs) o) (cond b 0 (acting s cs))
+      at true e x = opening-going (after s cs) o (eqb-true (answer (after s cs) o) 0 e)
+      at false e x = rw (refused-words (after s cs) o e) x
+  going (delivery link b ∷ cs) =
+      let x = going cs in
+      let y = delivery-sound (current g s cs) (x .ruled) (after s cs) (x .sound) link b in
+      record { ruled = x .ruled; sound = y .sound; count = y .count ∙ x .count }
+  going (turn out ∷ cs) =
+      let x = going cs in
+      let y = turn-sound (current g s cs) (x .ruled) (after s cs) (x .sound) out in
       record {
-        stored = all-counted cs;
-        reported = told (after s cs) (acting s cs) (sound-state g ruled (after s cs) (all-sound cs)) (all-counted cs);
-        bounded = omega (arith, all-counted cs, sound-bound g ruled (after s cs) (all-sound cs));
-        state = sound-state g ruled (after s cs) (all-sound cs);
+        ruled = x .ruled;
+        sound = y .sound;
+        count = y .count ∙ ap (λ (k : ℕ). cond (acts (turnOutcome (after s cs) (length out))) (k + 1) k) (x .count);
+      }
+  going (report ∷ cs) = going cs
+
+  counted : (cs : List Step) → Counted (current g s cs) s cs
+  counted cs =
+      let x = going cs in
+      let is = sound-state (current g s cs) (x .ruled) (after s cs) (x .sound) in
+      record {
+        stored = x .count;
+        reported = told (after s cs) (acting s cs) is (x .count);
+        bounded = omega (arith, x .count, sound-bound (current g s cs) (x .ruled) (after s cs) (x .sound));
+        state = is;
       }
 
 pub turn-count : TurnCount
 unfolding TurnCount
-turn-count s coins n ta ts own session input e cs =
-    counted (record { n = n; ta = _; ts = ts }) (opened-ruled s coins n ta ts own session input e) _
-    (opened-sound s coins n ta ts own session input e) (opened-turns s coins n ta ts own session input e) cs
+turn-count s o e = counted (settingsBy o) (openedBy s o) (opening-going s o e)

@@ -21,6 +21,7 @@ use Rattle.wire_laws.specs.Proper.{Layout}
 use Rattle.wire_laws.proofs.Converse.{taken-form}
 use Rattle.delivery.specs.Delivery.{recorded, verdict, wordsAfter, delivered}
 use Rattle.delivery.specs.Frame.{Changed, word-recorded, length-recorded}
+use Rattle.delivery.specs.Kept.{in-layout, Untouched, word-untouched}
 use Rattle.delivery.specs.Accepting.{accepting}
 use Rattle.delivery.specs.declared.Verdict.{Verdict}
 use Rattle.delivery.specs.declared.Verdict.the-variants.{Refused, Accepted}
@@ -28,25 +29,6 @@ use Rattle.turn.specs.Marks.{Keeps}
 use Rattle.turn_bound.specs.Potential.{Grows, potential-grows}
 use Rattle.turn_bound.specs.Rounds.{still, orderly-kept}
 use Rattle.turn_bound.specs.Sound.{Sound}
-
--- a word of what is held: neither below 72, where the settings and what turns write stand, nor of the ECHOs and READYs sent
-record Held (a : ℕ) : Type 0 where
-  above : 72 ≤ a
-  not-echo : a ≢ 136
-  not-ready : a ≢ 137
-
--- recording a message writes only words of what is held
-changed-held : (n p : ℕ) (m : Message) (a : ℕ) → n ≤ 16 → 1 ≤ p → p ≤ n → Layout n p m → Changed p m a → Held a
-changed-held n p (Send i x) a f lo hi l (inl e) = record { above = omega arith; not-echo = λ z. omega arith; not-ready = λ z. omega arith }
-changed-held n p (Send i x) a f lo hi l (inr e) = record { above = omega arith; not-echo = λ z. omega arith; not-ready = λ z. omega arith }
-changed-held n p (Echo i x) a f lo hi l (inl e) = record { above = omega arith; not-echo = λ z. omega arith; not-ready = λ z. omega arith }
-changed-held n p (Echo i x) a f lo hi l (inr e) = record { above = omega arith; not-echo = λ z. omega arith; not-ready = λ z. omega arith }
-changed-held n p (Ready i x) a f lo hi l (inl e) = record { above = omega arith; not-echo = λ z. omega arith; not-ready = λ z. omega arith }
-changed-held n p (Ready i x) a f lo hi l (inr e) = record { above = omega arith; not-echo = λ z. omega arith; not-ready = λ z. omega arith }
-changed-held n p (Est i r b) a f lo hi l e = record { above = omega arith; not-echo = λ z. omega arith; not-ready = λ z. omega arith }
-changed-held n p (Aux i r b) a f lo hi l e = record { above = omega arith; not-echo = λ z. omega arith; not-ready = λ z. omega arith }
-changed-held n p (Commit k) a f lo hi l (inl e) = record { above = omega arith; not-echo = λ z. omega arith; not-ready = λ z. omega arith }
-changed-held n p (Commit k) a f lo hi l (inr e) = record { above = omega arith; not-echo = λ z. omega arith; not-ready = λ z. omega arith }
 
 -- a COMMIT that is recorded has at most n values
 module _ (n : ℕ) (few : n ≤ 16) (s v : List ℕ) (size : length s ≡ 2048) (p : ℕ) (low : 1 ≤ p) (high : p ≤ n) where
@@ -88,10 +70,10 @@ module _ (n : ℕ) (few : n ≤ 16) (s v : List ℕ) (size : length s ≡ 2048) 
       at (yes e) = rw (e, new-count k) (l .1)
       at (no ne) = other-count (Commit k) q (c q lo hi) (no-place ne)
 
--- words that differ only in what is held
-module _ (g : Settings) (ruled : Ruled g) (s t : List ℕ) (same : (a : ℕ) → (Held a → ⊥) → word t a ≡ word s a) where
+-- words that differ only where messages are recorded
+module _ (g : Settings) (ruled : Ruled g) (s t : List ℕ) (same : (a : ℕ) → Untouched a → word t a ≡ word s a) where
   low-same : (a : ℕ) → a < 72 → word t a ≡ word s a
-  low-same a l = same a (λ h. omega arith)
+  low-same a l = same a (inl (omega arith))
 
   same-keeps : (k : ℕ) → word t k ≡ word s k → Keeps k s t
   same-keeps k e p h = ap (λ (w : ℕ). mark w p) e ∙ h
@@ -100,8 +82,8 @@ module _ (g : Settings) (ruled : Ruled g) (s t : List ℕ) (same : (a : ℕ) →
   same-grows =
       record {
         flags = same-keeps 7 (low-same 7 (omega arith));
-        echoes = same-keeps 136 (same 136 (λ h. h .not-echo refl));
-        readies = same-keeps 137 (same 137 (λ h. h .not-ready refl));
+        echoes = same-keeps 136 (same 136 (inr (omega arith, omega arith)));
+        readies = same-keeps 137 (same 137 (inr (omega arith, omega arith)));
         ests = λ i low high. same-keeps (estSentAt i) (low-same (estSentAt i) (omega (arith, ruled .few)));
         auxs = λ i low high. same-keeps (auxSentAt i) (low-same (auxSentAt i) (omega (arith, ruled .few)));
         moved-out = λ i low high e. low-same (roundAt i) (omega (arith, ruled .few)) ∙ e;
@@ -137,11 +119,11 @@ module _ (g : Settings) (ruled : Ruled g) (s : List ℕ) (h : Sound g s) (link :
         sound =
             same-sound g ruled s (recorded s link m (drop 12 b)) same h (length-recorded s (drop 12 b) link m)
             (counts-recorded (g .n) (ruled .few) s (drop 12 b) (h .size) link (f .link-low) (f .link-high) m (f .layout) (h .counts));
-        count = same turnsAt (λ x. omega arith);
+        count = same turnsAt (inl (omega arith));
       }
     where
-      same : (a : ℕ) → (Held a → ⊥) → word (recorded s link m (drop 12 b)) a ≡ word s a
-      same a x = word-recorded s (drop 12 b) link m a (λ c. x (changed-held (g .n) link m a (ruled .few) (f .link-low) (f .link-high) (f .layout) c))
+      same : (a : ℕ) → Untouched a → word (recorded s link m (drop 12 b)) a ≡ word s a
+      same a u = word-untouched s (drop 12 b) link m a (in-layout (g .n) link m (ruled .few) (f .link-low) (f .link-high) (f .layout)) u
 
   session-settings : sessionOf s .settings ≡ g
   unfolding sessionOf sessionWith

@@ -3,6 +3,7 @@ use Prim.Native.Nat.{ℕ, _+_, _≤_}
 use mathlib.Core.Bool.{Bool, true, false, cond}
 use mathlib.Core.List.{List, [], _∷_}
 use mathlib.Core.Path.{_≡_}
+use lib.Dec.{eqb}
 use lib.ListN.{length}
 use Rattle.settings.specs.Settings.{namedTa, turnBound}
 use Rattle.settings.specs.declared.Settings.{Settings}
@@ -18,8 +19,30 @@ use Rattle.report.specs.declared.Figures.{Figures}
 use Rattle.report.specs.declared.Answer.the-variants.{Given}
 use Rattle.turn.specs.declared.Outcome.the-variants.{Refused, Idle, Sent, MovedOut, InForce}
 
--- a call after the opening: a delivery of any bytes from any link, a turn lent any bytes, or a report
+-- the arguments of an opening
+pub record Arguments : Type 0 where
+  pub n : ℕ
+  pub ta : ℕ
+  pub ts : ℕ
+  pub own : ℕ
+  pub session : ℕ
+  pub input : ℕ
+  pub coins : List ℕ
+
+-- the answer of an opening of the words s: 0 is accepted
+abbrev pub answer : List ℕ → Arguments → ℕ
+answer s o = openAnswer (length s) (o .n) (o .ta) (o .ts) (o .own) (length (o .coins))
+
+-- the words after it
+abbrev pub openedBy : List ℕ → Arguments → List ℕ
+openedBy s o = opened s (o .n) (o .ta) (o .ts) (o .own) (o .session) (o .input) (o .coins)
+
+abbrev pub settingsBy : Arguments → Settings
+settingsBy o = record { n = o .n; ta = namedTa (o .ta); ts = o .ts }
+
+-- a call: an opening, a delivery of any bytes from any link, a turn lent any bytes, or a report
 pub data Step : Type 0 where
+  opening : Arguments → Step
   delivery : ℕ → List ℕ → Step
   turn : List ℕ → Step
   report : Step
@@ -27,6 +50,7 @@ pub data Step : Type 0 where
 -- the words after a list of calls, newest first, on the words s; a report writes none of them
 unfoldable pub after : List ℕ → List Step → List ℕ
 after s [] = s
+after s (opening o ∷ cs) = openedBy (after s cs) o
 after s (delivery link b ∷ cs) = delivered (after s cs) link b
 after s (turn out ∷ cs) = turnWords (after s cs) (length out)
 after s (report ∷ cs) = after s cs
@@ -39,12 +63,21 @@ acts (Sent m) = true
 acts MovedOut = true
 acts InForce = true
 
--- "the number of turns since opening that did not answer idle"
+-- "the number of turns since opening that did not answer idle": an accepted opening starts anew
 unfoldable pub acting : List ℕ → List Step → ℕ
 acting s [] = 0
+acting s (opening o ∷ cs) = cond (eqb (answer (after s cs) o) 0) 0 (acting s cs)
 acting s (delivery link b ∷ cs) = acting s cs
 acting s (turn out ∷ cs) = cond (acts (turnOutcome (after s cs) (length out))) (acting s cs + 1) (acting s cs)
 acting s (report ∷ cs) = acting s cs
+
+-- the settings of the last accepted opening, g before any
+unfoldable pub current : Settings → List ℕ → List Step → Settings
+current g s [] = g
+current g s (opening o ∷ cs) = cond (eqb (answer (after s cs) o) 0) (settingsBy o) (current g s cs)
+current g s (delivery link b ∷ cs) = current g s cs
+current g s (turn out ∷ cs) = current g s cs
+current g s (report ∷ cs) = current g s cs
 
 -- a report lent 16 words for each set gives the count k
 pub record Reports (w : List ℕ) (k : ℕ) : Type 0 where
@@ -52,7 +85,7 @@ pub record Reports (w : List ℕ) (k : ℕ) : Type 0 where
   pub given : reportAnswer w 16 16 ≡ Given figures
   pub count : figures .turns ≡ k
 
--- what holds after the calls cs in a session of settings g, opened with the words s
+-- what holds after the calls cs, where the last accepted opening has settings g; s are the words after the first one
 pub record Counted (g : Settings) (s : List ℕ) (cs : List Step) : Type 0 where
   -- "The count stored and reported is the number of turns since opening that did not answer idle"
   pub stored : word (after s cs) turnsAt ≡ acting s cs
@@ -62,8 +95,8 @@ pub record Counted (g : Settings) (s : List ℕ) (cs : List Step) : Type 0 where
   -- so no call after an accepted opening makes the words "9 NO STATE"
   pub state : isState (after s cs) ≡ true
 
--- for every accepted opening of any buffer and every list of calls after it
+-- for every accepted opening of any buffer and every list of calls after it, further openings, accepted or refused, among them
 unfoldable pub TurnCount : Type 0
 TurnCount =
-    (s coins : List ℕ) (n ta ts own session input : ℕ) → openAnswer (length s) n ta ts own (length coins) ≡ 0 →
-    (cs : List Step) → Counted (record { n = n; ta = namedTa ta; ts = ts }) (opened s n ta ts own session input coins) cs
+    (s : List ℕ) (o : Arguments) → answer s o ≡ 0 →
+    (cs : List Step) → Counted (current (settingsBy o) (openedBy s o) cs) (openedBy s o) cs
