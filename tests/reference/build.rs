@@ -11,6 +11,8 @@ fn main() {
     let directory = env::var("PACK_ENGINE_DIR").expect("PACK_ENGINE_DIR names a directory");
     let library =
         env::var("PACK_ENGINE_LIB").expect("PACK_ENGINE_LIB is dylib=NAME or static=NAME");
+    // A library built anew must be linked anew.
+    println!("cargo:rerun-if-changed={directory}");
     println!("cargo:rustc-link-search=native={directory}");
     println!("cargo:rustc-link-lib={library}");
 }
