@@ -1,5 +1,7 @@
 //! The four C functions of another engine, as an [`Engine`].
 
+use std::ops::{Deref, DerefMut};
+
 use crate::engine::Engine;
 use crate::session::Opening;
 
@@ -37,68 +39,156 @@ extern "C" {
     ) -> u64;
 }
 
-/// The linked engine. It panics if a refusal changes the state.
-#[derive(Clone, Copy, Debug, Default)]
-pub struct CEngine;
+/// Elements with guard elements before and behind them.
+#[derive(Clone, Debug, PartialEq, Eq)]
+pub struct Lent<T> {
+    elements: Vec<T>,
+    guard: T,
+}
 
-/// Panics unless all four calls answer 9 to states of other lengths.
-pub fn check_word_counts(opening: &Opening) {
-    for words in [0, 1, STATE_WORDS - 1, STATE_WORDS + 1] {
-        let state = &mut vec![0; words];
-        assert_eq!(CEngine.open(state, opening), 9, "opening with {words} words");
-        assert_eq!(CEngine.deliver(state, 1, &[]), 9, "delivery with {words} words");
-        assert_eq!(CEngine.turn(state, &mut []), 9, "turn with {words} words");
-        assert_eq!(CEngine.report(state, &mut [], &mut []), 9, "report with {words} words");
+/// Guard elements on each side.
+const GUARDS: usize = 16;
+const GUARD_WORD: u64 = 0x5a5a_5a5a_5a5a_5a5a;
+
+impl<T: Copy + PartialEq> Lent<T> {
+    pub fn new(own: &[T], guard: T) -> Lent<T> {
+        let mut elements = Vec::with_capacity(own.len() + 2 * GUARDS);
+        elements.extend([guard; GUARDS]);
+        elements.extend(own);
+        elements.extend([guard; GUARDS]);
+        Lent { elements, guard }
+    }
+
+    fn end(&self) -> usize {
+        self.elements.len() - GUARDS
+    }
+
+    fn guarded(&self) -> bool {
+        let (front, back) = (&self.elements[..GUARDS], &self.elements[self.end()..]);
+        front.iter().chain(back).all(|&element| element == self.guard)
     }
 }
 
-/// Makes a call on the state, and checks that a refusal leaves it as it was.
-fn checked(state: &mut Vec<u64>, call: impl FnOnce(*mut u64, usize) -> u64) -> u64 {
+impl<T: Copy + PartialEq> Deref for Lent<T> {
+    type Target = [T];
+
+    fn deref(&self) -> &[T] {
+        &self.elements[GUARDS..self.end()]
+    }
+}
+
+impl<T: Copy + PartialEq> DerefMut for Lent<T> {
+    fn deref_mut(&mut self) -> &mut [T] {
+        let end = self.end();
+        &mut self.elements[GUARDS..end]
+    }
+}
+
+/// The words of a state.
+pub type Words = Lent<u64>;
+
+/// State words that hold this.
+pub fn words(own: &[u64]) -> Words {
+    Lent::new(own, GUARD_WORD)
+}
+
+/// The linked engine. It panics if a refusal changes the state, or if a call writes beside what it is lent or to what it
+/// only reads.
+#[derive(Clone, Copy, Debug, Default)]
+pub struct CEngine;
+
+/// Panics unless all four calls answer 9 to states of other lengths and leave them; each holds the front of an open one.
+pub fn check_word_counts(opening: &Opening) {
+    let mut opened = CEngine.blank();
+    assert_eq!(CEngine.open(&mut opened, opening), 0, "good settings");
+    for count in [0, 1, 8, 1_536, STATE_WORDS - 1, STATE_WORDS + 1, 2 * STATE_WORDS] {
+        let own: Vec<u64> = opened.iter().copied().chain([0; STATE_WORDS]).take(count).collect();
+        let state = &mut words(&own);
+        assert_eq!(CEngine.open(state, opening), 9, "opening with {count} words");
+        assert_eq!(CEngine.deliver(state, 1, &[]), 9, "delivery with {count} words");
+        assert_eq!(CEngine.turn(state, &mut []), 9, "turn with {count} words");
+        assert_eq!(CEngine.report(state, &mut [], &mut []), 9, "report with {count} words");
+    }
+}
+
+/// Makes a call on the state, and checks that a refusal leaves it as it was and that its guards stand.
+fn checked(state: &mut Words, call: impl FnOnce(*mut u64, usize) -> u64) -> u64 {
     let before = state.clone();
     let answer = call(state.as_mut_ptr(), state.len());
+    assert!(state.guarded(), "a call wrote beside the state");
     if answer & 0xff != 0 {
         assert!(*state == before, "a call refused with {answer:#x} changed the state");
     }
     answer
 }
 
+/// Lends a guarded copy of a buffer that the call may write, and checks that a refusal leaves it as it was.
+fn lend<T: Copy + PartialEq>(
+    buffer: &mut [T],
+    guard: T,
+    call: impl FnOnce(*mut T, usize) -> u64,
+) -> u64 {
+    let mut lent = Lent::new(buffer, guard);
+    let answer = call(lent.as_mut_ptr(), lent.len());
+    assert!(lent.guarded(), "a call wrote beside a buffer");
+    let unchanged = *lent == *buffer;
+    assert!(answer & 0xff == 0 || unchanged, "a refusal ({answer:#x}) changed a buffer");
+    buffer.copy_from_slice(&lent);
+    answer
+}
+
+/// Lends a guarded copy of a buffer that the call only reads.
+fn show<T: Copy + PartialEq>(
+    buffer: &[T],
+    guard: T,
+    call: impl FnOnce(*const T, usize) -> u64,
+) -> u64 {
+    let lent = Lent::new(buffer, guard);
+    let answer = call(lent.as_ptr(), lent.len());
+    assert!(lent.guarded() && *lent == *buffer, "a call wrote to what it only reads");
+    answer
+}
+
 // SAFETY, for each call below: pointers and lengths are those of live slices, borrowed for the call.
 impl Engine for CEngine {
-    type State = Vec<u64>;
+    type State = Words;
 
-    fn blank(&self) -> Vec<u64> {
-        vec![0; STATE_WORDS]
+    fn blank(&self) -> Words {
+        words(&[0; STATE_WORDS])
     }
 
-    fn open(&self, state: &mut Vec<u64>, opening: &Opening) -> u64 {
+    fn open(&self, state: &mut Words, opening: &Opening) -> u64 {
         let Opening { n, ta, ts, own, session, input, coins } = *opening;
-        checked(state, |words, count| unsafe {
-            pack_open(words, count, n, ta, ts, own, session, input, coins.as_ptr(), coins.len())
+        checked(state, |words, count| {
+            show(coins, 0x5a5a_5a5a, |coins, coin_words| unsafe {
+                pack_open(words, count, n, ta, ts, own, session, input, coins, coin_words)
+            })
         })
     }
 
-    fn deliver(&self, state: &mut Vec<u64>, link: u64, message: &[u8]) -> u64 {
-        checked(state, |words, count| unsafe {
-            pack_deliver(words, count, link, message.as_ptr(), message.len())
+    fn deliver(&self, state: &mut Words, link: u64, message: &[u8]) -> u64 {
+        checked(state, |words, count| {
+            show(message, 0x5a, |bytes, length| unsafe {
+                pack_deliver(words, count, link, bytes, length)
+            })
         })
     }
 
-    fn turn(&self, state: &mut Vec<u64>, message: &mut [u8]) -> u64 {
-        checked(state, |words, count| unsafe {
-            pack_turn(words, count, message.as_mut_ptr(), message.len())
+    fn turn(&self, state: &mut Words, message: &mut [u8]) -> u64 {
+        checked(state, |words, count| {
+            lend(message, 0x5a, |bytes, length| unsafe { pack_turn(words, count, bytes, length) })
         })
     }
 
-    fn report(&self, state: &Vec<u64>, named: &mut [u64], in_force: &mut [u64]) -> u64 {
-        unsafe {
-            pack_report(
-                state.as_ptr(),
-                state.len(),
-                named.as_mut_ptr(),
-                named.len(),
-                in_force.as_mut_ptr(),
-                in_force.len(),
-            )
-        }
+    fn report(&self, state: &Words, named: &mut [u64], in_force: &mut [u64]) -> u64 {
+        let before = state.clone();
+        let answer = lend(named, GUARD_WORD, |named, named_words| {
+            lend(in_force, GUARD_WORD, |in_force, in_force_words| unsafe {
+                let (words, count) = (state.as_ptr(), state.len());
+                pack_report(words, count, named, named_words, in_force, in_force_words)
+            })
+        });
+        assert!(*state == before, "a report changed the state");
+        answer
     }
 }

@@ -6,6 +6,7 @@ mod broadcasts;
 #[cfg(feature = "c-engine")]
 pub mod c_engine;
 mod commits;
+pub mod compare;
 pub mod drill;
 pub mod engine;
 pub mod exits;

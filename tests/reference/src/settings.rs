@@ -9,7 +9,7 @@ pub type Number = u8;
 pub type Round = u8;
 
 /// Settings that the rules allow.
-#[derive(Clone, Copy, Debug, PartialEq, Eq)]
+#[derive(Clone, Copy, Debug, PartialEq, Eq, PartialOrd, Ord)]
 pub struct Settings {
     n: u8,
     ta: u8,

@@ -1,6 +1,7 @@
 //! The attack holds against the sound engine and finds each fault.
 
-use pack_reference::attack::{attack, random_calls, run_feeder};
+use pack_reference::attack::{attack, run_feeder};
+use pack_reference::compare::random_calls;
 use pack_reference::engine::{Lockstep, Reference};
 use pack_reference::Fault;
 

@@ -76,6 +76,7 @@ impl<'a, E: Engine> Feeder<'a, E> {
 
     /// Runs until nothing is on its way and all are idle, or the plan's limit of calls is reached.
     pub fn run(&mut self) -> Result<(), Violation> {
+        self.statistics.settings.insert(self.plan.settings);
         self.send_script();
         (0..self.faces.len()).for_each(|face| self.act_as_face(face));
         while self.statistics.calls < self.plan.pace.call_limit {
@@ -266,7 +267,8 @@ impl<'a, E: Engine> Feeder<'a, E> {
             let (taken, reported) = (honest.taken, report.turns);
             return Err(Violation::Turns { at: number, taken, reported });
         }
-        self.statistics.note(number, &shown);
+        let turns_share = 100 * honest.taken / self.plan.settings.turn_limit();
+        self.statistics.note(number, &shown, turns_share);
         self.claim.check(number, &shown)
     }
 

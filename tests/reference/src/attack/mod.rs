@@ -1,23 +1,22 @@
 //! Whole feeders under attack: every call is followed by a check of demand 3.
 
-mod calls;
 mod claim;
 mod face;
 mod feeder;
 mod pick;
 mod plan;
-mod random;
+pub(crate) mod random;
 mod script;
 
 use std::collections::BTreeSet;
 use std::fmt;
 
-pub use calls::{random_calls, Answers};
 pub use claim::{Claim, Shown, Violation};
 pub use plan::Plan;
 
+use crate::compare::all_settings;
 use crate::engine::Engine;
-use crate::settings::Number;
+use crate::settings::{Number, Settings};
 use feeder::Feeder;
 use random::Random;
 
@@ -30,12 +29,17 @@ pub struct Statistics {
     pub exits: [u64; 4],
     /// Feeders in which an honest one closed.
     pub closed: u64,
+    /// The settings of the feeders.
+    pub settings: BTreeSet<Settings>,
+    /// The most turns of an honest one that were not idle, in hundredths of 99·n+3.
+    pub most_turns: u64,
     seen: BTreeSet<u8>,
     closed_here: BTreeSet<Number>,
 }
 
 impl Statistics {
-    fn note(&mut self, number: Number, shown: &Shown) {
+    fn note(&mut self, number: Number, shown: &Shown, turns_share: u64) {
+        self.most_turns = self.most_turns.max(turns_share);
         self.seen.insert(shown.exit);
         if shown.in_force.is_some() {
             self.closed_here.insert(number);
@@ -49,6 +53,8 @@ impl Statistics {
             self.exits[usize::from(exit)] += 1;
         }
         self.closed += u64::from(!other.closed_here.is_empty());
+        self.settings.extend(&other.settings);
+        self.most_turns = self.most_turns.max(other.most_turns);
     }
 }
 
@@ -57,8 +63,13 @@ impl fmt::Display for Statistics {
         let [_, one, two, three] = self.exits;
         write!(
             f,
-            "{} feeders, {} calls; exit 1 seen in {one}, exit 2 in {two}, exit 3 in {three}, closed in {}",
-            self.feeders, self.calls, self.closed
+            "{} feeders of {} settings, {} calls; exit 1 seen in {one}, exit 2 in {two}, exit 3 in {three}, closed in \
+             {}; at most {} % of the turns that 99n+3 allows",
+            self.feeders,
+            self.settings.len(),
+            self.calls,
+            self.closed,
+            self.most_turns
         )
     }
 }
@@ -87,15 +98,20 @@ pub fn run_feeder<E: Engine>(engine: &E, seed: u64) -> (Statistics, Result<(), V
     (feeder.statistics, result)
 }
 
-/// Runs so many feeders, or up to the first in which demand 3 is broken.
+/// Runs so many feeders and then more, until all settings with n up to 7 had one; it ends early where demand 3 is broken.
 pub fn attack<E: Engine>(engine: &E, seed: u64, feeders: u64) -> (Statistics, Option<Finding>) {
     let mut random = Random::new(seed);
     let mut total = Statistics::default();
-    for feeder in 1..=feeders {
+    let all = all_settings(pick::MOST as u64).count();
+    while total.feeders < feeders || total.settings.len() < all {
         let seed = random.word();
+        if feeders <= total.feeders && total.settings.contains(&Plan::new(seed).settings) {
+            continue;
+        }
         let (statistics, result) = run_feeder(engine, seed);
         total.add_feeder(&statistics);
         if let Err(violation) = result {
+            let feeder = total.feeders;
             return (total, Some(Finding { feeder, seed, violation }));
         }
     }

@@ -5,10 +5,11 @@ use std::collections::{BTreeMap, BTreeSet};
 use super::plan::{Aim, Faces, Group, Hold, Opened, Pace};
 use super::random::Random;
 use super::script::Script;
+use crate::compare::all_settings;
 use crate::settings::{Number, Settings};
 
 /// The most concentrators of a feeder in the attack, and the number of packs.
-const MOST: usize = 7;
+pub const MOST: usize = 7;
 /// A delay that lasts until nothing else is on its way.
 const WHOLE_SESSION: u64 = 1_000_000;
 
@@ -30,11 +31,7 @@ pub fn settings(random: &mut Random, aim: Aim) -> Settings {
         // With ta = 0 no vote can start with 0, and the first half has no liars.
         Aim::BlockedBroadcast | Aim::SplitVote | Aim::SplitStart => settings.ta() > 0,
     };
-    let all: Vec<Settings> = (1..=MOST as u64)
-        .flat_map(|n| (0..n).flat_map(move |ts| (0..=ts).map(move |ta| (n, ta, ts))))
-        .filter_map(|(n, ta, ts)| Settings::new(n, ta, ts).ok())
-        .filter(suits)
-        .collect();
+    let all: Vec<Settings> = all_settings(MOST as u64).filter(suits).collect();
     random.pick(&all)
 }
 

@@ -1,26 +1,37 @@
-//! Runs the reference and the linked C engine in lockstep. Arguments: seed, number of feeders, number of calls.
-//! It panics at the first difference.
+//! Runs the reference and the linked C engine in lockstep. Arguments: seed, number of feeders, number of random calls,
+//! and of calls on planted words. It panics at the first difference.
 
+use std::fmt::Display;
 use std::process::ExitCode;
+use std::time::Instant;
 
-use pack_reference::attack::{attack, random_calls};
+use pack_reference::attack::attack;
 use pack_reference::c_engine::{check_word_counts, CEngine};
+use pack_reference::compare::{damaged_deliveries, foreign_calls, longest_sessions, random_calls};
 use pack_reference::engine::{Lockstep, Reference};
 use pack_reference::Opening;
 
 fn main() -> ExitCode {
     let arguments: Vec<u64> =
         std::env::args().skip(1).filter_map(|text| text.parse().ok()).collect();
-    let [seed, feeders, calls] = arguments[..] else {
-        eprintln!("usage: compare SEED FEEDERS CALLS");
+    let [seed, feeders, calls, foreign] = arguments[..] else {
+        eprintln!("usage: compare SEED FEEDERS CALLS FOREIGN");
         return ExitCode::from(2);
     };
+    println!("seed {seed}");
     let coins = &[0];
     check_word_counts(&Opening { n: 1, ta: 0, ts: 0, own: 1, session: 0, input: 0, coins });
     let engine = Lockstep { first: Reference::default(), second: CEngine };
-    println!("{:?}", random_calls(&engine, seed, calls));
+    let start = Instant::now();
+    let note = |part: &str, what: &dyn Display| {
+        println!("{part}: {what} ({:.1} s since the start)", start.elapsed().as_secs_f64());
+    };
+    note("damaged messages", &damaged_deliveries(&engine));
+    note("longest sessions", &longest_sessions(&engine, 7));
+    note("random calls", &random_calls(&engine, seed, calls));
+    note("planted words", &foreign_calls(&CEngine, &CEngine, seed, foreign));
     let (statistics, finding) = attack(&engine, seed, feeders);
-    println!("{statistics}");
+    note("attack", &statistics);
     match finding {
         Some(finding) => {
             println!("violation in {finding}");

@@ -1,23 +1,12 @@
-//! Calls with random arguments on one state, for a comparison of two engines in lockstep.
+//! Calls with random arguments on one state, each followed by a report.
 
-use super::random::Random;
+use super::Answers;
+use crate::attack::random::Random;
 use crate::engine::Engine;
 use crate::message::{Message, PackSet, LONGEST};
-use crate::packing::refusal;
 use crate::report::SET_WORDS;
 use crate::session::Opening;
 use crate::settings::{Number, Round, Settings};
-
-/// How often each answer was given.
-#[derive(Clone, Debug, Default, PartialEq, Eq)]
-pub struct Answers {
-    /// By refusal, 0 for accepted.
-    pub refusals: [u64; 12],
-    /// Turns: idle, sent, moved out of round 32, in force.
-    pub outcomes: [u64; 4],
-    /// Reports by exit.
-    pub exits: [u64; 4],
-}
 
 /// A state, and what is still to be delivered in its session.
 struct Caller<'a, E: Engine> {
@@ -25,6 +14,8 @@ struct Caller<'a, E: Engine> {
     state: E::State,
     session: u32,
     left: Vec<(Number, Message)>,
+    /// The last turn did something.
+    busy: bool,
     random: Random,
     answers: Answers,
 }
@@ -32,10 +23,12 @@ struct Caller<'a, E: Engine> {
 /// Opens one state anew, again and again, and makes so many calls on it. They follow from the seed and the answers.
 pub fn random_calls<E: Engine>(engine: &E, seed: u64, calls: u64) -> Answers {
     let random = Random::new(seed);
-    let (session, left, answers) = (0, Vec::new(), Answers::default());
-    let mut caller = Caller { engine, state: engine.blank(), session, left, random, answers };
+    let (session, left, busy, answers) = (0, Vec::new(), false, Answers::default());
+    let mut caller = Caller { engine, state: engine.blank(), session, left, busy, random, answers };
     for _ in 0..calls {
         let answer = match caller.random.below(12) {
+            // Mostly turns until idle, or votes would get nowhere.
+            0..=5 if caller.busy && !caller.random.once_in(8) => caller.turn(),
             0..=5 => match caller.left.pop() {
                 Some((sender, message)) => caller.deliver(sender, &message),
                 None => caller.open(),
@@ -43,7 +36,8 @@ pub fn random_calls<E: Engine>(engine: &E, seed: u64, calls: u64) -> Answers {
             6..=10 => caller.turn(),
             _ => caller.report(),
         };
-        caller.answers.refusals[(answer & 0xff).min(11) as usize] += 1;
+        caller.answers.note(answer);
+        caller.report_again();
     }
     caller.answers
 }
@@ -55,13 +49,16 @@ impl<E: Engine> Caller<'_, E> {
         let most = random.pick(&[5, 5, 7, Settings::MOST]);
         let n = 1 + random.below(most);
         let ts = random.below(n.div_ceil(2));
-        let ta = random.below(ts.min(n - 1 - 2 * ts) + 1);
+        let most_lying = ts.min(n - 1 - 2 * ts);
+        let ta = if random.once_in(2) { most_lying } else { random.below(most_lying + 1) };
         let mut numbers = [n, ta, ts, 1 + random.below(n)];
         if random.once_in(3) {
-            let edge = [0, 1, 15, 16, 17, 255, 256, 1 << 32, 1 << 63, (1 << 63) + 1, u64::MAX];
-            numbers[random.below(4) as usize] = random.pick(&edge);
+            numbers[random.below(4) as usize] = random.pick(&EDGES);
         }
-        let words = n + random.pick(&[0, 0, 0, 0, 0, 1]);
+        let words = match random.below(12) {
+            0 => random.pick(&[0, n - 1, n + 1, 17, 4_096]),
+            _ => n,
+        };
         let ones = random.pick(&[0, u32::MAX]);
         let coins: Vec<u32> = (0..words).map(|_| random.word() as u32 | ones).collect();
         let session = random.pick(&[0, 7, u32::MAX]);
@@ -82,53 +79,65 @@ impl<E: Engine> Caller<'_, E> {
         let random = &mut self.random;
         let mut bytes = message.to_bytes(sender, self.session);
         let mut link = u64::from(sender);
-        match random.below(60) {
+        let damage = random.below(60);
+        match damage {
             0 => bytes.truncate(random.below(bytes.len() as u64) as usize),
-            1 => bytes.extend([0; 8]),
-            2 => link = random.pick(&[0, 1, 2, 16, 17, link + 256, u64::MAX]),
-            3..=6 => {
+            1 => bytes.resize(bytes.len() + random.pick(&[1, 8, 120, 4_096]), 0),
+            2 => link = random.pick(&EDGES),
+            3 => link += random.pick(&[1, 256, 1 << 32]),
+            4..=7 => {
                 let place = random.below(bytes.len() as u64) as usize;
                 bytes[place] = random.pick(&[0, 1, 2, 16, 17, 32, 33, 255]);
             }
-            7 => self.left.push((sender, message.clone())),
             _ => {}
+        }
+        // A lost message would stop a vote with ta = 0; so most come again, whole, and at times one that is held.
+        if damage <= 8 && !random.once_in(40) {
+            self.left.push((sender, message.clone()));
         }
         self.engine.deliver(&mut self.state, link, &bytes)
     }
 
     fn turn(&mut self) -> u64 {
-        let mut lent = vec![0xa5; length(&mut self.random, LONGEST)];
-        let answer = self.engine.turn(&mut self.state, &mut lent);
-        if refusal(answer).is_none() {
-            self.answers.outcomes[(answer >> 8 & 3) as usize] += 1;
-        }
+        let length = length(&mut self.random, LONGEST);
+        let answer = self.engine.turn(&mut self.state, &mut vec![0xa5; length]);
+        self.answers.note_turn(answer);
+        self.busy = 1 << 8 <= answer;
         answer
     }
 
     fn report(&mut self) -> u64 {
         let mut named = vec![7; length(&mut self.random, SET_WORDS)];
         let mut in_force = vec![8; length(&mut self.random, SET_WORDS)];
+        self.engine.report(&self.state, &mut named, &mut in_force)
+    }
+
+    /// The report after every call; it is not counted as a call.
+    fn report_again(&mut self) {
+        let (mut named, mut in_force) = ([7; SET_WORDS], [8; SET_WORDS]);
         let answer = self.engine.report(&self.state, &mut named, &mut in_force);
-        if refusal(answer).is_none() {
-            self.answers.exits[(answer >> 8 & 3) as usize] += 1;
-        }
-        answer
+        self.answers.note_report(answer);
     }
 }
 
-/// Mostly just enough; at times one less, none, or more.
-fn length(random: &mut Random, enough: usize) -> usize {
-    match random.below(40) {
+/// Mostly just enough; at times one less or more, none, that of a head, or much more.
+pub fn length(random: &mut Random, enough: usize) -> usize {
+    match random.below(60) {
         0 => enough - 1,
-        1 => 0,
-        2 => enough + 9,
+        1 => enough + 1,
+        2 => random.pick(&[0, 1, 11, 12]),
+        3 => random.pick(&[enough + 9, 2_052, 65_536]),
         _ => enough,
     }
 }
 
+/// Numbers on the edge of what a link, or a setting, can be.
+pub const EDGES: [u64; 12] =
+    [0, 1, 2, 15, 16, 17, 255, 256, 1 << 32, 1 << 63, (1 << 63) + 1, u64::MAX];
+
 /// A message for nearly every place, mostly with the value that the other senders give, in random order.
 fn messages(random: &mut Random, n: u8) -> Vec<(Number, Message)> {
-    let rounds: Round = random.pick(&[1, 1, 2, 4, if n > 5 { 4 } else { 32 }]);
+    let rounds: Round = random.pick(&[1, 2, 4, if n > 5 { 4 } else { 32 }]);
     let packs = random.pick(&[1, 2, 2, 3, 16]);
     let noise = random.pick(&[2, 20, 1_000]);
     let mut messages = Vec::new();

@@ -1,0 +1,197 @@
+//! States with words that no engine wrote. The reference cannot hold them, so two engines over the words are compared.
+
+use super::calls::length;
+use super::Answers;
+use crate::attack::random::Random;
+use crate::c_engine::{words, Words, STATE_WORDS};
+use crate::engine::Engine;
+use crate::message::{Message, LONGEST};
+use crate::report::SET_WORDS;
+use crate::session::Opening;
+use crate::settings::Number;
+
+/// Calls on a state before the next one.
+const CALLS: u64 = 24;
+
+struct Pair<'a, A, B> {
+    first: &'a A,
+    second: &'a B,
+    state: Words,
+    /// What the second engine works on: a copy before each call, its result after it.
+    copy: Words,
+    random: Random,
+    answers: Answers,
+}
+
+/// Makes so many calls on states with planted words, with both engines from equal copies. It panics at the first
+/// answer, lent byte or state word in which they differ.
+pub fn foreign_calls<A, B>(first: &A, second: &B, seed: u64, calls: u64) -> Answers
+where
+    A: Engine<State = Words>,
+    B: Engine<State = Words>,
+{
+    let state = words(&[0; STATE_WORDS]);
+    let copy = state.clone();
+    let (random, answers) = (Random::new(seed), Answers::default());
+    let mut pair = Pair { first, second, state, copy, random, answers };
+    for call in 0..calls {
+        if call % CALLS == 0 {
+            plant(&mut pair.random, &mut pair.state);
+        }
+        pair.call();
+    }
+    pair.answers
+}
+
+impl<A: Engine<State = Words>, B: Engine<State = Words>> Pair<'_, A, B> {
+    fn call(&mut self) {
+        self.copy.copy_from_slice(&self.state);
+        let answer = match self.random.below(32) {
+            0 => self.open(),
+            1..=11 => self.deliver(),
+            12..=25 => self.turn(),
+            _ => self.report(),
+        };
+        assert!(self.state == self.copy, "the words after a call that answered {answer:#x} differ");
+        self.answers.note(answer);
+    }
+
+    fn open(&mut self) -> u64 {
+        let n = self.random.below(18);
+        let [ta, ts, own] = [2, 6, 17].map(|end| self.random.below(end));
+        let coins = vec![self.random.word() as u32; n as usize];
+        let opening = &Opening { n, ta, ts, own, session: 7, input: 5, coins: &coins };
+        let first = self.first.open(&mut self.state, opening);
+        assert_eq!(first, self.second.open(&mut self.copy, opening), "openings differ");
+        first
+    }
+
+    fn deliver(&mut self) -> u64 {
+        let n = self.state[0].clamp(1, 16);
+        let sender = 1 + self.random.below(n) as Number;
+        let message = message(&mut self.random, n);
+        let mut bytes = message.to_bytes(sender, self.state[4] as u32);
+        if self.random.once_in(16) {
+            let place = self.random.below(bytes.len() as u64) as usize;
+            bytes[place] = self.random.word() as u8;
+        }
+        let link = u64::from(sender);
+        let first = self.first.deliver(&mut self.state, link, &bytes);
+        assert_eq!(first, self.second.deliver(&mut self.copy, link, &bytes), "deliveries differ");
+        first
+    }
+
+    fn turn(&mut self) -> u64 {
+        let mut lent = vec![0xa5; length(&mut self.random, LONGEST)];
+        let mut lent_copy = lent.clone();
+        let first = self.first.turn(&mut self.state, &mut lent);
+        let second = self.second.turn(&mut self.copy, &mut lent_copy);
+        assert_eq!((first, lent), (second, lent_copy), "turns differ");
+        self.answers.note_turn(first);
+        first
+    }
+
+    fn report(&mut self) -> u64 {
+        let mut named = vec![7; length(&mut self.random, SET_WORDS)];
+        let mut in_force = vec![8; length(&mut self.random, SET_WORDS)];
+        let (mut named_copy, mut in_force_copy) = (named.clone(), in_force.clone());
+        let first = self.first.report(&self.state, &mut named, &mut in_force);
+        let second = self.second.report(&self.copy, &mut named_copy, &mut in_force_copy);
+        assert_eq!((first, named, in_force), (second, named_copy, in_force_copy), "reports differ");
+        self.answers.note_report(first);
+        first
+    }
+}
+
+fn message(random: &mut Random, n: u64) -> Message {
+    let instance = 1 + random.below(n) as Number;
+    let rounds = random.pick(&[1, 4, 32]);
+    let round = 1 + random.below(rounds) as u8;
+    let value = random.below(3);
+    let bit = random.once_in(2);
+    match random.below(6) {
+        0 => Message::Send { value },
+        1 => Message::Echo { instance, value },
+        2 => Message::Ready { instance, value },
+        3 => Message::Est { instance, round, value: bit },
+        4 => Message::Aux { instance, round, value: bit },
+        _ => Message::Commit { values: (0..=random.below(n.min(3))).collect() },
+    }
+}
+
+/// Words in which about one bit in 64, a half, or all but one in 64 are set; or none, or all.
+fn marks(random: &mut Random) -> impl Fn(&mut Random) -> u64 {
+    let kind = random.below(6);
+    move |random: &mut Random| match kind {
+        0 => 0,
+        1 => random.word() & random.word() & random.word() & random.word(),
+        2 => random.word(),
+        3 => random.word() | random.word() | random.word() | random.word(),
+        4 => u64::MAX,
+        _ => random.pick(&[0, u64::MAX]),
+    }
+}
+
+/// Plants words everywhere: settings mostly valid, marks and values of all densities, places above n too.
+fn plant(random: &mut Random, state: &mut Words) {
+    if random.once_in(16) {
+        state.iter_mut().for_each(|word| *word = random.word());
+    }
+    plant_settings(random, state);
+    let (n, wild) = (state[0], random.once_in(4));
+    let turns = [0, 1, 99 * (n & 31), 99 * (n & 31) + 3, 99 * (n & 31) + 4, u64::MAX];
+    state[6] = if random.once_in(4) { random.pick(&turns) } else { random.below(99) };
+    state[7] = random.word() & !random.pick(&[1, 1, 1, 0]);
+    // The regions of docs/ARCHITECTURE.md, "The words".
+    plant_marks(random, state, 8..24);
+    let highest = random.pick(&[1, 2, 4, 34, 34]);
+    plant_numbers(random, state, 24..40, highest, wild);
+    for region in [40..56, 56..72, 88..104, 104..120, 136..141] {
+        plant_marks(random, state, region);
+    }
+    let most = random.pick(&[1, 2, n.saturating_add(1).min(17)]);
+    plant_numbers(random, state, 120..136, most, wild);
+    for region in [72..88, 256..512, 512..768, 768..1024] {
+        let values = random.pick(&[1, 2, 3, 50]);
+        let region = &mut state[region];
+        region.iter_mut().for_each(|word| *word = random.below(values));
+    }
+    plant_marks(random, state, 1024..1536);
+    plant_marks(random, state, 1536..2048);
+}
+
+/// Valid, or one of them not.
+fn plant_settings(random: &mut Random, state: &mut Words) {
+    let most = random.pick(&[4, 7, 16]);
+    let n = 1 + random.below(most);
+    let ts = random.below(n.div_ceil(2));
+    let ta = random.below(ts.min(n - 1 - 2 * ts) + 1);
+    state[..4].copy_from_slice(&[n, ta, ts, 1 + random.below(n)]);
+    // The session number is the low half.
+    state[4] = if random.once_in(4) { random.word() } else { 7 };
+    state[5] = random.below(3);
+    if random.once_in(20) {
+        let place = random.below(4) as usize;
+        state[place] = random.pick(&[0, 1, 8, 16, 17, 255, 1 << 32, u64::MAX]);
+    }
+}
+
+fn plant_marks(random: &mut Random, state: &mut Words, region: std::ops::Range<usize>) {
+    let word = marks(random);
+    state[region].iter_mut().for_each(|place| *place = word(random));
+}
+
+/// Numbers below `end`; wild ones above n mostly, which no call may look at.
+fn plant_numbers(
+    random: &mut Random,
+    state: &mut Words,
+    region: std::ops::Range<usize>,
+    end: u64,
+    wild: bool,
+) {
+    let n = state[0].min(16) as usize;
+    for (place, word) in state[region].iter_mut().enumerate() {
+        let strange = wild && (n <= place || random.once_in(200));
+        *word = if strange { random.word() } else { random.below(end) };
+    }
+}

@@ -1,0 +1,86 @@
+//! 01: "Apart from idle, a session takes at most 99·n+3 turns": sessions that take just so many.
+
+use super::Answers;
+use crate::engine::Engine;
+use crate::message::{Message, PackSet, LONGEST};
+use crate::packing::unpack_report;
+use crate::report::SET_WORDS;
+use crate::session::Opening;
+use crate::settings::{Number, Round, Settings};
+
+/// All settings with n up to `most`.
+pub fn all_settings(most: u64) -> impl Iterator<Item = Settings> {
+    let numbers = |n: u64| (0..n).flat_map(move |ts| (0..=ts).map(move |ta| (n, ta, ts)));
+    (1..=most).flat_map(numbers).filter_map(|(n, ta, ts)| Settings::new(n, ta, ts).ok())
+}
+
+/// Sessions of all settings with n up to `most`. In each round of each vote all four things are due, up to the move out
+/// of round 32. It panics unless each takes 99·n+3 turns; with n = 1, Exit 1 turns the votes off.
+pub fn longest_sessions<E: Engine>(engine: &E, most: u64) -> Answers {
+    let mut answers = Answers::default();
+    for settings in all_settings(most) {
+        let taken = longest_session(engine, &settings, &mut answers);
+        let expected = if settings.n() == 1 { 5 } else { settings.turn_limit() };
+        assert_eq!(taken, expected, "turns of the longest session of {settings:?}");
+    }
+    answers
+}
+
+fn longest_session<E: Engine>(engine: &E, settings: &Settings, answers: &mut Answers) -> u64 {
+    let [n, ta, ts] = [settings.n(), settings.ta(), settings.ts()].map(u64::from);
+    let mut state = engine.blank();
+    // Ones, so that the last round decides 1.
+    let coins = vec![u32::MAX; n as usize];
+    let opening = Opening { n, ta, ts, own: n, session: 7, input: n, coins: &coins };
+    answers.note(engine.open(&mut state, &opening));
+    for (sender, message) in all_messages(settings) {
+        let bytes = message.to_bytes(sender, 7);
+        answers.note(engine.deliver(&mut state, u64::from(sender), &bytes));
+    }
+    act(engine, &mut state, answers);
+    for sender in settings.numbers() {
+        let bytes = Message::Commit { values: PackSet::from([n]) }.to_bytes(sender, 7);
+        answers.note(engine.deliver(&mut state, u64::from(sender), &bytes));
+    }
+    act(engine, &mut state, answers);
+    let answer = engine.report(&state, &mut [0; SET_WORDS], &mut [0; SET_WORDS]);
+    answers.note_report(answer);
+    unpack_report(answer).expect("a report").turns
+}
+
+/// Turns until idle or refused.
+fn act<E: Engine>(engine: &E, state: &mut E::State, answers: &mut Answers) {
+    loop {
+        let answer = engine.turn(state, &mut [0; LONGEST]);
+        answers.note(answer);
+        answers.note_turn(answer);
+        if answer < 1 << 8 {
+            return;
+        }
+    }
+}
+
+/// Broadcasts with different values; votes in which both values are accepted and carried, but for the last round's AUXs.
+fn all_messages(settings: &Settings) -> Vec<(Number, Message)> {
+    let mut messages = Vec::new();
+    for sender in settings.numbers() {
+        messages.push((sender, Message::Send { value: u64::from(sender) }));
+        for instance in settings.numbers() {
+            let value = u64::from(instance);
+            messages.push((sender, Message::Echo { instance, value }));
+            messages.push((sender, Message::Ready { instance, value }));
+            for round in 1..=Settings::ROUND_LIMIT {
+                messages.push((sender, Message::Est { instance, round, value: false }));
+                messages.push((sender, Message::Est { instance, round, value: true }));
+                let value = aux_value(sender, round);
+                messages.push((sender, Message::Aux { instance, round, value }));
+            }
+        }
+    }
+    messages
+}
+
+/// Both values, but 1 alone in the last round, which then decides.
+fn aux_value(sender: Number, round: Round) -> bool {
+    round == Settings::ROUND_LIMIT || sender % 2 == 1
+}

@@ -1,0 +1,60 @@
+//! Calls for a comparison of two engines in lockstep: random ones, damaged messages, and words that no engine wrote.
+
+mod calls;
+mod damage;
+#[cfg(feature = "c-engine")]
+mod foreign;
+mod longest;
+
+use std::fmt;
+
+pub use calls::random_calls;
+pub use damage::damaged_deliveries;
+#[cfg(feature = "c-engine")]
+pub use foreign::foreign_calls;
+pub use longest::{all_settings, longest_sessions};
+
+use crate::packing::refusal;
+
+/// How often each answer was given.
+#[derive(Clone, Debug, Default, PartialEq, Eq)]
+pub struct Answers {
+    /// By refusal, 0 for accepted.
+    pub refusals: [u64; 12],
+    /// Turns: idle, sent, moved out of round 32, in force.
+    pub outcomes: [u64; 4],
+    /// Reports by exit.
+    pub exits: [u64; 4],
+}
+
+impl Answers {
+    fn note(&mut self, answer: u64) {
+        self.refusals[(answer & 0xff).min(11) as usize] += 1;
+    }
+
+    fn note_turn(&mut self, answer: u64) {
+        if refusal(answer).is_none() {
+            self.outcomes[(answer >> 8 & 3) as usize] += 1;
+        }
+    }
+
+    fn note_report(&mut self, answer: u64) {
+        if refusal(answer).is_none() {
+            self.exits[(answer >> 8 & 3) as usize] += 1;
+        }
+    }
+
+    pub fn calls(&self) -> u64 {
+        self.refusals.iter().sum()
+    }
+}
+
+impl fmt::Display for Answers {
+    fn fmt(&self, f: &mut fmt::Formatter<'_>) -> fmt::Result {
+        let [accepted, refused @ ..] = &self.refusals;
+        let [idle, sent, moved_out, in_force] = self.outcomes;
+        write!(f, "{} calls: {accepted} accepted, refused by number {refused:?}; ", self.calls())?;
+        write!(f, "turns {idle} idle, {sent} sent, {moved_out} moved out, {in_force} in force; ")?;
+        write!(f, "reports by exit {:?}", self.exits)
+    }
+}
