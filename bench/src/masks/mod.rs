@@ -1,0 +1,248 @@
+//! The rules of 01 over the engine's own words, written for speed: masks, population counts, no allocation. It has the
+//! answers of the C functions and is not proved; `compare-words` compares it with the engine.
+
+mod exits;
+mod layout;
+mod state;
+mod votes;
+mod wire;
+
+use exits::{commits_held, set_leader, set_of, Named, Outputs};
+use layout::*;
+use state::{leading, row, Session, Words};
+
+pub use layout::STATE_WORDS;
+
+pub mod refusal {
+    pub const SETTINGS: u64 = 1;
+    pub const LENGTH: u64 = 2;
+    pub const KIND: u64 = 3;
+    pub const SESSION: u64 = 4;
+    pub const SENDER: u64 = 5;
+    pub const FIELD: u64 = 6;
+    pub const VALUE: u64 = 7;
+    pub const SHORT: u64 = 8;
+    pub const NO_STATE: u64 = 9;
+    pub const CLOSED: u64 = 10;
+    pub const HELD: u64 = 11;
+}
+
+const IN_FORCE: u64 = 3 << 8;
+/// ta as it is given where none is named.
+const UNNAMED: u64 = 255;
+const SET_WORDS: usize = 16;
+
+/// The numbers that opening takes beside its buffers.
+#[derive(Clone, Copy)]
+pub struct Numbers {
+    pub n: u64,
+    pub ta: u64,
+    pub ts: u64,
+    pub own: u64,
+    pub session: u32,
+    pub input: u64,
+}
+
+pub fn open(state: &mut [u64], numbers: &Numbers, coins: &[u32]) -> u64 {
+    let Ok(words) = <&mut Words>::try_from(state) else {
+        return refusal::NO_STATE;
+    };
+    let Numbers { n, ta, ts, own, session, input } = *numbers;
+    let ta = if ta == UNNAMED { 0 } else { ta };
+    let valid = Session::new(n, ta, ts).is_some() && (1..=n).contains(&own);
+    if !valid || coins.len() as u64 != n {
+        return refusal::SETTINGS;
+    }
+    words.fill(0);
+    words[..6].copy_from_slice(&[n, ta, ts, own, u64::from(session), input]);
+    for (word, &coin) in words[COINS + 1..].iter_mut().zip(coins) {
+        *word = u64::from(coin);
+    }
+    0
+}
+
+pub fn deliver(state: &mut [u64], link: u64, message: &[u8]) -> u64 {
+    let Ok(words) = <&mut Words>::try_from(state) else {
+        return refusal::NO_STATE;
+    };
+    let Some(session) = Session::of(words) else {
+        return refusal::NO_STATE;
+    };
+    if words[FLAGS] & CLOSED != 0 {
+        return refusal::CLOSED;
+    }
+    match wire::check(words, &session, link, message) {
+        0 => record(words, link as usize & 31, message),
+        number => number,
+    }
+}
+
+/// Records a message that fits the layout, unless its place is taken.
+#[inline]
+fn record(words: &mut Words, p: usize, message: &[u8]) -> u64 {
+    let (i, round) = (usize::from(message[3]) & 31, usize::from(message[4]));
+    let value = wire::value(message, 0);
+    let mark = 1 << (p - 1);
+    let vote = VOTES + 32 * i + round;
+    match message[1] {
+        wire::SEND => take(words, SEND_MARKS, mark, mark, Some((SEND_VALUES + i, value))),
+        wire::ECHO => {
+            take(words, ECHO_MARKS + i, mark, mark, Some((ECHO_VALUES + 16 * i + p, value)))
+        }
+        wire::READY => {
+            take(words, READY_MARKS + i, mark, mark, Some((READY_VALUES + 16 * i + p, value)))
+        }
+        wire::EST => take(words, vote, mark << (16 * value), mark << (16 * value), None),
+        wire::AUX => take(words, vote, mark << 32 | mark << 48, mark << (32 + 16 * value), None),
+        _ => record_commit(words, p, message),
+    }
+}
+
+/// Refuses where one of the marks `held` is set, else sets `mark` and the value's word.
+#[inline]
+fn take(words: &mut Words, at: usize, held: u64, mark: u64, value: Option<(usize, u64)>) -> u64 {
+    if words[at & (STATE_WORDS - 1)] & held != 0 {
+        return refusal::HELD;
+    }
+    words[at & (STATE_WORDS - 1)] |= mark;
+    if let Some((place, value)) = value {
+        words[place & (STATE_WORDS - 1)] = value;
+    }
+    0
+}
+
+fn record_commit(words: &mut Words, p: usize, message: &[u8]) -> u64 {
+    if words[COMMIT_COUNTS + p] != 0 {
+        return refusal::HELD;
+    }
+    let count = usize::from(message[5]);
+    for k in 0..count {
+        words[COMMIT_VALUES + 16 * p + 1 + k] = wire::value(message, k);
+    }
+    words[COMMIT_COUNTS + p] = count as u64;
+    0
+}
+
+pub fn turn(state: &mut [u64], lent: &mut [u8]) -> u64 {
+    let Ok(words) = <&mut Words>::try_from(state) else {
+        return refusal::NO_STATE;
+    };
+    let Some(session) = Session::of(words) else {
+        return refusal::NO_STATE;
+    };
+    if words[FLAGS] & CLOSED != 0 {
+        return refusal::CLOSED;
+    }
+    if lent.len() < wire::LONGEST {
+        return refusal::SHORT;
+    }
+    let answer = act(words, &session, lent);
+    words[TURNS] += u64::from(answer != 0);
+    answer
+}
+
+/// The six rules in their order; 0 is idle. The outputs are worked out only where a rule asks for them.
+#[inline]
+fn act(words: &mut Words, session: &Session, lent: &mut [u8]) -> u64 {
+    let commits = commits_held(words, session);
+    if set_leader(words, commits, session.quorum()).is_some() {
+        words[FLAGS] |= CLOSED;
+        return IN_FORCE;
+    }
+    let mut outputs = None;
+    if words[FLAGS] & COMMIT_SENT == 0 {
+        let found = outputs.insert(Outputs::of(words, session));
+        let answer = send_commit(words, session, found, commits, lent);
+        if answer != 0 {
+            return answer;
+        }
+    }
+    let answer = act_in_broadcasts(words, session, lent);
+    if answer != 0 {
+        return answer;
+    }
+    let outputs = outputs.unwrap_or_else(|| Outputs::of(words, session));
+    if outputs.exit_1(session).is_some() {
+        return 0;
+    }
+    votes::act(words, session, outputs.held, lent)
+}
+
+/// Rule 2.
+#[inline]
+fn send_commit(
+    words: &mut Words,
+    session: &Session,
+    outputs: &Outputs,
+    commits: u64,
+    lent: &mut [u8],
+) -> u64 {
+    let named = Named::of(words, session, outputs);
+    let answer = if named.count != 0 {
+        wire::send(words, [wire::COMMIT, 0, 0], &named.values[..named.count], lent)
+    } else if let Some(p) = set_leader(words, commits, session.copy()) {
+        wire::send(words, [wire::COMMIT, 0, 0], set_of(words, p), lent)
+    } else {
+        return 0;
+    };
+    words[FLAGS] |= COMMIT_SENT;
+    answer
+}
+
+/// Rules 3 to 5.
+#[inline]
+fn act_in_broadcasts(words: &mut Words, session: &Session, lent: &mut [u8]) -> u64 {
+    if words[FLAGS] & SEND_SENT == 0 {
+        words[FLAGS] |= SEND_SENT;
+        return wire::send(words, [wire::SEND, words[OWN] as u8, 0], &[words[INPUT]], lent);
+    }
+    let echoes = words[SEND_MARKS] & !words[ECHO_SENT] & session.all;
+    if echoes != 0 {
+        let i = echoes.trailing_zeros() as usize + 1;
+        words[ECHO_SENT] |= 1 << (i - 1);
+        let value = words[(SEND_VALUES + i) & (STATE_WORDS - 1)];
+        return wire::send(words, [wire::ECHO, i as u8, 0], &[value], lent);
+    }
+    let mut left = session.all & !words[READY_SENT];
+    while left != 0 {
+        let i = left.trailing_zeros() as usize + 1;
+        if let Some(value) = ready_due(words, session, i) {
+            words[READY_SENT] |= 1 << (i - 1);
+            return wire::send(words, [wire::READY, i as u8, 0], &[value], lent);
+        }
+        left &= left - 1;
+    }
+    0
+}
+
+/// Rule 5: a value with n − ts ECHOs, else one with ts + 1 READYs.
+#[inline]
+fn ready_due(words: &Words, session: &Session, i: usize) -> Option<u64> {
+    let i = i & 31;
+    let echoes = words[ECHO_MARKS + i] & session.all;
+    let readies = words[READY_MARKS + i] & session.all;
+    leading(row(words, ECHO_VALUES, i), echoes, session.quorum())
+        .or_else(|| leading(row(words, READY_VALUES, i), readies, session.copy()))
+}
+
+pub fn report(state: &[u64], named: &mut [u64], in_force: &mut [u64]) -> u64 {
+    let Ok(words) = <&Words>::try_from(state) else {
+        return refusal::NO_STATE;
+    };
+    let Some(session) = Session::of(words) else {
+        return refusal::NO_STATE;
+    };
+    if named.len() < SET_WORDS || in_force.len() < SET_WORDS {
+        return refusal::SHORT;
+    }
+    let exit = Named::of(words, &session, &Outputs::of(words, &session));
+    named[..exit.count].copy_from_slice(&exit.values[..exit.count]);
+    let mut set: &[u64] = &[];
+    if words[FLAGS] & CLOSED != 0 {
+        let leader = set_leader(words, commits_held(words, &session), session.quorum());
+        set = leader.map_or(set, |p| set_of(words, p));
+    }
+    in_force[..set.len()].copy_from_slice(set);
+    let counts = (exit.count as u64) << 16 | (set.len() as u64) << 24;
+    exit.exit << 8 | counts | words[TURNS] << 32
+}

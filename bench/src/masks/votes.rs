@@ -1,0 +1,108 @@
+//! 01, rule 6 of the turn order.
+
+use super::layout::*;
+use super::state::{Session, Words};
+use super::wire::{self, AUX, EST};
+
+/// A turn that moved out of round 32.
+const MOVED_OUT: u64 = 2 << 8;
+
+/// The four groups of marks of a round: EST 0, EST 1, AUX 0, AUX 1.
+#[inline]
+fn groups(words: &Words, session: &Session, i: usize, r: usize) -> [u64; 4] {
+    let marks = words[(VOTES + 32 * i + r) & (STATE_WORDS - 1)];
+    [0, 16, 32, 48].map(|shift| marks >> shift & session.all)
+}
+
+/// The first thing due in the votes; 0 is idle. `held` has the marks of the broadcasts with output.
+#[inline]
+pub fn act(words: &mut Words, session: &Session, held: u64, lent: &mut [u8]) -> u64 {
+    let ones = (words[DECIDED_ONE] & session.all).count_ones();
+    let zero_starts = session.vote_quorum() <= ones;
+    for i in 1..=session.n as usize & 31 {
+        let output = held >> (i - 1) & 1;
+        let answer = match words[ROUNDS + i] {
+            0 if output == 1 || zero_starts => enter(words, i, 1, output, lent),
+            0 => 0,
+            round => act_in_round(words, session, i, round as usize, lent),
+        };
+        if answer != 0 {
+            return answer;
+        }
+    }
+    0
+}
+
+#[inline]
+fn act_in_round(words: &mut Words, session: &Session, i: usize, r: usize, lent: &mut [u8]) -> u64 {
+    if let Some((round, value)) = relay(words, session, i, r.min(32)) {
+        words[EST_SENT + i] |= 1 << (32 * value + round - 1);
+        return send_vote(words, EST, i, round, value as u64, lent);
+    }
+    if 32 < r {
+        return 0;
+    }
+    let [est_0, est_1, aux_0, aux_1] = groups(words, session, i, r);
+    let accept = 2 * session.ta as u32 + 1;
+    let accepted = [est_0, est_1].map(|marks| accept <= marks.count_ones());
+    if words[AUX_SENT + i] >> (r - 1) & 1 == 0 {
+        if accepted == [false, false] {
+            return 0;
+        }
+        words[AUX_SENT + i] |= 1 << (r - 1);
+        return send_vote(words, AUX, i, r, u64::from(!accepted[0]), lent);
+    }
+    let zero = if accepted[0] { aux_0 } else { 0 };
+    let one = if accepted[1] { aux_1 } else { 0 };
+    if (zero | one).count_ones() < session.vote_quorum() {
+        return 0;
+    }
+    leave(words, i, r, [zero != 0, one != 0], lent)
+}
+
+/// The lowest round, 0 before 1, with a value that was not sent and that ta + 1 senders hold.
+#[inline]
+fn relay(words: &Words, session: &Session, i: usize, last: usize) -> Option<(usize, usize)> {
+    let sent = words[EST_SENT + i];
+    let rounds = (1u64 << last) - 1;
+    let mut left = !(sent & sent >> 32) & rounds;
+    while left != 0 {
+        let r = left.trailing_zeros() as usize + 1;
+        let [est_0, est_1, ..] = groups(words, session, i, r);
+        for (value, marks) in [est_0, est_1].into_iter().enumerate() {
+            let unsent = sent >> (32 * value + r - 1) & 1 == 0;
+            if unsent && session.ta < u64::from(marks.count_ones()) {
+                return Some((r, value));
+            }
+        }
+        left &= left - 1;
+    }
+    None
+}
+
+/// Moves out of round r; the accepted AUXs carry 0, 1 or both.
+fn leave(words: &mut Words, i: usize, r: usize, carried: [bool; 2], lent: &mut [u8]) -> u64 {
+    let coin = words[COINS + i] >> (r - 1) & 1;
+    let both = carried[0] && carried[1];
+    let estimate = if both { coin } else { u64::from(!carried[0]) };
+    let mark = 1 << (i - 1);
+    let decided = (words[DECIDED_ZERO] | words[DECIDED_ONE]) & mark != 0;
+    if !both && estimate == coin && !decided {
+        words[if estimate == 0 { DECIDED_ZERO } else { DECIDED_ONE }] |= mark;
+    }
+    enter(words, i, r + 1, estimate, lent)
+}
+
+/// Enters a round with its EST; round 33 has none.
+fn enter(words: &mut Words, i: usize, r: usize, estimate: u64, lent: &mut [u8]) -> u64 {
+    words[ROUNDS + i] = r as u64;
+    if 32 < r {
+        return MOVED_OUT;
+    }
+    words[EST_SENT + i] |= 1 << (32 * estimate + r as u64 - 1);
+    send_vote(words, EST, i, r, estimate, lent)
+}
+
+fn send_vote(words: &Words, kind: u8, i: usize, r: usize, value: u64, lent: &mut [u8]) -> u64 {
+    wire::send(words, [kind, i as u8, r as u8], &[value], lent)
+}
