@@ -1,0 +1,352 @@
+/*
+ * The four calls under libFuzzer: the input bytes open a feeder of up to four concentrators and make a list of calls on
+ * their states, with messages as sent, forged, damaged or of any bytes, and with planted words.
+ * The archive is not instrumented, so what the fuzzer follows are the answers (see `note`).
+ */
+#include "lent.h"
+#include "pack_agreement.h"
+
+#define STATES 4
+#define SENT 4096
+#define STATE_BYTES (PACK_STATE_WORDS * sizeof(uint64_t))
+
+struct input {
+    const uint8_t *at, *end;
+};
+
+struct message {
+    uint8_t bytes[PACK_MESSAGE_BYTES];
+    size_t length;
+    /* The next of the states that it goes to. */
+    unsigned next;
+};
+
+static struct lent state[STATES], bytes_lent, named_lent, in_force_lent;
+static struct message sent[SENT];
+static size_t sent_count;
+/* Words were planted, or a state was opened again: what one state sends may then be refused by another. */
+static bool irregular;
+
+/* Calls made and accepted, told at the end. */
+static unsigned long calls_made, calls_accepted;
+
+__attribute__((destructor)) static void tell_calls(void)
+{
+    fprintf(stderr, "calls: %lu made, %lu accepted\n", calls_made, calls_accepted);
+}
+
+/* libFuzzer takes these as coverage. */
+__attribute__((section("__libfuzzer_extra_counters"))) static uint8_t counters[4096];
+
+/* Tells the fuzzer of an answer of one of eight kinds, with what makes it different from others. */
+static void note(unsigned kind, unsigned detail) { counters[(kind * 512 + detail) % sizeof counters] = 1; }
+
+static uint8_t take(struct input *in) { return in->at < in->end ? *in->at++ : 0; }
+
+static uint64_t take_word(struct input *in)
+{
+    uint64_t word = 0;
+    for (int byte = 0; byte < 8; byte++)
+        word = word << 8 | take(in);
+    return word;
+}
+
+/* Mostly the byte itself; from 0xf0 on a number from the edge of what fits. */
+static uint64_t take_number(struct input *in)
+{
+    static const uint64_t edges[16] = {255, 256, 257, 33, 34, 99 * 4 + 3, 99 * 4 + 4, 1587, 1588, UINT32_MAX,
+                                       (uint64_t)1 << 32, (uint64_t)1 << 63, ((uint64_t)1 << 63) + 1, UINT64_MAX - 1,
+                                       UINT64_MAX, 4660};
+    uint8_t byte = take(in);
+    return byte < 0xf0 ? byte : edges[byte & 15];
+}
+
+static uint64_t *words_of(unsigned p) { return (uint64_t *)(void *)lent_start(&state[p]); }
+
+/* Lends state p; mostly all its words, else fewer of them, or one more before them. */
+static size_t lend_state(unsigned p, uint8_t choice)
+{
+    static const size_t counts[4] = {0, 1, PACK_STATE_WORDS - 1, PACK_STATE_WORDS + 1};
+    lend(&state[p], STATE_BYTES);
+    return choice < 0xf8 ? PACK_STATE_WORDS : counts[choice & 3];
+}
+
+/* Where so many words of state p start. */
+static uint64_t *words_from(unsigned p, size_t words) { return words_of(p) - (words > PACK_STATE_WORDS ? 1 : 0); }
+
+/* What every call owes: a refusal has no other bits and changes nothing, and a state of another length is refused so. */
+static bool accepted(unsigned p, size_t words, uint64_t answer)
+{
+    unsigned refusal = pack_refusal_of(answer);
+    require(refusal <= PACK_HELD, "a refusal that is not in the list");
+    require(words == PACK_STATE_WORDS || refusal == PACK_NO_STATE, "a state of another length is taken");
+    require(refusal == PACK_ACCEPTED || answer == refusal, "a refusal with other bits");
+    require(lent_kept(&state[p], refusal == PACK_ACCEPTED ? STATE_BYTES : 0), "a refusal changed the state");
+    calls_made++;
+    calls_accepted += refusal == PACK_ACCEPTED;
+    return refusal == PACK_ACCEPTED;
+}
+
+struct opening {
+    uint64_t n, ta, ts, input;
+    uint32_t session, coins[PACK_CONCENTRATORS + 1];
+    size_t coin_words;
+};
+
+static void open_state(const struct opening *opening, unsigned p, uint64_t own, uint8_t choice)
+{
+    size_t words = lend_state(p, choice);
+    uint32_t before[PACK_CONCENTRATORS + 1];
+    memcpy(before, opening->coins, sizeof before);
+    uint64_t answer = pack_open(words_from(p, words), words, opening->n, opening->ta, opening->ts, own, opening->session,
+                                opening->input + p % 3 * (opening->input & 1), opening->coins, opening->coin_words);
+    require(memcmp(before, opening->coins, sizeof before) == 0, "an opening changed the coins");
+    require(!accepted(p, words, answer) || answer == 0, "an opening's answer");
+    note(0, (unsigned)answer);
+}
+
+static struct opening take_opening(struct input *in)
+{
+    struct opening opening;
+    memset(&opening, 0, sizeof opening);
+    opening.n = take_number(in);
+    opening.ta = take_number(in);
+    opening.ts = take_number(in);
+    opening.session = take(in);
+    opening.input = take(in);
+    uint8_t coins = take(in);
+    opening.coin_words = coins < 0xf0 && opening.n <= PACK_CONCENTRATORS ? opening.n : coins % (PACK_CONCENTRATORS + 2);
+    for (size_t i = 0; i < opening.coin_words; i++)
+        opening.coins[i] = coins & 1 ? UINT32_MAX : coins & 2 ? 0x55555555u << (i & 1) : coins * 2654435761u >> i;
+    return opening;
+}
+
+static uint64_t deliver_once(unsigned p, uint64_t link, size_t length, uint8_t choice)
+{
+    size_t words = lend_state(p, choice);
+    uint8_t *message = lend(&bytes_lent, length);
+    uint64_t answer = pack_deliver(words_from(p, words), words, link, length == 0 ? NULL : message, length);
+    require(lent_kept(&bytes_lent, 0), "a delivery changed the message");
+    require(!accepted(p, words, answer) || answer == 0, "a delivery's answer");
+    return answer;
+}
+
+/* Delivers the bytes; where they are taken, the same delivery again is held. */
+static uint64_t deliver(unsigned p, uint64_t link, const uint8_t *message, size_t length, uint8_t choice)
+{
+    memcpy(bytes_lent.end - length, message, length);
+    uint64_t answer = deliver_once(p, link, length, choice);
+    if (answer == PACK_ACCEPTED)
+        require(deliver_once(p, link, length, 0) == PACK_HELD, "a second delivery is not held");
+    note(1, (unsigned)answer * 8 + (length > 1 ? message[1] & 7 : 0));
+    return answer;
+}
+
+static void check_sent(unsigned p, const uint8_t *message, size_t length)
+{
+    const uint64_t *words = words_of(p);
+    require(length == 12 + 8 * (size_t)message[5] && length >= 20, "the length of a message that is sent");
+    require(message[0] == 1 && message[1] >= 1 && message[1] <= 6, "the kind of a message that is sent");
+    require(message[2] == words[3], "the sender of a message that is sent");
+    if (sent_count < SENT) {
+        memcpy(sent[sent_count].bytes, message, length);
+        sent[sent_count].length = length;
+        sent[sent_count++].next = 0;
+    }
+    note(2, message[1] * 64u + (message[1] == 6 ? message[5] : message[4]));
+}
+
+/* One turn; answers whether it was accepted and not idle. */
+static bool turn(unsigned p, size_t capacity, uint8_t choice)
+{
+    size_t words = lend_state(p, choice);
+    uint8_t *message = lend_filled(&bytes_lent, capacity, 0xa5);
+    uint64_t answer = pack_turn(words_from(p, words), words, capacity == 0 ? NULL : message, capacity);
+    unsigned outcome = pack_outcome_of(answer);
+    size_t length = pack_length_of(answer);
+    note(3, (unsigned)(answer & 0xffff) % 512);
+    require(lent_kept(&bytes_lent, length), "a turn wrote other bytes");
+    if (!accepted(p, words, answer))
+        return false;
+    require(outcome <= PACK_IN_FORCE && answer >> 32 == 0, "a turn's answer");
+    require((outcome == PACK_SENT) == (length != 0), "a length with no message");
+    require(capacity >= PACK_MESSAGE_BYTES, "a turn lent too little");
+    require(outcome != PACK_IDLE || lent_kept(&state[p], 0), "an idle turn changed the state");
+    if (outcome == PACK_SENT)
+        check_sent(p, message, length);
+    return outcome != PACK_IDLE;
+}
+
+static bool rising(const uint64_t *values, size_t count)
+{
+    for (size_t k = 1; k < count; k++)
+        if (values[k - 1] >= values[k])
+            return false;
+    return true;
+}
+
+static void report(unsigned p, size_t named_words, size_t in_force_words, uint8_t choice)
+{
+    size_t words = lend_state(p, choice);
+    uint64_t *named = lend_filled(&named_lent, 8 * named_words, 0xa5);
+    uint64_t *in_force = lend_filled(&in_force_lent, 8 * in_force_words, 0xa5);
+    uint64_t answer = pack_report(words_from(p, words), words, named, named_words, in_force, in_force_words);
+    size_t named_count = pack_named_of(answer), in_force_count = pack_in_force_of(answer);
+    bool given = accepted(p, words, answer);
+    require(lent_kept(&state[p], 0), "a report changed the state");
+    require(lent_kept(&named_lent, 8 * named_count), "a report wrote other words named");
+    require(lent_kept(&in_force_lent, 8 * in_force_count), "a report wrote other words in force");
+    note(4, given ? 16 + pack_exit_of(answer) * 32 + (unsigned)named_count : (unsigned)answer);
+    if (!given)
+        return;
+    require(named_words >= PACK_SET_WORDS && in_force_words >= PACK_SET_WORDS, "a report lent too little");
+    require(pack_exit_of(answer) <= 3 && (pack_exit_of(answer) == 0) == (named_count == 0), "a report's exit");
+    require(rising(named, named_count), "the named set does not rise");
+    require(irregular || rising(in_force, in_force_count), "the set in force does not rise");
+    require(pack_turns_of(answer) <= 99 * words_of(p)[0] + 3, "more turns than there can be");
+}
+
+/* All states turn until idle, and what they send goes to all of them, as long as messages are left. */
+static void run_feeder(uint64_t order)
+{
+    for (unsigned sweep = 0; sweep < 64; sweep++) {
+        bool left = false;
+        for (unsigned p = 0; p < STATES; p++)
+            for (unsigned turns = 0; turns < 64 && turn(p, PACK_MESSAGE_BYTES, 0); turns++)
+                left = true;
+        for (size_t k = 0; k < sent_count; k++)
+            for (; sent[k].next < STATES; sent[k].next++, left = true) {
+                uint64_t link = sent[k].bytes[2];
+                uint64_t answer = deliver((sent[k].next + order) % STATES, link, sent[k].bytes, sent[k].length, 0);
+                require(irregular || (answer != PACK_VALUE && answer != PACK_FIELD && answer != PACK_KIND),
+                        "a message that was sent is refused by its form");
+            }
+        if (!left)
+            return;
+    }
+}
+
+/* A message with this head and these values, at most PACK_MESSAGE_BYTES. */
+static size_t build(struct input *in, uint8_t *message, uint8_t session)
+{
+    uint8_t kind = take(in), place = take(in);
+    memset(message, 0, PACK_MESSAGE_BYTES);
+    message[0] = 1;
+    message[1] = kind & 7;
+    message[2] = 1 + (place & 15);
+    message[3] = (kind & 7) == 1 ? message[2] : (kind & 7) == 6 ? 0 : 1 + (place >> 4);
+    message[4] = (kind & 7) == 4 || (kind & 7) == 5 ? 1 + (kind >> 3) : 0;
+    message[5] = (kind & 7) == 6 ? 1 + (kind >> 3) % PACK_CONCENTRATORS : 1;
+    message[11] = session;
+    for (uint8_t k = 0; k < message[5]; k++)
+        message[12 + 8 * k + 7] = take(in);
+    return 12 + 8 * (size_t)message[5];
+}
+
+/* A forged message to one state, or to all; at times with a byte changed. */
+static void forge(struct input *in, uint8_t code, uint8_t session)
+{
+    uint8_t message[PACK_MESSAGE_BYTES], p = take(in);
+    size_t length = build(in, message, session);
+    uint64_t link = message[2];
+    if (code & 0x80)
+        message[take(in) % length] = take(in);
+    if (code & 0x40)
+        link = take_number(in);
+    for (unsigned k = 0; k < STATES; k++)
+        if (p >> k & 1)
+            deliver(k, link, message, length, code & 0x20 ? take(in) : 0);
+}
+
+/* The last messages that were sent, as if all of 1 to 16 had sent them too. */
+static void copy_from_all(struct input *in)
+{
+    size_t back = take(in);
+    for (size_t k = sent_count > back ? sent_count - back : 0; k < sent_count; k++)
+        for (uint8_t sender = 1; sender <= PACK_CONCENTRATORS; sender++) {
+            struct message copy = sent[k];
+            copy.bytes[2] = sender;
+            if (copy.bytes[1] == 1)
+                copy.bytes[3] = sender;
+            deliver(0, sender, copy.bytes, copy.length, 0);
+        }
+}
+
+static void deliver_raw(struct input *in)
+{
+    static uint8_t raw[4096];
+    size_t length = take(in) % 3 == 0 ? 12 + 8 * (size_t)take(in) : take(in);
+    uint64_t link = take_number(in);
+    for (size_t k = 0; k < length; k++)
+        raw[k] = take(in);
+    deliver(0, link, raw, length, take(in));
+}
+
+/* A word of a state: anywhere, or one of the numbers and marks before word 141. */
+static void plant(struct input *in)
+{
+    unsigned p = take(in) % STATES;
+    size_t at = take(in);
+    if (at >= 141)
+        at = (at << 8 | take(in)) % PACK_STATE_WORDS;
+    words_of(p)[at] = take(in) & 1 ? take_word(in) : take_number(in);
+    irregular = true;
+}
+
+static void reopen(struct input *in, struct opening *opening, unsigned p)
+{
+    *opening = take_opening(in);
+    uint64_t own = take_number(in);
+    open_state(opening, p, own, take(in));
+    irregular = true;
+}
+
+static void call(struct input *in, struct opening *opening)
+{
+    static const size_t bytes[8] = {140, 0, 11, 12, 139, 141, 1024, 140}, words[8] = {16, 0, 15, 17, 16, 64, 16, 16};
+    uint8_t code = take(in), choice;
+    switch (code & 15) {
+    case 0: run_feeder(code >> 4); break;
+    case 1: case 2: case 3: case 4: forge(in, code, (uint8_t)opening->session); break;
+    case 5: case 6: turn(code >> 4 & 3, PACK_MESSAGE_BYTES, 0); break;
+    case 7: choice = take(in); turn(code >> 4 & 3, bytes[choice & 7], take(in)); break;
+    case 8: report(code >> 4 & 3, PACK_SET_WORDS, PACK_SET_WORDS, 0); break;
+    case 9: choice = take(in); report(code >> 4 & 3, words[choice & 7], words[choice >> 3 & 7], take(in)); break;
+    case 10: deliver_raw(in); break;
+    case 11: copy_from_all(in); break;
+    case 12: case 13: plant(in); break;
+    case 14: reopen(in, opening, code >> 4 & 3); break;
+    default:
+        for (unsigned turns = 0; turns < 1600 && turn(code >> 4 & 3, PACK_MESSAGE_BYTES, 0); turns++) {
+        }
+        break;
+    }
+}
+
+int LLVMFuzzerInitialize(int *count, char ***arguments)
+{
+    (void)count, (void)arguments;
+    for (unsigned p = 0; p < STATES; p++)
+        lent_make(&state[p]);
+    lent_make(&bytes_lent);
+    lent_make(&named_lent);
+    lent_make(&in_force_lent);
+    return 0;
+}
+
+int LLVMFuzzerTestOneInput(const uint8_t *data, size_t size)
+{
+    struct input in = {data, data + size};
+    struct opening opening = take_opening(&in);
+    sent_count = 0;
+    irregular = false;
+    for (unsigned p = 0; p < STATES; p++) {
+        lend_filled(&state[p], STATE_BYTES, 0);
+        open_state(&opening, p, p + 1, 0);
+    }
+    while (in.at < in.end)
+        call(&in, &opening);
+    for (unsigned p = 0; p < STATES; p++)
+        report(p, PACK_SET_WORDS, PACK_SET_WORDS, 0);
+    return 0;
+}
