@@ -1,6 +1,8 @@
 //! The rules written for speed, as an engine beside the proved one and the reference.
 
 pub mod masks;
+pub mod plain;
+pub mod trace;
 
 use pack_reference::c_engine::{words, Words};
 use pack_reference::engine::Engine;

@@ -1,5 +1,6 @@
 //! The rules of 01 over the engine's own words, written for speed: masks, population counts, no allocation. It has the
-//! answers of the C functions and is not proved; `compare-words` compares it with the engine.
+//! answers of the C functions and is not proved; `compare-words` compares it with the engine. The calls are never inlined,
+//! as those of a library are not.
 
 mod exits;
 mod layout;
@@ -43,6 +44,7 @@ pub struct Numbers {
     pub input: u64,
 }
 
+#[inline(never)]
 pub fn open(state: &mut [u64], numbers: &Numbers, coins: &[u32]) -> u64 {
     let Ok(words) = <&mut Words>::try_from(state) else {
         return refusal::NO_STATE;
@@ -61,6 +63,7 @@ pub fn open(state: &mut [u64], numbers: &Numbers, coins: &[u32]) -> u64 {
     0
 }
 
+#[inline(never)]
 pub fn deliver(state: &mut [u64], link: u64, message: &[u8]) -> u64 {
     let Ok(words) = <&mut Words>::try_from(state) else {
         return refusal::NO_STATE;
@@ -123,6 +126,7 @@ fn record_commit(words: &mut Words, p: usize, message: &[u8]) -> u64 {
     0
 }
 
+#[inline(never)]
 pub fn turn(state: &mut [u64], lent: &mut [u8]) -> u64 {
     let Ok(words) = <&mut Words>::try_from(state) else {
         return refusal::NO_STATE;
@@ -225,6 +229,7 @@ fn ready_due(words: &Words, session: &Session, i: usize) -> Option<u64> {
         .or_else(|| leading(row(words, READY_VALUES, i), readies, session.copy()))
 }
 
+#[inline(never)]
 pub fn report(state: &[u64], named: &mut [u64], in_force: &mut [u64]) -> u64 {
     let Ok(words) = <&Words>::try_from(state) else {
         return refusal::NO_STATE;

@@ -71,7 +71,7 @@ fn relay(words: &Words, session: &Session, i: usize, last: usize) -> Option<(usi
         let [est_0, est_1, ..] = groups(words, session, i, r);
         for (value, marks) in [est_0, est_1].into_iter().enumerate() {
             let unsent = sent >> (32 * value + r - 1) & 1 == 0;
-            if unsent && session.ta < u64::from(marks.count_ones()) {
+            if unsent && marks != 0 && session.ta < u64::from(marks.count_ones()) {
                 return Some((r, value));
             }
         }

@@ -1,0 +1,103 @@
+//! The engines as they are timed: no guards, no copies.
+
+use pack_reference::engine::Engine;
+use pack_reference::Opening;
+
+use crate::{masks, numbers};
+
+extern "C" {
+    fn pack_open(
+        state: *mut u64,
+        words: usize,
+        n: u64,
+        ta: u64,
+        ts: u64,
+        own: u64,
+        session: u32,
+        input: u64,
+        coins: *const u32,
+        coin_words: usize,
+    ) -> u64;
+    fn pack_deliver(
+        state: *mut u64,
+        words: usize,
+        link: u64,
+        message: *const u8,
+        length: usize,
+    ) -> u64;
+    fn pack_turn(state: *mut u64, words: usize, message: *mut u8, capacity: usize) -> u64;
+    fn pack_report(
+        state: *const u64,
+        words: usize,
+        named: *mut u64,
+        named_words: usize,
+        in_force: *mut u64,
+        in_force_words: usize,
+    ) -> u64;
+}
+
+/// The proved engine's archive.
+#[derive(Clone, Copy, Debug, Default)]
+pub struct Archive;
+
+// SAFETY, for each call below: pointers and lengths are those of live slices, borrowed for the call.
+impl Engine for Archive {
+    type State = Vec<u64>;
+
+    fn blank(&self) -> Vec<u64> {
+        vec![0; masks::STATE_WORDS]
+    }
+
+    fn open(&self, state: &mut Vec<u64>, opening: &Opening) -> u64 {
+        let Opening { n, ta, ts, own, session, input, coins } = *opening;
+        let (words, count) = (state.as_mut_ptr(), state.len());
+        unsafe {
+            pack_open(words, count, n, ta, ts, own, session, input, coins.as_ptr(), coins.len())
+        }
+    }
+
+    fn deliver(&self, state: &mut Vec<u64>, link: u64, message: &[u8]) -> u64 {
+        let (words, count) = (state.as_mut_ptr(), state.len());
+        unsafe { pack_deliver(words, count, link, message.as_ptr(), message.len()) }
+    }
+
+    fn turn(&self, state: &mut Vec<u64>, message: &mut [u8]) -> u64 {
+        let (words, count) = (state.as_mut_ptr(), state.len());
+        unsafe { pack_turn(words, count, message.as_mut_ptr(), message.len()) }
+    }
+
+    fn report(&self, state: &Vec<u64>, named: &mut [u64], in_force: &mut [u64]) -> u64 {
+        let (named, named_words) = (named.as_mut_ptr(), named.len());
+        let (in_force, in_force_words) = (in_force.as_mut_ptr(), in_force.len());
+        let (words, count) = (state.as_ptr(), state.len());
+        unsafe { pack_report(words, count, named, named_words, in_force, in_force_words) }
+    }
+}
+
+/// The masks.
+#[derive(Clone, Copy, Debug, Default)]
+pub struct PlainMasks;
+
+impl Engine for PlainMasks {
+    type State = Vec<u64>;
+
+    fn blank(&self) -> Vec<u64> {
+        vec![0; masks::STATE_WORDS]
+    }
+
+    fn open(&self, state: &mut Vec<u64>, opening: &Opening) -> u64 {
+        masks::open(state, &numbers(opening), opening.coins)
+    }
+
+    fn deliver(&self, state: &mut Vec<u64>, link: u64, message: &[u8]) -> u64 {
+        masks::deliver(state, link, message)
+    }
+
+    fn turn(&self, state: &mut Vec<u64>, message: &mut [u8]) -> u64 {
+        masks::turn(state, message)
+    }
+
+    fn report(&self, state: &Vec<u64>, named: &mut [u64], in_force: &mut [u64]) -> u64 {
+        masks::report(state, named, in_force)
+    }
+}

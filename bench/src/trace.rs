@@ -1,0 +1,203 @@
+//! Sessions to be timed: the calls at one concentrator of a feeder, in their order, with their answers. The masks make
+//! them, and all engines are then held to them by `check`.
+
+use std::collections::VecDeque;
+
+use pack_reference::engine::Engine;
+use pack_reference::message::LONGEST;
+use pack_reference::packing::{unpack_turn, TurnAnswer};
+use pack_reference::{Message, Opening, PackSet};
+
+use crate::plain::PlainMasks;
+
+const SESSION: u32 = 7;
+
+/// What the concentrators of a feeder put in, and whether some lie.
+#[derive(Clone, Copy, Debug, PartialEq, Eq)]
+pub enum Kind {
+    /// All honest, one pack.
+    Equal,
+    /// All honest, each its own pack.
+    Mixed,
+    /// As many liars as ta, who send a message for every place at the start; the others each their own pack.
+    Liars,
+}
+
+impl Kind {
+    pub const ALL: [Kind; 3] = [Kind::Equal, Kind::Mixed, Kind::Liars];
+
+    pub fn name(self) -> &'static str {
+        match self {
+            Kind::Equal => "equal",
+            Kind::Mixed => "mixed",
+            Kind::Liars => "liars",
+        }
+    }
+}
+
+#[derive(Clone, Debug)]
+pub enum Call {
+    Deliver { link: u64, message: Vec<u8>, answer: u64 },
+    Turn { answer: u64, message: Vec<u8> },
+}
+
+/// The session of concentrator 1.
+pub struct Trace {
+    pub n: u64,
+    pub kind: Kind,
+    liars_from: u64,
+    coins: Vec<u32>,
+    pub calls: Vec<Call>,
+}
+
+/// A feeder whose concentrators turn until idle after each delivery; messages arrive in the order of sending.
+struct Feeder {
+    states: Vec<Vec<u64>>,
+    closed: Vec<bool>,
+    on_their_way: VecDeque<(u64, Vec<u8>)>,
+    trace: Trace,
+}
+
+impl Trace {
+    /// ta and ts are as large as n allows with ta = ts.
+    pub fn new(n: u64, kind: Kind) -> Trace {
+        let tolerated = (n - 1) / 3;
+        let liars_from = if kind == Kind::Liars { n - tolerated } else { n };
+        // Different coins, with which no vote takes long.
+        let coins = (1..=n as u32).map(|i| 0xb5a3_9d71_u32.rotate_left(i)).collect();
+        let trace = Trace { n, kind, liars_from, coins, calls: Vec::new() };
+        let states = vec![PlainMasks.blank(); liars_from as usize];
+        let closed = vec![false; liars_from as usize];
+        let mut feeder = Feeder { states, closed, on_their_way: VecDeque::new(), trace };
+        feeder.run();
+        feeder.trace
+    }
+
+    pub fn opening(&self, own: u64) -> Opening<'_> {
+        let tolerated = (self.n - 1) / 3;
+        let input = if self.kind == Kind::Equal { 5 } else { 100 + own };
+        let (n, coins) = (self.n, &self.coins[..]);
+        Opening { n, ta: tolerated, ts: tolerated, own, session: SESSION, input, coins }
+    }
+
+    pub fn deliveries(&self) -> usize {
+        self.calls.iter().filter(|call| matches!(call, Call::Deliver { .. })).count()
+    }
+
+    pub fn turns(&self) -> usize {
+        self.calls.len() - self.deliveries()
+    }
+}
+
+impl Feeder {
+    fn run(&mut self) {
+        for own in 1..=self.trace.liars_from {
+            let answer =
+                PlainMasks.open(&mut self.states[own as usize - 1], &self.trace.opening(own));
+            assert_eq!(answer, 0, "good settings");
+        }
+        for liar in self.trace.liars_from + 1..=self.trace.n {
+            let lies = lies(self.trace.n, liar);
+            self.on_their_way.extend(lies.into_iter().map(|message| (liar, message)));
+        }
+        (1..=self.trace.liars_from).for_each(|own| self.act(own));
+        while let Some((link, message)) = self.on_their_way.pop_front() {
+            for own in 1..=self.trace.liars_from {
+                self.deliver(own, link, &message);
+                self.act(own);
+            }
+        }
+    }
+
+    fn deliver(&mut self, own: u64, link: u64, message: &[u8]) {
+        if self.closed[own as usize - 1] {
+            return;
+        }
+        let answer = PlainMasks.deliver(&mut self.states[own as usize - 1], link, message);
+        if own == 1 {
+            self.trace.calls.push(Call::Deliver { link, message: message.to_vec(), answer });
+        }
+    }
+
+    /// Turns until idle or closed.
+    fn act(&mut self, own: u64) {
+        while !self.closed[own as usize - 1] {
+            let mut lent = [0; LONGEST];
+            let answer = PlainMasks.turn(&mut self.states[own as usize - 1], &mut lent);
+            let read = unpack_turn(answer).expect("an answer of a turn");
+            let length = if let TurnAnswer::Sent { length } = read { length } else { 0 };
+            let message = lent[..length].to_vec();
+            if own == 1 {
+                self.trace.calls.push(Call::Turn { answer, message: message.clone() });
+            }
+            if length != 0 {
+                self.on_their_way.push_back((own, message));
+            }
+            self.closed[own as usize - 1] = read == TurnAnswer::InForce;
+            if read == TurnAnswer::Idle {
+                return;
+            }
+        }
+    }
+}
+
+/// A message for every place of a liar.
+fn lies(n: u64, liar: u64) -> Vec<Vec<u8>> {
+    let mut lies = vec![Message::Send { value: 7 }];
+    for instance in 1..=n as u8 {
+        let value = 200 + (liar + u64::from(instance)) % 3;
+        lies.push(Message::Echo { instance, value });
+        lies.push(Message::Ready { instance, value });
+        for round in 1..=32 {
+            lies.push(Message::Est { instance, round, value: false });
+            lies.push(Message::Est { instance, round, value: true });
+            lies.push(Message::Aux { instance, round, value: (liar + u64::from(round)) % 2 == 1 });
+        }
+    }
+    lies.push(Message::Commit { values: PackSet::from([liar, 300]) });
+    lies.iter().map(|message| message.to_bytes(liar as u8, SESSION)).collect()
+}
+
+/// Makes the calls of a trace on a fresh state and compares every answer and message with the trace.
+pub fn check<E: Engine>(engine: &E, trace: &Trace) {
+    let mut state = engine.blank();
+    assert_eq!(engine.open(&mut state, &trace.opening(1)), 0, "good settings");
+    for call in &trace.calls {
+        match call {
+            Call::Deliver { link, message, answer } => {
+                assert_eq!(engine.deliver(&mut state, *link, message), *answer, "a delivery");
+            }
+            Call::Turn { answer, message } => {
+                let mut lent = [0; LONGEST];
+                assert_eq!(engine.turn(&mut state, &mut lent), *answer, "a turn");
+                assert_eq!(&lent[..message.len()], message, "a message");
+            }
+        }
+    }
+}
+
+/// The part of a session that is timed.
+#[derive(Clone, Copy, Debug, PartialEq, Eq)]
+pub enum Part {
+    Opening,
+    /// The opening and the deliveries, with no turn between them.
+    Deliveries,
+    Whole,
+}
+
+/// Runs a part of a session. Answers a sum, so that nothing can be left out.
+pub fn replay<E: Engine>(engine: &E, state: &mut E::State, trace: &Trace, part: Part) -> u64 {
+    let mut sum = engine.open(state, &trace.opening(1));
+    if part == Part::Opening {
+        return sum;
+    }
+    let mut lent = [0; LONGEST];
+    for call in &trace.calls {
+        match call {
+            Call::Deliver { link, message, .. } => sum += engine.deliver(state, *link, message),
+            Call::Turn { .. } if part == Part::Whole => sum += engine.turn(state, &mut lent),
+            Call::Turn { .. } => {}
+        }
+    }
+    sum
+}

@@ -1,0 +1,120 @@
+/*
+ * The stack that each call takes at most, in a feeder of 16: the call runs on a painted stack of its own, and the lowest
+ * byte that lost its paint is sought. What an empty call takes in the same place is subtracted.
+ */
+#define _XOPEN_SOURCE 700
+#include <stdio.h>
+#include <string.h>
+#include <ucontext.h>
+
+#include "pack_agreement.h"
+
+#define STACK 65536
+#define PAINT 0xc5
+#define N 16
+#define MESSAGES 65536
+
+enum call { CALL_NONE, CALL_OPEN, CALL_DELIVER, CALL_TURN, CALL_REPORT, CALLS };
+
+struct message {
+    uint8_t bytes[PACK_MESSAGE_BYTES];
+    size_t length;
+};
+
+static _Alignas(64) uint8_t stack[STACK];
+static ucontext_t here, there;
+static size_t most[CALLS];
+static struct message sent[MESSAGES];
+static size_t sent_count;
+static uint64_t states[N][PACK_STATE_WORDS];
+static uint32_t coins[N];
+
+/* The call, its arguments and its answer: the painted stack holds none of them. */
+static enum call call;
+static uint64_t *state, answer;
+static uint64_t own, named[PACK_SET_WORDS], in_force[PACK_SET_WORDS];
+static uint8_t bytes[PACK_MESSAGE_BYTES];
+static const struct message *delivered;
+
+static void run(void)
+{
+    switch (call) {
+    case CALL_OPEN:
+        answer = pack_open(state, PACK_STATE_WORDS, N, 5, 5, own, 7, own, coins, N);
+        break;
+    case CALL_DELIVER:
+        answer = pack_deliver(state, PACK_STATE_WORDS, delivered->bytes[2], delivered->bytes, delivered->length);
+        break;
+    case CALL_TURN:
+        answer = pack_turn(state, PACK_STATE_WORDS, bytes, sizeof bytes);
+        break;
+    case CALL_REPORT:
+        answer = pack_report(state, PACK_STATE_WORDS, named, PACK_SET_WORDS, in_force, PACK_SET_WORDS);
+        break;
+    default:
+        break;
+    }
+}
+
+/* Makes the call on the painted stack, and keeps the most that its kind took. */
+static void measure(enum call kind)
+{
+    size_t kept = 0;
+    call = kind;
+    memset(stack, PAINT, sizeof stack);
+    getcontext(&there);
+    there.uc_stack.ss_sp = stack;
+    there.uc_stack.ss_size = sizeof stack;
+    there.uc_link = &here;
+    makecontext(&there, run, 0);
+    swapcontext(&here, &there);
+    while (kept < sizeof stack && stack[kept] == PAINT)
+        kept++;
+    if (most[kind] < sizeof stack - kept)
+        most[kind] = sizeof stack - kept;
+}
+
+/* Turns until idle or closed, with a report after each. */
+static void act(unsigned p)
+{
+    state = states[p];
+    do {
+        measure(CALL_TURN);
+        uint64_t turn = answer;
+        if (pack_outcome_of(turn) == PACK_SENT && sent_count < MESSAGES) {
+            memcpy(sent[sent_count].bytes, bytes, sizeof bytes);
+            sent[sent_count++].length = pack_length_of(turn);
+        }
+        measure(CALL_REPORT);
+        answer = turn;
+    } while (pack_refusal_of(answer) == PACK_ACCEPTED && pack_outcome_of(answer) != PACK_IDLE);
+}
+
+int main(void)
+{
+    static const char *names[CALLS] = {"", "pack_open", "pack_deliver", "pack_turn", "pack_report"};
+    measure(CALL_NONE);
+    for (unsigned p = 0; p < N; p++)
+        coins[p] = 0xb5a39d71u << p % 7;
+    for (unsigned p = 0; p < N; p++) {
+        state = states[p];
+        own = p + 1;
+        measure(CALL_OPEN);
+    }
+    for (unsigned p = 0; p < N; p++)
+        act(p);
+    for (size_t k = 0; k < sent_count; k++)
+        for (unsigned p = 0; p < N; p++) {
+            state = states[p];
+            delivered = &sent[k];
+            measure(CALL_DELIVER);
+            if (answer == PACK_ACCEPTED && k % 8 == 7)
+                act(p);
+        }
+    for (unsigned p = 0; p < N; p++)
+        act(p);
+    printf("| call | stack, bytes |\n|---|---|\n");
+    for (unsigned kind = CALL_OPEN; kind < CALLS; kind++)
+        printf("| `%s` | %zu |\n", names[kind], most[kind] - most[CALL_NONE]);
+    return 0;
+}
