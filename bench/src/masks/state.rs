@@ -71,7 +71,8 @@ pub fn equal(row: &[u64; 16], among: u64, v: u64) -> u64 {
 #[inline]
 pub fn leading(row: &[u64; 16], marked: u64, q: u32) -> Option<u64> {
     let mut left = marked;
-    while q <= left.count_ones() {
+    // q is at least 1; the first test is the cheaper one.
+    while left != 0 && q <= left.count_ones() {
         let v = row[left.trailing_zeros() as usize & 15];
         let holders = equal(row, left, v);
         if q <= holders.count_ones() {

@@ -44,7 +44,7 @@ fn act_in_round(words: &mut Words, session: &Session, i: usize, r: usize, lent: 
     }
     let [est_0, est_1, aux_0, aux_1] = groups(words, session, i, r);
     let accept = 2 * session.ta as u32 + 1;
-    let accepted = [est_0, est_1].map(|marks| accept <= marks.count_ones());
+    let accepted = [est_0, est_1].map(|marks| marks != 0 && accept <= marks.count_ones());
     if words[AUX_SENT + i] >> (r - 1) & 1 == 0 {
         if accepted == [false, false] {
             return 0;
