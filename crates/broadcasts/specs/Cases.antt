@@ -1,16 +1,18 @@
 -- The paths of the code.
-use Prim.Native.Nat.{ℕ, _+_, _≤_, _<_}
+use Prim.Native.Nat.{ℕ, _+_, _-_, _/_, _%_, _^_, _≤_, _<_}
 use mathlib.Core.Bool.{Bool, true, false, _&&_, and-false}
 use mathlib.Core.List.{List}
-use mathlib.Core.Path.{_≡_, _∙_}
+use mathlib.Core.Path.{_≡_, sym, ap, _∙_}
 use native.Mathlib.Omega.{arith}
 use native.Mathlib.Nat.{zero-add}
+use lib.Pow.{shr-shr}
 use lib.Dec.{leb, eqb}
 use borrow.Author.Tests.{ne-eqb, lt-leb}
 use Rattle.settings.specs.Settings.{quorum, copy}
 use Rattle.settings.specs.declared.Settings.{Settings}
 use Rattle.settings.specs.Bools.{and-left}
 use Rattle.quorum.specs.Marks.{mark}
+use Rattle.quorum.specs.MarkLaws.{mark-digit}
 use Rattle.quorum.specs.Total.{count}
 use Rattle.quorum.specs.TotalLaws.{total-mono, total-agree}
 use Rattle.quorum.specs.Lowest.{lowest, none-lowest, Passed, passed-found, passed-missing}
@@ -21,6 +23,22 @@ use Rattle.broadcasts.specs.Leading.{heldCount, holders, leads, valueOf,
 use Rattle.broadcasts.specs.Broadcasts.{readyDue, echoAct, readyAct}
 use Rattle.broadcasts.specs.declared.Output.{Output}
 use Rattle.broadcasts.specs.declared.Output.the-variants.{Value, Nothing}
+
+-- the marks of word w that are left after p of them
+pub marks-all : (w left : ℕ) → left ≡ w → left ≡ w / 2 ^ 0
+marks-all w left e = omega arith
+
+pub marks-next : (w p left : ℕ) → left ≡ w / 2 ^ p → left / 2 ≡ w / 2 ^ (p + 1)
+marks-next w p left e = ap (λ (x : ℕ). x / 2) e ∙ shr-shr w p 1
+
+pub mark-left : (s : List ℕ) (k a v p left : ℕ) (b : Bool) → left ≡ word s k / 2 ^ p → b ≡ (eqb (left % 2) 1 && eqb (word s a) v) → b ≡ (marked s k (p + 1) && eqb (word s a) v)
+unfolding marked
+mark-left s k a v p left b e f =
+    let same : p + 1 - 1 ≡ p = omega arith in
+    let digit : mark (word s k) (p + 1) ≡ eqb (left % 2) 1 = mark-digit (word s k) (p + 1) (omega arith) ∙ rw (same, ← e) in
+    f ∙ ap (λ (x : Bool). x && eqb (word s a) v) (sym digit)
+
+pub ruleset shifting = (marks-all, marks-next, mark-left)
 
 module _ (held : ℕ → Bool) (value : ℕ → ℕ) (n q : ℕ) where
   pub leads-held : (p w c : ℕ) (b : Bool) → b ≡ held p → b ≡ true → w ≡ value p → c ≡ holders held value w n → leb q c ≡ leads held value n q p

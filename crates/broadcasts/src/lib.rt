@@ -3,7 +3,7 @@ use acts::Act;
 use records::layout;
 use settings::Settings;
 ghost use mathlib.Core.Path.{_≡_};
-ghost use Prim.Native.Nat.{_+_, _≤_};
+ghost use Prim.Native.Nat.{_+_, _%_, _≤_};
 ghost use mathlib.Core.Bool.{_&&_};
 ghost use lib.Dec.{eqb};
 ghost use Rattle.records.specs.Records.{readyHeld, readyValue, echoHeld, echoValue};
@@ -18,23 +18,24 @@ pub enum Output {
     Nothing,
 }
 
-// Whether mark p of word marks is set and word values + p holds v.
-fn holds(s: &[u64], marks: u16, values: u16, v: u64, p: u8) -> bool
-    ensures { λ r. ⌜ r ≡ (marked (now (s .entry)) marks p && eqb (word (now (s .entry)) (values + p)) v) ⌝ }
+// Whether the lowest of the marks left is set and word at holds v.
+fn holds(s: &[u64], left: u64, at: usize, v: u64) -> bool
+    ensures { λ r. ⌜ r ≡ (eqb (left % 2) 1 && eqb (word (now (s .entry)) at) v) ⌝ }
 {
-    records::marked(s, marks as usize, p as u64)
-        & (records::word(s, values as usize + p as usize) == v)
+    (left % 2 == 1) & (records::word(s, at) == v)
 }
 
-// How many of the senders 1 to n hold v.
+// How many of the senders 1 to n hold v. The marks are shifted along, since asking for each by its number costs more.
 fn holders(s: &[u64], marks: u16, values: u16, v: u64, n: u8) -> u64
     ensures { λ r. ⌜ r ≡ holders (λ p. marked (now (s .entry)) marks p) (λ p. word (now (s .entry)) (values + p)) v n ⌝ }
 {
+    let mut left = records::word(s, marks as usize);
     let mut c: u64 = 0;
     let mut p: u8 = 0;
     while p < n {
         p += 1;
-        c += holds(s, marks, values, v, p) as u64;
+        c += holds(s, left, values as usize + p as usize, v) as u64;
+        left = left / 2;
     }
     c
 }

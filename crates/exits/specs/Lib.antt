@@ -2,6 +2,7 @@ pub mod Exits
 pub mod Table
 pub mod Votes
 pub mod Leads
+pub mod Early
 pub mod Insert
 pub mod Stated
 pub mod Rising

@@ -51,7 +51,11 @@ divisor-some n h = rw (machine-power n h) (pow-pos n)
 pub part-counted : (w base n : ℕ) → n ≤ 63 → ones (w / 2 ^ base % ((1 * 2 ^ n) % 2 ^ 64)) ≡ count (λ p. mark w (base + p)) n
 part-counted w base n h = rw (machine-power n h) (sym (count-ones w base n))
 
+pub part-empty : (w base n : ℕ) → n ≤ 63 → w / 2 ^ base % ((1 * 2 ^ n) % 2 ^ 64) ≡ 0 → w / 2 ^ base % ((1 * 2 ^ n) % 2 ^ 64) ≡ count (λ p. mark w (base + p)) n
+unfolding ones onesIn
+part-empty w base n h e = e ∙ sym (ap ones e) ∙ part-counted w base n h
+
 pub part-fits : (w base n : ℕ) → n ≤ 63 → Fits w64 (ones (w / 2 ^ base % ((1 * 2 ^ n) % 2 ^ 64)))
 part-fits w base n h = omega (arith, part-counted w base n h, count-le (λ p. mark w (base + p)) n)
 
-pub ruleset ones-cases = (divisor-some, part-counted, part-fits)
+pub ruleset ones-cases = (divisor-some, part-counted, part-empty, part-fits)

@@ -194,6 +194,18 @@ count-everyone (suc k) = omega (arith, count-everyone k)
 pub count-le : (M : ℕ → Bool) (k : ℕ) → count M k ≤ k
 count-le M k = omega (arith, total-whole (λ p. 1) M k, count-everyone k)
 
+-- a count of 1 to n is at most d above that of 1 to k, where n is k + d
+pub count-longer : (M : ℕ → Bool) (k d : ℕ) → count M (k + d) ≤ count M k + d
+count-longer M k zero = let e : k + 0 ≡ k = omega arith in rw e (omega arith)
+count-longer M k (suc d) =
+    let e : k + suc d ≡ k + d + 1 = omega arith in
+    let one : share (M (k + d + 1)) 1 ≤ 1 = share-le (M (k + d + 1)) in
+    rw e (omega (arith, total-next (λ p. 1) M (k + d), count-longer M k d, one))
+  where
+    share-le : (b : Bool) → share b 1 ≤ 1
+    share-le true = omega arith
+    share-le false = omega arith
+
 -- a count of all is everyone
 pub count-all : (M : ℕ → Bool) (k p : ℕ) → count M k ≡ k → 1 ≤ p → p ≤ k → M p ≡ true
 count-all M k p e a b = go (M p) refl

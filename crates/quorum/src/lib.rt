@@ -56,5 +56,9 @@ pub fn count_marks(w: u64, base: u16, n: u8) -> u64
     if 63 < n {
         return count_each(w, base, n);
     }
-    u64::count_ones((w >> base) % (1 << n)) as u64
+    let part = (w >> base) % (1 << n);
+    if part == 0 {
+        return part;
+    }
+    u64::count_ones(part) as u64
 }

@@ -1,8 +1,8 @@
 -- The paths of the code: what each answer is by the results of the calls before it and the tests that led to it.
 use Prim.Native.Nat.{ℕ, _+_, _*_, min, _≤_, _<_}
-use mathlib.Core.Bool.{Bool, true, false, _&&_, _||_}
+use mathlib.Core.Bool.{Bool, true, false, _&&_, _||_, or-false, false≢true}
 use mathlib.Core.List.{List}
-use mathlib.Core.Path.{_≡_, ap, _∙_}
+use mathlib.Core.Path.{_≡_, refl, sym, ap, _∙_}
 use native.Mathlib.Omega.{arith}
 use lib.Dec.{eqb}
 use borrow.Author.Tests.{le-leb, lt-leb, eq-eqb, ne-eqb}
@@ -10,7 +10,7 @@ use Rattle.settings.specs.Settings.{voteQuorum, relay, roundLimit}
 use Rattle.settings.specs.declared.Settings.{Settings}
 use Rattle.quorum.specs.Marks.{mark}
 use Rattle.quorum.specs.Total.{count}
-use Rattle.quorum.specs.TotalLaws.{total-agree}
+use Rattle.quorum.specs.TotalLaws.{total-agree, total-none}
 use Rattle.records.specs.Layout.{voteAt, decidedOneAt}
 use Rattle.records.specs.Words.{word, marked}
 use Rattle.records.specs.Records.{estHeld, auxHeld, decidedOne, round, estSent, auxSent}
@@ -135,6 +135,26 @@ pub ruleset auxes = (aux-zero, aux-one, aux-waits, aux-was-sent, aux-now)
 pub carries-read : (s : List ℕ) (i r p w : ℕ) (a0 a1 m0 m1 : Bool) → w ≡ word s (voteAt i r) → m0 ≡ mark w (32 + p) → m1 ≡ mark w (48 + p) → (a0 && m0) || (a1 && m1) ≡ carries s i r a0 a1 p
 unfolding carries auxHeld marked
 carries-read s i r p w a0 a1 m0 m1 e z o = rw (z, o, e)
+
+-- at most one value is accepted
+module _ (g : Settings) (s : List ℕ) (i r : ℕ) (a0 a1 : Bool) where
+  pub only-zero : (c : ℕ) → a0 && a1 ≡ false → a0 ≡ true → c ≡ auxCount g s i r 0 → c ≡ carriers g s i r a0 a1
+  unfolding carriers carries auxCount
+  only-zero c e t h = rw (t, none a0 a1 e t) (h ∙ total-agree (λ p. 1) (auxHeld s i r 0) (λ p. auxHeld s i r 0 p || false) (g .n) (λ p a b. sym (or-false (auxHeld s i r 0 p))))
+    where
+      none : (x y : Bool) → x && y ≡ false → x ≡ true → y ≡ false
+      none true y f t = f
+      none false y f t = absurd (false≢true t)
+
+  pub only-one : (c : ℕ) → a0 ≡ false → a1 ≡ true → c ≡ auxCount g s i r 1 → c ≡ carriers g s i r a0 a1
+  unfolding carriers carries auxCount
+  only-one c e t h = rw (e, t) h
+
+  pub none-accepted : a0 ≡ false → a1 ≡ false → 0 ≡ carriers g s i r a0 a1
+  unfolding carriers carries
+  none-accepted e f = rw (e, f) (sym (total-none (λ p. 1) (λ p. false) (g .n) (λ p a b. refl)))
+
+pub ruleset carried = (only-zero, only-one, none-accepted)
 
 module _ (g : Settings) (s : List ℕ) (i r : ℕ) (a0 a1 : Bool) (q c : ℕ) (f : q ≡ voteQuorum g) (d : c ≡ carriers g s i r a0 a1) where
   pub move-few : c < q → Idle ≡ moveValue g s i r a0 a1

@@ -145,8 +145,8 @@ fn carries(s: &[u64], i: u8, r: u8, a0: bool, a1: bool, p: u8) -> bool
         | (a1 & quorum::mark(w, AUX_ONE as u64 + p as u64))
 }
 
-// How many held AUXs carry accepted values.
-fn carriers(s: &[u64], g: Settings, i: u8, r: u8, a0: bool, a1: bool) -> u64
+// How many held AUXs carry accepted values: each sender is looked at, since a foreign state may hold both values of one.
+fn carriers_each(s: &[u64], g: Settings, i: u8, r: u8, a0: bool, a1: bool) -> u64
     ensures { λ c. ⌜ c ≡ carriers g (now (s .entry)) i r a0 a1 ⌝ }
 {
     let n = g.n;
@@ -157,6 +157,22 @@ fn carriers(s: &[u64], g: Settings, i: u8, r: u8, a0: bool, a1: bool) -> u64
         c += carries(s, i, r, a0, a1, p) as u64;
     }
     c
+}
+
+// The same; where only one value is accepted, its AUXs are counted at once.
+fn carriers(s: &[u64], g: Settings, i: u8, r: u8, a0: bool, a1: bool) -> u64
+    ensures { λ c. ⌜ c ≡ carriers g (now (s .entry)) i r a0 a1 ⌝ }
+{
+    if a0 & a1 {
+        return carriers_each(s, g, i, r, a0, a1);
+    }
+    if a0 {
+        return aux_count(s, g, i, r, 0);
+    }
+    if a1 {
+        return aux_count(s, g, i, r, 1);
+    }
+    0
 }
 
 // The view where 0 and 1 are carried, or only one of them.

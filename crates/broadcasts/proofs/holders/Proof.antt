@@ -1,25 +1,36 @@
--- `holders` counts the senders 1 to n that hold v.
-use Prim.Native.Nat.{_+_, _-_}
+-- `holders` counts the senders 1 to n that hold v; after p of them the marks left are those above.
+use Prim.Native.Nat.{_+_, _-_, _/_, _^_}
 use mathlib.Core.Bool.{_&&_}
+use mathlib.Core.Path.{_≡_}
 use lib.Dec.{eqb}
-use borrow.Author.Needs.{needs}
 use Rattle.quorum.specs.Counting.{Counting, counting}
 use Rattle.records.specs.Words.{word, marked}
 use Rattle.broadcasts.specs.Leading.{holders}
+use Rattle.broadcasts.specs.Cases.{shifting}
+use borrow.Author.Needs.{needs}
 use Rattle.broadcasts.proofs.holders.Statement.{statement}
 use Rattle.broadcasts.proofs.holders.Tie as tie
 
 abbrev Inv-loop : tie.InvT-loop
-Inv-loop s marks values v n c₀ p₀ c p = Counting (λ q. marked s marks q && eqb (word s (values + q)) v) n p c
+Inv-loop s marks values v n left₀ c₀ p₀ left c p = Counting (λ q. marked s marks q && eqb (word s (values + q)) v) n p c × (left ≡ word s marks / 2 ^ p)
 
 abbrev μ-loop : tie.MeasureT-loop
-μ-loop s marks values v n c₀ p₀ c p = n - p
+μ-loop s marks values v n left₀ c₀ p₀ left c p = n - p
+
+word-requires : tie.Need-word-requires Inv-loop μ-loop
+word-requires c κs = search needs
 
 loop-holds : tie.Need-loop-holds Inv-loop μ-loop
-loop-holds c = search counting
+loop-holds c = (search counting, search shifting)
 
 add-p : tie.Need-add-p Inv-loop μ-loop
 add-p c = search needs
+
+cast-holds : tie.Need-cast-holds Inv-loop μ-loop
+cast-holds c = search needs
+
+add-holds : tie.Need-add-holds Inv-loop μ-loop
+add-holds c = search needs
 
 holds-requires : tie.Need-holds-requires Inv-loop μ-loop
 holds-requires c κs = search needs
@@ -34,7 +45,7 @@ loop-less : tie.Need-loop-less Inv-loop μ-loop
 loop-less c = search needs
 
 loop-again : tie.Need-loop-again Inv-loop μ-loop
-loop-again c = search counting
+loop-again c = (search (counting, shifting), search shifting)
 
 returns : tie.Need-returns Inv-loop μ-loop
 unfolding holders
@@ -46,8 +57,11 @@ holders-spec =
     (tie.spec
     Inv-loop
     μ-loop
+    word-requires
     loop-holds
     add-p
+    cast-holds
+    add-holds
     holds-requires
     cast-c
     add-c

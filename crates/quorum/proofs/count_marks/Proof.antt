@@ -16,20 +16,23 @@ count-each-requires-2 c κs = search needs
 returns-2 : tie.Need-returns-2
 returns-2 c = search needs
 
-shr-result : tie.Need-shr-result
-shr-result c = search needs
+shr-part : tie.Need-shr-part
+shr-part c = search needs
 
-shl-result : tie.Need-shl-result
-shl-result c = search needs
+shl-part : tie.Need-shl-part
+shl-part c = search needs
 
-rem-result : tie.Need-rem-result
-rem-result c = search ones-cases
+rem-part : tie.Need-rem-part
+rem-part c = search ones-cases
+
+returns-3 : tie.Need-returns-3
+returns-3 c = search ones-cases
 
 cast-result : tie.Need-cast-result
 cast-result c = search ones-cases
 
-returns-3 : tie.Need-returns-3
-returns-3 c = search ones-cases
+returns-4 : tie.Need-returns-4
+returns-4 c = search ones-cases
 
 pub count-marks-spec : {M : Type 1} → statement M
 count-marks-spec =
@@ -39,8 +42,9 @@ count-marks-spec =
     returns
     count-each-requires-2
     returns-2
-    shr-result
-    shl-result
-    rem-result
+    shr-part
+    shl-part
+    rem-part
+    returns-3
     cast-result
-    returns-3)
+    returns-4)

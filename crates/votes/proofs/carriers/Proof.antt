@@ -1,53 +1,38 @@
--- `carriers` counts the senders 1 to n whose AUX carries an accepted value.
-use Prim.Native.Nat.{_-_}
+-- Where at most one value is accepted its AUXs are counted at once.
+use Rattle.votes.specs.Cases.{carried}
 use borrow.Author.Needs.{needs}
-use Rattle.quorum.specs.Counting.{Counting, counting}
-use Rattle.votes.specs.Votes.{carries, carriers}
 use Rattle.votes.proofs.carriers.Statement.{statement}
 use Rattle.votes.proofs.carriers.Tie as tie
 
-abbrev Inv-loop : tie.InvT-loop
-Inv-loop s i r a0 a1 n c₀ p₀ c p = Counting (carries s i r a0 a1) n p c
+carriers-each-requires : tie.Need-carriers-each-requires
+carriers-each-requires c κs = search needs
 
-abbrev μ-loop : tie.MeasureT-loop
-μ-loop s i r a0 a1 n c₀ p₀ c p = n - p
+returns : tie.Need-returns
+returns c = search needs
 
-loop-holds : tie.Need-loop-holds Inv-loop μ-loop
-loop-holds c = search counting
+aux-count-requires : tie.Need-aux-count-requires
+aux-count-requires c κs = search needs
 
-add-p : tie.Need-add-p Inv-loop μ-loop
-add-p c = search needs
+returns-2 : tie.Need-returns-2
+returns-2 c = search carried
 
-carries-requires : tie.Need-carries-requires Inv-loop μ-loop
-carries-requires c κs = search needs
+aux-count-requires-2 : tie.Need-aux-count-requires-2
+aux-count-requires-2 c κs = search needs
 
-cast-c : tie.Need-cast-c Inv-loop μ-loop
-cast-c c = search needs
+returns-3 : tie.Need-returns-3
+returns-3 c = search carried
 
-add-c : tie.Need-add-c Inv-loop μ-loop
-add-c c = search counting
-
-loop-less : tie.Need-loop-less Inv-loop μ-loop
-loop-less c = search needs
-
-loop-again : tie.Need-loop-again Inv-loop μ-loop
-loop-again c = search counting
-
-returns : tie.Need-returns Inv-loop μ-loop
-unfolding carriers
-returns c = search counting
+returns-4 : tie.Need-returns-4
+returns-4 c = search carried
 
 pub carriers-spec : {M : Type 1} → statement M
 carriers-spec =
     tie.close
     (tie.spec
-    Inv-loop
-    μ-loop
-    loop-holds
-    add-p
-    carries-requires
-    cast-c
-    add-c
-    loop-less
-    loop-again
-    returns)
+    carriers-each-requires
+    returns
+    aux-count-requires
+    returns-2
+    aux-count-requires-2
+    returns-3
+    returns-4)
