@@ -1,0 +1,42 @@
+-- The output stays within the lent bytes.
+use Rattle.drill_core.specs.Laws.{wrote-fits, wrote-length}
+use borrow.Author.Needs.{needs}
+use Rattle.drill.proofs.print.Statement.{statement}
+use Rattle.drill.proofs.print.Tie as tie
+
+slice-aggregate-finish : tie.Need-slice-aggregate-finish
+slice-aggregate-finish c = search needs
+
+finish-requires : tie.Need-finish-requires
+finish-requires c κs = search needs
+
+array-share-prefix-out : tie.Need-array-share-prefix-out
+array-share-prefix-out c = search wrote-fits
+
+slice-aggregate-write-all : tie.Need-slice-aggregate-write-all
+slice-aggregate-write-all c = search wrote-length
+
+write-all-requires : tie.Need-write-all-requires
+write-all-requires c κs = search needs
+
+same-length : tie.Need-same-length
+same-length c = search needs
+
+same-length-2 : tie.Need-same-length-2
+same-length-2 c = search needs
+
+returns : tie.Need-returns
+returns c = search needs
+
+pub print-spec : {M : Type 1} → statement M
+print-spec =
+    tie.close
+    (tie.spec
+    slice-aggregate-finish
+    finish-requires
+    array-share-prefix-out
+    slice-aggregate-write-all
+    write-all-requires
+    same-length
+    same-length-2
+    returns)

@@ -1,0 +1,122 @@
+-- "A line it cannot take prints `bad`": which lines a drill takes, and what they come to.
+use Prim.Native.Nat.{ℕ, _^_}
+use mathlib.Core.Bool.{Bool, true, false, _&&_, not, cond}
+use lib.Dec.{eqb, leb, ltb}
+use Rattle.quorum.specs.Marks.{mark}
+use Rattle.records.specs.Layout.{stateWords}
+use Rattle.session.specs.Session.{numbered}
+use Rattle.opening.specs.Opening.{openAnswer}
+use Rattle.drill_lines.specs.declared.Line.{Line}
+use Rattle.drill_lines.specs.declared.Line.the-variants as line
+use Rattle.drill_feeder.specs.declared.Members.{Members}
+use Rattle.drill_core.specs.declared.Phase.{Phase}
+use Rattle.drill_core.specs.declared.Phase.the-variants as phase
+use Rattle.drill_core.specs.declared.Given.{Given}
+use Rattle.drill_core.specs.declared.State.{State}
+use Rattle.drill_core.specs.declared.Call.{Call}
+use Rattle.drill_core.specs.declared.Call.the-variants as call
+use Rattle.drill_core.specs.declared.Verdict.{Verdict}
+use Rattle.drill_core.specs.declared.Verdict.the-variants as verdict
+
+-- no line was taken yet
+unfoldable pub isFirst : Phase → Bool
+isFirst phase.First = true
+isFirst phase.Setup = false
+isFirst phase.Running = false
+isFirst phase.Bad = false
+
+-- "N, C and P lines stand before the rest": the N line was taken, and only C and P lines after it
+unfoldable pub isSetup : Phase → Bool
+isSetup phase.First = false
+isSetup phase.Setup = true
+isSetup phase.Running = false
+isSetup phase.Bad = false
+
+-- the N line was taken
+unfoldable pub afterSettings : Phase → Bool
+afterSettings phase.First = false
+afterSettings phase.Setup = true
+afterSettings phase.Running = true
+afterSettings phase.Bad = false
+
+-- a line could not be taken
+unfoldable pub isBad : Phase → Bool
+isBad phase.First = false
+isBad phase.Setup = false
+isBad phase.Running = false
+isBad phase.Bad = true
+
+-- "`P p value` (16), an honest concentrator; one without P lies"
+unfoldable pub isHonest : Members → ℕ → Bool
+isHonest g p = numbered (g .n) p && mark (g .honest) p
+
+unfoldable pub isLiar : Members → ℕ → Bool
+isLiar g p = numbered (g .n) p && not (mark (g .honest) p)
+
+-- opening takes the settings: 2,048 words, number 1, n coin words
+unfoldable pub settingsOpen : (n ta ts : ℕ) → Bool
+settingsOpen n ta ts = eqb (openAnswer stateWords n ta ts 1 n) 0
+
+-- not "an N that opening refuses or with n above 4"; the session number has 32 bits
+unfoldable pub settingsTaken : (n ta ts session : ℕ) → Bool
+settingsTaken n ta ts session = settingsOpen n ta ts && leb n 4 && ltb session (2 ^ 32)
+
+-- "`N n ta ts session` first"
+unfoldable pub judgedN : Phase → (n ta ts session : ℕ) → Verdict
+judgedN x n ta ts session = cond (isFirst x) (cond (settingsTaken n ta ts session) (verdict.Settings n ta ts session) verdict.Bad) verdict.Bad
+
+-- "each C i and P p once", "a C, P, T, D or L whose i, p or q is not 1 to n"; a word of 8 hexadecimal digits is always below 2^32
+unfoldable pub judgedC : Phase → Given → (i word : ℕ) → Verdict
+judgedC x g i word =
+    cond (isSetup x)
+    (cond (numbered (g .members .n) i)
+    (cond (mark (g .named) i) verdict.Bad
+    (cond (ltb word (2 ^ 32)) (verdict.Coin i word)
+    verdict.Bad))
+    verdict.Bad)
+    verdict.Bad
+
+-- "each .. P p once": who has none yet is no honest one yet
+unfoldable pub judgedP : Phase → Members → (p value : ℕ) → Verdict
+judgedP x g p value = cond (isSetup x) (cond (isLiar g p) (verdict.Input p value) verdict.Bad) verdict.Bad
+
+-- "a T or D naming a liar"
+unfoldable pub judgedT : Phase → Members → ℕ → Verdict
+judgedT x g p = cond (afterSettings x) (cond (isHonest g p) (verdict.Call (call.Turn p)) verdict.Bad) verdict.Bad
+
+-- "a D of no sent message"
+unfoldable pub judgedD : Phase → Members → (sent k q : ℕ) → Verdict
+judgedD x g sent k q =
+    cond (afterSettings x)
+    (cond (numbered sent k)
+    (cond (isHonest g q) (verdict.Call (call.Deliver k q)) verdict.Bad)
+    verdict.Bad)
+    verdict.Bad
+
+-- not "with a number too big for its bytes": kind, instance and round have one byte, a value of 64 bits fits its eight
+unfoldable pub bytesFit : (kind instance round : ℕ) → Bool
+bytesFit kind instance round = leb kind 255 && leb instance 255 && leb round 255
+
+-- "an L from an honest one, to a liar or with a number too big for its bytes"
+unfoldable pub judgedL : Phase → Members → (p q kind instance round value : ℕ) → Verdict
+judgedL x g p q kind instance round value =
+    cond (afterSettings x)
+    (cond (isLiar g p)
+    (cond (isHonest g q)
+    (cond (bytesFit kind instance round) (verdict.Call (call.Lie p q kind instance round value)) verdict.Bad)
+    verdict.Bad)
+    verdict.Bad)
+    verdict.Bad
+
+unfoldable pub judgedR : Phase → Verdict
+judgedR x = cond (afterSettings x) (verdict.Call call.Run) verdict.Bad
+
+unfoldable pub judged : State → Line → Verdict
+judged s line.Bad = verdict.Bad
+judged s (line.N n ta ts session) = judgedN (s .phase) n ta ts session
+judged s (line.C i word) = judgedC (s .phase) (s .given) i word
+judged s (line.P p value) = judgedP (s .phase) (s .given .members) p value
+judged s (line.T p) = judgedT (s .phase) (s .given .members) p
+judged s (line.D k q) = judgedD (s .phase) (s .given .members) (s .counts .sent) k q
+judged s (line.L p q kind instance round value) = judgedL (s .phase) (s .given .members) p q kind instance round value
+judged s line.R = judgedR (s .phase)

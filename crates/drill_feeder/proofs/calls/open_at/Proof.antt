@@ -1,0 +1,46 @@
+-- The part that is lent is the state.
+use Rattle.drill_feeder.specs.Cases.{state-cases}
+use borrow.Author.Needs.{needs}
+use Rattle.drill_feeder.proofs.calls.open_at.Statement.{statement}
+use Rattle.drill_feeder.proofs.calls.open_at.Tie as tie
+
+state-at-requires : tie.Need-state-at-requires
+state-at-requires c κs = search needs
+
+part-of-requires : tie.Need-part-of-requires
+part-of-requires c κs = search needs
+
+mul-open : tie.Need-mul-open
+mul-open c = search needs
+
+sub-open : tie.Need-sub-open
+sub-open c = search needs
+
+part-open-start : tie.Need-part-open-start
+part-open-start c = search needs
+
+part-open-end : tie.Need-part-open-end
+part-open-end c = search needs
+
+open-requires : tie.Need-open-requires
+open-requires c κs = search needs
+
+same-length : tie.Need-same-length
+same-length c = search needs
+
+returns : tie.Need-returns
+returns c = search state-cases
+
+pub open-at-spec : {M : Type 1} → statement M
+open-at-spec =
+    tie.close
+    (tie.spec
+    state-at-requires
+    part-of-requires
+    mul-open
+    sub-open
+    part-open-start
+    part-open-end
+    open-requires
+    same-length
+    returns)

@@ -1,0 +1,109 @@
+-- What the lines of a drill do: "`T p`, a turn; `D k q`, sent message k (from 1, in order of sending) delivered to q; `L p q kind instance
+-- round value`, a liar's one-value message; `R`."
+use Prim.Native.Nat.{ℕ, zero, suc, _+_, _-_}
+use mathlib.Core.Bool.{Bool, true, false, cond}
+use mathlib.Core.List.{List, [], _∷_}
+use lib.ListN.{length}
+use lib.Dec.{ltb}
+use Rattle.quorum.specs.Marks.{mark}
+use Rattle.wire.specs.Message.{headerWith, messageBytes}
+use Rattle.opening.specs.Opening.{opened}
+use Rattle.delivery.specs.Delivery.{delivered}
+use Rattle.turn.specs.Turn.{turnOutcome, turnWords, turnBytes}
+use Rattle.turn.specs.declared.Outcome.{Outcome}
+use Rattle.turn.specs.declared.Outcome.the-variants as outcome
+use Rattle.drill_feeder.specs.Parts.{stateOf, withState, roomFor, withRoom, messageAt, senderAt}
+use Rattle.drill_feeder.specs.Steps.{steps}
+use Rattle.drill_feeder.specs.declared.Counts.{Counts}
+use Rattle.drill_feeder.specs.declared.Members.{Members}
+use Rattle.drill_feeder.specs.declared.Lie.{Lie}
+
+-- the words after the opening of session p
+unfoldable pub openedAt : List ℕ → (p n ta ts session input : ℕ) → List ℕ → List ℕ
+openedAt w p n ta ts session input coins = withState w p (opened (stateOf w p) n ta ts p session input coins)
+
+-- the words after bytes b were delivered to q over a link; "What the engine refuses of T, D, L or R prints nothing.", and changes nothing
+unfoldable pub deliveredTo : List ℕ → (q link : ℕ) → List ℕ → List ℕ
+deliveredTo w q link b = withState w q (delivered (stateOf w q) link b)
+
+-- "`D k q`, sent message k .. delivered to q": over the link of its sender
+unfoldable pub messageDelivered : List ℕ → (k q : ℕ) → List ℕ → List ℕ
+messageDelivered m k q w = deliveredTo w q (senderAt m k) (messageAt m k)
+
+-- "`L p q kind instance round value`, a liar's one-value message": delivered to q, over the link of p; it is no sent message
+unfoldable pub lied : ℕ → ℕ → Lie → List ℕ → List ℕ
+lied session q l w = deliveredTo w q (l .p) (messageBytes (headerWith (l .kind) (l .p) (l .instance) (l .round) 1 session) (l .value ∷ []))
+
+-- the words of the sessions, the messages sent, and the two counts
+pub data Memory : Type 0 where
+  memory : (words store : List ℕ) (counts : Counts) → Memory
+
+-- the store has 1,600 places
+unfoldable pub more : ℕ → ℕ
+more sent = cond (ltb sent 1600) (sent + 1) sent
+
+-- a turn that answers sent has sent one message more
+unfoldable pub counted : Outcome → Counts → Counts
+counted (outcome.Refused k) c = c
+counted outcome.Idle c = c
+counted (outcome.Sent m) c = record { sent = more (c .sent); offered = c .offered }
+counted outcome.MovedOut c = c
+counted outcome.InForce c = c
+
+-- the outcome of a turn of p
+unfoldable pub outcomeAt : ℕ → Memory → Outcome
+outcomeAt p (memory w m c) = turnOutcome (stateOf w p) (length (roomFor m (c .sent)))
+
+-- "`T p`, a turn": its message, if it has one, is stored as the next
+unfoldable pub turned : ℕ → Memory → Memory
+turned p (memory w m c) =
+    memory
+    (withState w p (turnWords (stateOf w p) (length (roomFor m (c .sent)))))
+    (withRoom m (c .sent) (turnBytes (stateOf w p) (roomFor m (c .sent))))
+    (counted (turnOutcome (stateOf w p) (length (roomFor m (c .sent)))) c)
+
+-- neither "idle or closed"
+unfoldable pub goesOn : Outcome → Bool
+goesOn (outcome.Refused k) = false
+goesOn outcome.Idle = false
+goesOn (outcome.Sent m) = true
+goesOn outcome.MovedOut = true
+goesOn outcome.InForce = false
+
+unfoldable pub turnGoesOn : ℕ → Memory → Bool
+turnGoesOn p x = goesOn (outcomeAt p x)
+
+-- "turn until idle or closed", so many turns at the most
+unfoldable pub sweep : ℕ → ℕ → Memory → Memory
+sweep p zero x = x
+sweep p (suc k) x = cond (turnGoesOn p x) (sweep p k (turned p x)) (turned p x)
+
+unfoldable pub sweepIf : ℕ → ℕ → Memory → Memory
+sweepIf honest p x = cond (mark honest p) (sweep p 401 x) x
+
+-- "honest ones in rising order turn until idle or closed"
+unfoldable pub swept : Members → Memory → Memory
+swept g x = steps (sweepIf (g .honest)) (g .n) x
+
+-- "go to every honest one, by message then number": message k to q, to all, and message done + j to all
+unfoldable pub offerTo : ℕ → List ℕ → (k q : ℕ) → List ℕ → List ℕ
+offerTo honest m k q w = cond (mark honest q) (messageDelivered m k q w) w
+
+unfoldable pub offer : Members → List ℕ → ℕ → List ℕ → List ℕ
+offer g m k w = steps (offerTo (g .honest) m k) (g .n) w
+
+unfoldable pub offerNext : Members → List ℕ → (done j : ℕ) → List ℕ → List ℕ
+offerNext g m done j w = offer g m (done + j) w
+
+-- "messages not yet delivered by an R go to every honest one"
+unfoldable pub offered : Members → Memory → Memory
+offered g (memory w m c) =
+    memory (steps (offerNext g m (c .offered)) (c .sent - c .offered) w) m (record { sent = c .sent; offered = c .sent })
+
+unfoldable pub anyLeft : Memory → Bool
+anyLeft (memory w m c) = ltb (c .offered) (c .sent)
+
+-- "R repeats: ..; it ends when none was left.", so many times at the most
+unfoldable pub ran : Members → ℕ → Memory → Memory
+ran g zero x = x
+ran g (suc k) x = cond (anyLeft (swept g x)) (ran g k (offered g (swept g x))) (swept g x)

@@ -1,0 +1,55 @@
+-- The memory of a drill: the words of its sessions, and the bytes of the messages sent.
+use Prim.Native.Nat.{ℕ, _+_, _*_, _-_, _≤_}
+use mathlib.Core.Bool.{cond}
+use mathlib.Core.List.{List, [], _++_}
+use mathlib.Core.Path.{_≡_}
+use lib.ListN.{length, getD, take, drop}
+use lib.Dec.{leb}
+use Rattle.drill_feeder.specs.declared.parts.Part.{Part}
+
+-- the k elements of l from place a; none where l has fewer
+unfoldable pub part : List ℕ → ℕ → ℕ → List ℕ
+part l a k = cond (leb (a + k) (length l)) (take k (drop a l)) []
+
+-- l with new in the place of those elements; l itself where it has fewer
+unfoldable pub withPart : List ℕ → ℕ → ℕ → List ℕ → List ℕ
+withPart l a k new = cond (leb (a + k) (length l)) (take a l ++ (new ++ drop (a + k) l)) l
+
+-- the bounds of a part
+pub record PartOf (n a k : ℕ) (r : Part) : Type 0 where
+  pub first : r .start ≡ cond (leb (a + k) n) a 0
+  pub last : r .end ≡ cond (leb (a + k) n) (a + k) 0
+  pub ordered : r .start ≤ r .end
+  pub within : r .end ≤ n
+
+-- "The state is a lent buffer of exactly 2,048 words": that of session p follows those of the sessions below
+abbrev pub stateAt : ℕ → ℕ
+stateAt p = 2048 * (p - 1)
+
+unfoldable pub stateOf : List ℕ → ℕ → List ℕ
+stateOf w p = part w (stateAt p) 2048
+
+unfoldable pub withState : List ℕ → ℕ → List ℕ → List ℕ
+withState w p s = withPart w (stateAt p) 2048 s
+
+-- sent message k: 44 bytes are the longest of a drill, 12 + 8·4
+abbrev pub placeAt : ℕ → ℕ
+placeAt k = 44 * (k - 1)
+
+-- the 140 bytes that a turn is lent once so many messages were sent: its message stands at the front of them, which is its place
+unfoldable pub roomFor : List ℕ → ℕ → List ℕ
+roomFor m sent = part m (44 * sent) 140
+
+unfoldable pub withRoom : List ℕ → ℕ → List ℕ → List ℕ
+withRoom m sent b = withPart m (44 * sent) 140 b
+
+unfoldable pub byteAt : List ℕ → ℕ → ℕ
+byteAt m k = getD m k 0
+
+-- "The length is 12 + 8·count.", and byte 5 is the count
+unfoldable pub messageAt : List ℕ → ℕ → List ℕ
+messageAt m k = part m (placeAt k) (12 + 8 * byteAt m (placeAt k + 5))
+
+-- "Byte 2 is the sender"
+unfoldable pub senderAt : List ℕ → ℕ → ℕ
+senderAt m k = byteAt m (placeAt k + 2)
