@@ -1,6 +1,6 @@
 -- An act that is due in the engine's words has its evidence there.
 use Prim.Native.Nat.{ℕ, _+_, _*_, _≤_}
-use mathlib.Core.Bool.{Bool, true, false, _&&_, _||_, true≢false}
+use mathlib.Core.Bool.{Bool, true, false, _&&_, _||_, and-false, true≢false}
 use mathlib.Core.List.{List}
 use mathlib.Core.Logic.{_⊎_, inl, inr}
 use mathlib.Core.Option.{Option, none, some}
@@ -36,6 +36,12 @@ use Rattle.agreement.specs.History.{Act, Occurs, Names}
 use Rattle.agreement.specs.Runs.{Message, SEND, ECHO, READY, EST, AUX, COMMIT, HeldFrom, Carried, MoveDue, Due, OutputsHeld}
 use Rattle.agreement.specs.EngineSeen.{Numbered, Voting, engineSeen}
 use Rattle.agreement.specs.EngineReading.{shownAct}
+
+-- of two tests, each under a condition, one passes
+some-held : (a b x y : Bool) → (a && x) || (b && y) ≡ true → (x ≡ true) ⊎ (y ≡ true)
+some-held a b true y e = inl refl
+some-held a b false true e = inr refl
+some-held a b false false e = absurd (true≢false (sym e ∙ rw (and-false a, and-false b)))
 
 -- an act that shows is due
 abbrev pub ShownDue : World → List ℕ → Option Act → Type 0
@@ -95,18 +101,13 @@ module _ (s : List ℕ) (ruled : Ruled (settingsOf s)) (size : length s ≡ 2048
   carried : (i r b : ℕ) (v : View) (m : ℕ) → Voting i r b → Occurs b v → auxHeld s i r b m ≡ true → Carried W engineSeen s i r v m
   carried i r b v m x occurs t = record { value = b; occurs = occurs; held = record { vote = x; there = t } }
 
-  either : (i r m : ℕ) → Voting i r 0 → Voting i r 1 → (a0 a1 h0 h1 : Bool) → auxHeld s i r 0 m ≡ h0 → auxHeld s i r 1 m ≡ h1 → (a0 && h0) || (a1 && h1) ≡ true → Carried W engineSeen s i r Both m
-  either i r m z o true a1 true h1 e f t = carried i r 0 Both m z (inl refl) e
-  either i r m z o true true false true e f t = carried i r 1 Both m o (inr refl) f
-  either i r m z o false true true true e f t = carried i r 1 Both m o (inr refl) f
-  either i r m z o false true false true e f t = carried i r 1 Both m o (inr refl) f
-  either i r m z o true true false false e f t = absurd (true≢false (sym t))
-  either i r m z o true false false h1 e f t = absurd (true≢false (sym t))
-  either i r m z o false true h0 false e f t = absurd (true≢false (sym (both-false h0 t)))
+  -- where the AUX of m carries an accepted value it carries 0 or 1
+  either : (i r m : ℕ) → Voting i r 0 → Voting i r 1 → (a0 a1 : Bool) → (a0 && auxHeld s i r 0 m) || (a1 && auxHeld s i r 1 m) ≡ true → Carried W engineSeen s i r Both m
+  either i r m z o a0 a1 t = of (some-held a0 a1 (auxHeld s i r 0 m) (auxHeld s i r 1 m) t)
     where
-      both-false : (b : Bool) → (false && b) || false ≡ true → false ≡ true
-      both-false b q = q
-  either i r m z o false false h0 h1 e f t = absurd (true≢false (sym t))
+      of : (auxHeld s i r 0 m ≡ true) ⊎ (auxHeld s i r 1 m ≡ true) → Carried W engineSeen s i r Both m
+      of (inl e) = carried i r 0 Both m z (inl refl) e
+      of (inr e) = carried i r 1 Both m o (inr refl) e
 
   move-due : (i r : ℕ) (v : View) → Among (g .n) i → MoveTold g s i r v → MoveDue W engineSeen s i r v
   unfolding auxCount carriers carries
@@ -124,7 +125,7 @@ module _ (s : List ℕ) (ruled : Ruled (settingsOf s)) (size : length s ≡ 2048
         round = x .low;
         quorum =
             by-vote-quorum W (λ p. (accepted g s i r 0 && auxHeld s i r 0 p) || (accepted g s i r 1 && auxHeld s i r 1 p))
-            (λ m lo hi t. either i r m z o (accepted g s i r 0) (accepted g s i r 1) (auxHeld s i r 0 m) (auxHeld s i r 1 m) refl refl t) (x .enough);
+            (λ m lo hi t. either i r m z o (accepted g s i r 0) (accepted g s i r 1) t) (x .enough);
         accepted = λ c e. both-accepted c e z o;
       }
     where
