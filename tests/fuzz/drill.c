@@ -4,6 +4,7 @@
  * DRILL and REFERENCE_DRILL name the two programs.
  */
 #define _GNU_SOURCE
+#include <errno.h>
 #include <stdbool.h>
 #include <stdint.h>
 #include <stdio.h>
@@ -50,11 +51,12 @@ static void become(const char *path, int input, const int ends[2])
     _exit(127);
 }
 
+/* The fuzzer's own timer may interrupt a call, which is then made again. */
 static void read_all(int end, struct output *out)
 {
     ssize_t got;
     out->length = 0;
-    while ((got = read(end, out->bytes + out->length, OUTPUT - out->length)) > 0)
+    while ((got = TEMP_FAILURE_RETRY(read(end, out->bytes + out->length, OUTPUT - out->length))) > 0)
         out->length += (size_t)got;
     require(out->length < OUTPUT, "the output is too long");
 }
@@ -70,7 +72,8 @@ static void run(const char *path, int input, struct output *out)
     close(ends[1]);
     read_all(ends[0], out);
     close(ends[0]);
-    require(waitpid(child, &status, 0) == child && WIFEXITED(status) && WEXITSTATUS(status) == 0, "the program failed");
+    require(TEMP_FAILURE_RETRY(waitpid(child, &status, 0)) == child, "the program was not waited for");
+    require(WIFEXITED(status) && WEXITSTATUS(status) == 0, "the program failed");
 }
 
 /* Every field of the output, by its place, is something new to the fuzzer. */
