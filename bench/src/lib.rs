@@ -12,12 +12,6 @@ use pack_reference::Opening;
 #[derive(Clone, Copy, Debug, Default)]
 pub struct Masks;
 
-/// What an opening gives, as [`masks`] takes it.
-pub fn numbers(opening: &Opening) -> masks::Numbers {
-    let Opening { n, ta, ts, own, session, input, .. } = *opening;
-    masks::Numbers { n, ta, ts, own, session, input }
-}
-
 impl Engine for Masks {
     type State = Words;
 
@@ -26,7 +20,7 @@ impl Engine for Masks {
     }
 
     fn open(&self, state: &mut Words, opening: &Opening) -> u64 {
-        masks::open(state, &numbers(opening), opening.coins)
+        masks::open(state, opening)
     }
 
     fn deliver(&self, state: &mut Words, link: u64, message: &[u8]) -> u64 {

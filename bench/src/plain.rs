@@ -1,40 +1,10 @@
 //! The engines as they are timed: no guards, no copies.
 
+use pack_reference::c_engine::calls::{pack_deliver, pack_open, pack_report, pack_turn};
 use pack_reference::engine::Engine;
 use pack_reference::Opening;
 
-use crate::{masks, numbers};
-
-extern "C" {
-    fn pack_open(
-        state: *mut u64,
-        words: usize,
-        n: u64,
-        ta: u64,
-        ts: u64,
-        own: u64,
-        session: u32,
-        input: u64,
-        coins: *const u32,
-        coin_words: usize,
-    ) -> u64;
-    fn pack_deliver(
-        state: *mut u64,
-        words: usize,
-        link: u64,
-        message: *const u8,
-        length: usize,
-    ) -> u64;
-    fn pack_turn(state: *mut u64, words: usize, message: *mut u8, capacity: usize) -> u64;
-    fn pack_report(
-        state: *const u64,
-        words: usize,
-        named: *mut u64,
-        named_words: usize,
-        in_force: *mut u64,
-        in_force_words: usize,
-    ) -> u64;
-}
+use crate::masks;
 
 /// The proved engine's archive.
 #[derive(Clone, Copy, Debug, Default)]
@@ -86,7 +56,7 @@ impl Engine for PlainMasks {
     }
 
     fn open(&self, state: &mut Vec<u64>, opening: &Opening) -> u64 {
-        masks::open(state, &numbers(opening), opening.coins)
+        masks::open(state, opening)
     }
 
     fn deliver(&self, state: &mut Vec<u64>, link: u64, message: &[u8]) -> u64 {

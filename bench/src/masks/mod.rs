@@ -8,6 +8,8 @@ mod state;
 mod votes;
 mod wire;
 
+use pack_reference::Opening;
+
 use exits::{commits_held, set_leader, set_of, Named, Outputs};
 use layout::*;
 use state::{leading, row, Session, Words};
@@ -33,23 +35,12 @@ const IN_FORCE: u64 = 3 << 8;
 const UNNAMED: u64 = 255;
 const SET_WORDS: usize = 16;
 
-/// The numbers that opening takes beside its buffers.
-#[derive(Clone, Copy)]
-pub struct Numbers {
-    pub n: u64,
-    pub ta: u64,
-    pub ts: u64,
-    pub own: u64,
-    pub session: u32,
-    pub input: u64,
-}
-
 #[inline(never)]
-pub fn open(state: &mut [u64], numbers: &Numbers, coins: &[u32]) -> u64 {
+pub fn open(state: &mut [u64], opening: &Opening) -> u64 {
     let Ok(words) = <&mut Words>::try_from(state) else {
         return refusal::NO_STATE;
     };
-    let Numbers { n, ta, ts, own, session, input } = *numbers;
+    let Opening { n, ta, ts, own, session, input, coins } = *opening;
     let ta = if ta == UNNAMED { 0 } else { ta };
     let valid = Session::new(n, ta, ts).is_some() && (1..=n).contains(&own);
     if !valid || coins.len() as u64 != n {
@@ -63,17 +54,23 @@ pub fn open(state: &mut [u64], numbers: &Numbers, coins: &[u32]) -> u64 {
     0
 }
 
+/// The words and the session of a state that is not closed, or the number of the refusal.
+#[inline(always)]
+fn unclosed(state: &mut [u64]) -> Result<(&mut Words, Session), u64> {
+    let words = <&mut Words>::try_from(state).map_err(|_| refusal::NO_STATE)?;
+    let session = Session::of(words).ok_or(refusal::NO_STATE)?;
+    if words[FLAGS] & CLOSED != 0 {
+        return Err(refusal::CLOSED);
+    }
+    Ok((words, session))
+}
+
 #[inline(never)]
 pub fn deliver(state: &mut [u64], link: u64, message: &[u8]) -> u64 {
-    let Ok(words) = <&mut Words>::try_from(state) else {
-        return refusal::NO_STATE;
+    let (words, session) = match unclosed(state) {
+        Ok(found) => found,
+        Err(number) => return number,
     };
-    let Some(session) = Session::of(words) else {
-        return refusal::NO_STATE;
-    };
-    if words[FLAGS] & CLOSED != 0 {
-        return refusal::CLOSED;
-    }
     match wire::check(words, &session, link, message) {
         0 => record(words, link as usize & 31, message),
         number => number,
@@ -128,15 +125,10 @@ fn record_commit(words: &mut Words, p: usize, message: &[u8]) -> u64 {
 
 #[inline(never)]
 pub fn turn(state: &mut [u64], lent: &mut [u8]) -> u64 {
-    let Ok(words) = <&mut Words>::try_from(state) else {
-        return refusal::NO_STATE;
+    let (words, session) = match unclosed(state) {
+        Ok(found) => found,
+        Err(number) => return number,
     };
-    let Some(session) = Session::of(words) else {
-        return refusal::NO_STATE;
-    };
-    if words[FLAGS] & CLOSED != 0 {
-        return refusal::CLOSED;
-    }
     if lent.len() < wire::LONGEST {
         return refusal::SHORT;
     }

@@ -5,38 +5,43 @@ use std::ops::{Deref, DerefMut};
 use crate::engine::Engine;
 use crate::session::Opening;
 
+use calls::{pack_deliver, pack_open, pack_report, pack_turn};
+
 /// "The state is a lent buffer of exactly 2,048 words of 64 bits."
 pub const STATE_WORDS: usize = 2_048;
 
-extern "C" {
-    fn pack_open(
-        state: *mut u64,
-        words: usize,
-        n: u64,
-        ta: u64,
-        ts: u64,
-        own: u64,
-        session: u32,
-        input: u64,
-        coins: *const u32,
-        coin_words: usize,
-    ) -> u64;
-    fn pack_deliver(
-        state: *mut u64,
-        words: usize,
-        link: u64,
-        message: *const u8,
-        length: usize,
-    ) -> u64;
-    fn pack_turn(state: *mut u64, words: usize, message: *mut u8, capacity: usize) -> u64;
-    fn pack_report(
-        state: *const u64,
-        words: usize,
-        named: *mut u64,
-        named_words: usize,
-        in_force: *mut u64,
-        in_force_words: usize,
-    ) -> u64;
+/// The four functions of `include/pack_agreement.h`.
+pub mod calls {
+    extern "C" {
+        pub fn pack_open(
+            state: *mut u64,
+            words: usize,
+            n: u64,
+            ta: u64,
+            ts: u64,
+            own: u64,
+            session: u32,
+            input: u64,
+            coins: *const u32,
+            coin_words: usize,
+        ) -> u64;
+        pub fn pack_deliver(
+            state: *mut u64,
+            words: usize,
+            link: u64,
+            message: *const u8,
+            length: usize,
+        ) -> u64;
+        pub fn pack_turn(state: *mut u64, words: usize, message: *mut u8, capacity: usize) -> u64;
+        pub fn pack_report(
+            state: *const u64,
+            words: usize,
+            named: *mut u64,
+            named_words: usize,
+            in_force: *mut u64,
+            in_force_words: usize,
+        ) -> u64;
+    }
 }
 
 /// Elements with guard elements before and behind them.
