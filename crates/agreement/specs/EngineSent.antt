@@ -43,6 +43,7 @@ use Rattle.wire.specs.Message.{besides, countOf, lengthOf, valuesOf, encode, at
 use Rattle.wire.specs.Reading.{readMessage}
 use Rattle.wire.specs.declared.Message as wire
 use Rattle.wire.specs.declared.Message.the-variants as message
+use Rattle.wire.proofs.Laws.{length-encode}
 use Rattle.wire_laws.specs.Proper.{Fitting, Layout, Proper}
 use Rattle.wire_laws.specs.Laws.{ReadBack}
 use Rattle.wire_laws.proofs.RoundTrip.{round-trip}
@@ -50,7 +51,6 @@ use Rattle.session.specs.declared.Session.{Session}
 use Rattle.turn.specs.Due.{due, commitDue}
 use Rattle.turn.specs.Turn.{moveOutcome, outcomeOf, bytesAfter, turnBytes}
 use Rattle.turn.specs.Told.{ActTold, Rests, on-exit, on-copies}
-use Rattle.turn.specs.Taking.{length-encode}
 use Rattle.turn.specs.Laws.{Taken}
 use Rattle.turn.specs.declared.Outcome.{Outcome}
 use Rattle.turn.specs.declared.Outcome.the-variants as outcome

@@ -25,7 +25,7 @@ use Rattle.exits.specs.Laws.{names-few}
 use Rattle.turn.specs.Due.{due, commitDue}
 use Rattle.turn.specs.Told.{ActTold, Rests, on-exit, on-copies}
 use Rattle.turn.specs.Turn.{moveOutcome, outcomeOf, bytesAfter, turnOutcome, turnBytes}
-use Rattle.turn.specs.Taking.{length-encode}
+use Rattle.wire.proofs.Laws.{length-encode}
 use Rattle.turn.specs.Laws.{Taken, Refused, Way, refused, taken, way}
 use Rattle.turn.specs.declared.Outcome.{Outcome}
 use Rattle.turn.specs.declared.Outcome.the-variants as outcome

@@ -22,7 +22,7 @@ use Rattle.wire.specs.declared.Message.the-variants as message
 use Rattle.turn.specs.Due.{due, commitDue}
 use Rattle.turn.specs.Told.{ActTold}
 use Rattle.turn.specs.Turn.{moveOutcome, outcomeOf, applied, bytesAfter, turnOutcome, turnWords, turnBytes}
-use Rattle.turn.specs.Taking.{length-encode}
+use Rattle.wire.proofs.Laws.{length-encode}
 use Rattle.turn.specs.Admitting.{admitted-ruled}
 use Rattle.turn.specs.Frame.{Placed, told-placed, setting, length-applied, applied-idle, applied-kept, applied-turns}
 use Rattle.turn.specs.Laws.{Taken, Refused, Way, refused, taken, way}

@@ -1,13 +1,13 @@
 -- The paths of src/lib.rt.
-use Prim.Native.Nat.{ℕ, _+_, _*_, _≤_, _<_, min}
+use Prim.Native.Nat.{ℕ, _+_, _≤_, _<_, min}
 use mathlib.Core.Bool.{Bool, true, false, cond}
-use mathlib.Core.List.{List, [], _∷_}
+use mathlib.Core.List.{List}
 use mathlib.Core.Path.{_≡_, refl, sym, ap, _∙_}
 use native.Mathlib.Omega.{arith}
-use lib.ListN.{length, take, length-append, length-take}
-use lib.Seq.{take-all, length-take-le}
+use lib.ListN.{length, take, length-take}
+use lib.Seq.{take-all}
 use lib.Dec.{ltb}
-use borrow.Author.Tests.{lt-ltb, le-ltb, le-leb}
+use borrow.Author.Tests.{lt-ltb, le-ltb}
 use Rattle.records.specs.Records.{closed, coin}
 use Rattle.acts.specs.declared.Act.{Act}
 use Rattle.acts.specs.declared.Act.the-variants.{Idle, InForce, Commit, Send, Echo, Ready, Start, Relay, Aux, Move}
@@ -17,9 +17,8 @@ use Rattle.session.specs.Session.{stored}
 use Rattle.session.specs.declared.Session.{Session}
 use Rattle.session.specs.declared.Stored.{Stored}
 use Rattle.session.specs.declared.Stored.the-variants.{NoState, Held}
-use Rattle.wire.specs.Bytes.{bytes2, bytes4, bytes8, valueBytes}
-use Rattle.wire.specs.Message.{countOf, lengthOf, besides, valuesOf, headerFor, frontBytes, headerBytes, messageBytes, encode, fitting, atFront, written, Wrote}
-use Rattle.wire.specs.declared.Header.{Header}
+use Rattle.wire.specs.Message.{countOf, besides, valuesOf, encode, atFront, written, Wrote}
+use Rattle.wire.proofs.Laws.{written-whole}
 use Rattle.wire.specs.declared.Message.{Message}
 use Rattle.wire.specs.declared.Message.the-variants as message
 use Rattle.turn.specs.Due.{commitDue, due}
@@ -136,42 +135,16 @@ module _ (x : Session) (o : Outcome) (xs out : List ℕ) where
 
 pub ruleset write-cases = (write-refused, write-idle, write-moved, write-in-force, write-sent)
 
--- the length of a message
-length-values : (xs : List ℕ) → length (valueBytes xs) ≡ 8 * length xs
-unfolding valueBytes bytes8 bytes4 bytes2
-length-values [] = refl
-length-values (x ∷ xs) = length-append (bytes8 x) (valueBytes xs) ∙ omega (arith, length-values xs)
-
-length-header : (h : Header) → length (headerBytes h) ≡ 12
-unfolding bytes2 bytes4 frontBytes headerBytes
-length-header h = refl
-
-count-values : (m : Message) (xs : List ℕ) → besides m ≤ length xs → length (valuesOf m xs) ≡ countOf m
-count-values (message.Send i v) xs h = refl
-count-values (message.Echo i v) xs h = refl
-count-values (message.Ready i v) xs h = refl
-count-values (message.Est i r v) xs h = refl
-count-values (message.Aux i r v) xs h = refl
-count-values (message.Commit k) xs h = length-take-le k xs h
-
-pub length-encode : (m : Message) (sender session : ℕ) (xs : List ℕ) → besides m ≤ length xs → length (encode m sender session xs) ≡ lengthOf m
-unfolding encode messageBytes
-length-encode m sender session xs h =
-    length-append (headerBytes (headerFor m sender session)) (valueBytes (valuesOf m xs))
-    ∙ omega (arith, length-header (headerFor m sender session), length-values (valuesOf m xs), count-values m xs h)
-
 module _ (x : Session) (s set out : List ℕ) (long : 140 ≤ length out) where
   abbrev xs : List ℕ
   xs = commitDue (x .settings) s
 
   -- a message that fits is written whole, with the values of the set
   sent-whole : (m : Message) → besides m ≤ length set → countOf m ≤ 16 → valuesOf m set ≡ valuesOf m xs → atFront (written m (x .own) (x .number) set out) out ≡ atFront (encode m (x .own) (x .number) xs) out
-  unfolding written fitting encode
+  unfolding encode
   sent-whole m b c e =
-      let size : length (encode m (x .own) (x .number) set) ≡ lengthOf m = length-encode m (x .own) (x .number) set b in
-      let whole : written m (x .own) (x .number) set out ≡ encode m (x .own) (x .number) set = rw (le-leb (besides m) (length set) b, le-leb (length (encode m (x .own) (x .number) set)) (length out) (omega arith)) in
       let same : encode m (x .own) (x .number) set ≡ encode m (x .own) (x .number) xs = rw e in
-      ap (λ (w : List ℕ). atFront w out) (whole ∙ same)
+      ap (λ (w : List ℕ). atFront w out) (written-whole m (x .own) (x .number) set out b (omega arith) ∙ same)
 
   sent-commit : (k : ℕ) → length xs ≡ k → k ≤ 16 → take k set ≡ xs → atFront (written (message.Commit k) (x .own) (x .number) set out) out ≡ atFront (encode (message.Commit k) (x .own) (x .number) xs) out
   sent-commit k n l e =
