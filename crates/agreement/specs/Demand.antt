@@ -8,36 +8,42 @@ use mathlib.Core.Path.{_≡_, refl, sym, ap, _∙_}
 use native.Mathlib.Omega.{arith}
 use Rattle.agreement.specs.Evidence.{World, whole, liars, Sound, sound, Backed, one-of}
 use Rattle.agreement.specs.History.{Act, send, commit, History, Did}
-use Rattle.agreement.specs.Moments.{now, after, before-now, before-after, within-trans}
-use Rattle.agreement.specs.Runs.{COMMIT, HeldFrom, OutputsHeld, Due, backing, shows-named, shows-force}
+use Rattle.agreement.specs.Moments.{Within, now, after, within-tail, before-now, before-after, within-trans}
+use Rattle.agreement.specs.Runs as Runs
+use Rattle.agreement.specs.Runs.{Message, COMMIT, HeldFrom, OutputsHeld, Inv, Due, backing, shows-named, shows-force}
 use Rattle.agreement.specs.Agreement.{Shown, agreement, validity}
 use Rattle.agreement.specs.Calls.{Machine, Call, world, place, words, Shows, Opened, Conditions, PutIn, Earlier, OneSet, NamedFirst, OnlyInput, DemandThree}
 use Rattle.agreement.specs.Laws.{Reading, Active, Laws}
 use Rattle.agreement.specs.Openings.{did, tell, status, history, opened-known, known-opened, TurnDid, did-turn}
-use Rattle.agreement.specs.Lists.{Live, Good, known-live, history-within, conditions-within, all-good}
+use Rattle.agreement.specs.Lists.{Left, Live, Good, known-live, history-within, all-good, left-single}
 
-module _ (M : Machine) (R : Reading M) (H : ℕ → Bool) (laws : Laws M R H) (start : ℕ → M .Words) (S : M .Session) where
+-- calls: the whole list
+module _ (M : Machine) (R : Reading M) (H : ℕ → Bool) (laws : Laws M R H) (start : ℕ → M .Words) (S : M .Session) (calls : List (Call M)) (conditions : Conditions M start S H calls) where
   abbrev W : World
   W = world M S H
 
+  -- a moment of it
   abbrev Here : List (Call M) → Type 0
-  Here cs = Conditions M start S H cs
+  Here cs = Within cs calls
+
+  abbrev Gone : ℕ → Message → Type 0
+  Gone m x = Left M R H laws start S calls m x
 
   abbrev told : List (Call M) → History
   told cs = history M R start cs
 
-  good : (cs : List (Call M)) → Here cs → Good M R H laws start S cs
-  good cs k = all-good M R H laws start S cs k cs now
+  good : (cs : List (Call M)) → Here cs → Good M R H laws start S calls cs
+  good cs k = all-good M R H laws start S calls calls now conditions cs k
 
   -- an opened one
   record Open (cs : List (Call M)) (p : ℕ) : Type 0 where
     by-opening : M .Opening
-    live : Live M R H laws start S by-opening (told cs) p (words M start cs p)
+    live : Live M R H laws start S calls by-opening (told cs) p (words M start cs p)
 
   open-at : (cs : List (Call M)) → Here cs → (p : ℕ) → Opened M start cs p → Open cs p
   open-at cs k p o =
       let x = opened-known M R start cs p o in
-      record { by-opening = x .by-opening; live = known-live M R H laws start S cs (good cs k) p (x .by-opening) (x .known) }
+      record { by-opening = x .by-opening; live = known-live M R H laws start S calls cs (good cs k) p (x .by-opening) (x .known) }
 
   -- ---- what the words of an opened one show
 
@@ -45,19 +51,28 @@ module _ (M : Machine) (R : Reading M) (H : ℕ → Bool) (laws : Laws M R H) (s
     abbrev w : M .Words
     w = words M start cs p
 
+    abbrev acts : Act → Type 0
+    acts = Did (told cs) p
+
+    owned : R .Belongs (x .by-opening) w
+    owned = x .live .belongs
+
+    inv : Inv W (R .seen) Gone (told cs) acts p w
+    inv = x .live .inv
+
     outs : OutputsHeld W (R .seen) w
-    outs = rw (x .live .session) at (laws .outputs-held (x .by-opening) w (x .live .belongs))
+    outs = rw (x .live .session) at (laws .outputs-held (x .by-opening) w owned)
 
     force-held : (X : List ℕ) → M .InForce w X → HeldFrom W (R .seen) w (whole W) (W .settings .ts) (COMMIT X)
-    force-held X f = rw (x .live .session) at (laws .force-held (x .by-opening) w (x .live .belongs) X f)
+    force-held X f = rw (x .live .session) at (laws .force-held (x .by-opening) w owned X f)
 
     -- who committed what is held
     committed : {k slack : ℕ} (X : List ℕ) → HeldFrom W (R .seen) w k slack (COMMIT X) → Backed W k slack (λ m. Did (told cs) m (commit X))
-    committed X b = backing W (R .seen) (told cs) p w (x .live .inv) outs (COMMIT X) b
+    committed X b = backing W (R .seen) Gone (told cs) acts p w inv outs (COMMIT X) b
 
     show : (X : List ℕ) → Shows M w X → Shown W (told cs) X
-    show X (inl n) = shows-named W (R .seen) (told cs) p w (x .live .inv) outs X (rw (x .live .session) at (laws .names-exits (x .by-opening) w (x .live .belongs) X n))
-    show X (inr f) = shows-force W (R .seen) (told cs) p w (x .live .inv) outs X (force-held X f)
+    show X (inl n) = shows-named W (R .seen) Gone (told cs) acts p w inv outs X (rw (x .live .session) at (laws .names-exits (x .by-opening) w owned X n))
+    show X (inr f) = shows-force W (R .seen) Gone (told cs) acts p w inv outs X (force-held X f)
 
     sound-at : (L : ℕ) → L ≤ W .settings .ts → liars W ≤ L → Sound W L
     sound-at L b f = sound W L (x .live .ruled) b f
@@ -65,8 +80,8 @@ module _ (M : Machine) (R : Reading M) (H : ℕ → Bool) (laws : Laws M R H) (s
   -- a turn that did a
   active : (cs : List (Call M)) → Here cs → (p : ℕ) (a : Act) (d : TurnDid M R start (words M start cs p) (status M R start cs p) a) → Active M R H (d .by-opening) (words M start cs p) (d .lent) a
   active cs k p a d =
-      let live = known-live M R H laws start S cs (good cs k) p (d .by-opening) (d .known) in
-      rw (d .acts) at (laws .turn-told (d .by-opening) (words M start cs p) (live .belongs) (d .lent))
+      let live = known-live M R H laws start S calls cs (good cs k) p (d .by-opening) (d .known) in
+      rw (d .acts) at (laws .turn-told (d .by-opening) (words M start cs p) (owned cs p (record { by-opening = d .by-opening; live = live })) (d .lent))
 
   -- ---- none is in force that exits had not named before
 
@@ -85,10 +100,10 @@ module _ (M : Machine) (R : Reading M) (H : ℕ → Bool) (laws : Laws M R H) (s
         p = place M c
 
         later : Here cs
-        later = conditions-within M R H laws start S (after c now) k
+        later = within-tail c k
 
-        live : Live M R H laws start S (d .by-opening) (told cs) p (words M start cs p)
-        live = known-live M R H laws start S cs (good cs later) p (d .by-opening) (d .known)
+        live : Live M R H laws start S calls (d .by-opening) (told cs) p (words M start cs p)
+        live = known-live M R H laws start S calls cs (good cs later) p (d .by-opening) (d .known)
 
         due : Due W (R .seen) (words M start cs p) (commit X) → Then (c ∷ cs)
         due (inl n) =
@@ -96,9 +111,9 @@ module _ (M : Machine) (R : Reading M) (H : ℕ → Bool) (laws : Laws M R H) (s
               past = cs;
               before = before-now c cs;
               who = p;
-              honest = k .honest c cs now;
+              honest = conditions .honest c cs k;
               opened = known-opened M R start cs p (d .by-opening) (d .known) .is-opened;
-              names = laws .exits-names (d .by-opening) (words M start cs p) (live .belongs) (d .lent) (commit X) (d .acts) X (rw (live .session) n);
+              names = laws .exits-names (d .by-opening) (words M start cs p) (owned cs p (record { by-opening = d .by-opening; live = live })) (d .lent) (commit X) (d .acts) X (rw (live .session) n);
             }
         due (inr b) =
             let o = one-of W so (omega arith) (committed cs p (record { by-opening = d .by-opening; live = live }) X b) in
@@ -107,7 +122,7 @@ module _ (M : Machine) (R : Reading M) (H : ℕ → Bool) (laws : Laws M R H) (s
     commit-earlier : (cs : List (Call M)) → Here cs → (p : ℕ) → Did (told cs) p (commit X) → Then cs
     unfolding history
     commit-earlier [] k p d = absurd d
-    commit-earlier (c ∷ cs) k p d = at (did M R c (words M start cs (place M c)) (status M R start cs (place M c))) refl d (λ m e. commit-earlier cs (conditions-within M R H laws start S (after c now) k) m e)
+    commit-earlier (c ∷ cs) k p d = at (did M R c (words M start cs (place M c)) (status M R start cs (place M c))) refl d (λ m e. commit-earlier cs (within-tail c k) m e)
       where
         at : (x : Option Act) → did M R c (words M start cs (place M c)) (status M R start cs (place M c)) ≡ x → Did (tell M R (place M c) x (told cs)) p (commit X) → ((m : ℕ) → Did (told cs) m (commit X) → Then cs) → Then (c ∷ cs)
         at none e d rest = longer c cs (rest p d)
@@ -130,7 +145,7 @@ module _ (M : Machine) (R : Reading M) (H : ℕ → Bool) (laws : Laws M R H) (s
   sent-input v (c ∷ cs) k i p u d = at (did M R c (words M start cs (place M c)) (status M R start cs (place M c))) refl d (sent-input v cs later (λ q o ds s. i q o ds (after c s)) p u)
     where
       later : Here cs
-      later = conditions-within M R H laws start S (after c now) k
+      later = within-tail c k
 
       given : TurnDid M R start (words M start cs (place M c)) (status M R start cs (place M c)) (send u) → u ≡ v
       given d =
@@ -154,30 +169,29 @@ module _ (M : Machine) (R : Reading M) (laws : (H : ℕ → Bool) → Laws M R H
   unfolding OneSet
   one-set S H few start cs k ds es a b p q x y X Y s t =
       let l = laws H in
-      let u = open-at M R H l start S ds (conditions-within M R H l start S a k) p x in
-      let v = open-at M R H l start S es (conditions-within M R H l start S b k) q y in
-      let so = sound-at M R H l start S ds p u (M .settings S .ta) (u .live .ruled .ordered) few in
-      agreement (world M S H) so (history M R start cs) (good M R H l start S cs k .lawful) (history-within M R H l start S a) (history-within M R H l start S b) X Y
-      (show M R H l start S ds p u X s) (show M R H l start S es q v Y t)
+      let u = open-at M R H l start S cs k ds a p x in
+      let v = open-at M R H l start S cs k es b q y in
+      let so = sound-at M R H l start S cs k ds p u (M .settings S .ta) (u .live .ruled .ordered) few in
+      agreement (world M S H) (Runs.Gone (world M S H) (R .seen) (Left M R H l start S cs)) so (left-single M R H l start S cs k) (history M R start cs) (good M R H l start S cs k cs now .lawful)
+      (history-within M R H l start S cs a) (history-within M R H l start S cs b) X Y
+      (show M R H l start S cs k ds p u X s) (show M R H l start S cs k es q v Y t)
 
   named-first : NamedFirst M
   unfolding NamedFirst
   named-first S H few start cs k ds a p x X f =
       let l = laws H in
-      let c = conditions-within M R H l start S a k in
-      let u = open-at M R H l start S ds c p x in
-      force-earlier M R H l start S (sound-at M R H l start S ds p u (M .settings S .ts) (omega arith) few) X ds c p x f
+      let u = open-at M R H l start S cs k ds a p x in
+      force-earlier M R H l start S cs k (sound-at M R H l start S cs k ds p u (M .settings S .ts) (omega arith) few) X ds a p x f
 
   only-input : OnlyInput M
   unfolding OnlyInput
   only-input S H few start cs k v i ds a p x X s =
       let l = laws H in
-      let c = conditions-within M R H l start S a k in
-      let u = open-at M R H l start S ds c p x in
-      let so = sound-at M R H l start S ds p u (M .settings S .ts) (omega arith) few in
+      let u = open-at M R H l start S cs k ds a p x in
+      let so = sound-at M R H l start S cs k ds p u (M .settings S .ts) (omega arith) few in
       let j : PutIn M start v ds = λ q o es w. i q o es (within-trans w a) in
-      validity (world M S H) (M .settings S .ts) so (history M R start ds) (good M R H l start S ds c .lawful) v
-      (λ q r hq d. sent-input M R H l start S v ds c j q r d) X (show M R H l start S ds p u X s)
+      validity (world M S H) (Runs.Gone (world M S H) (R .seen) (Left M R H l start S cs)) (M .settings S .ts) so (history M R start ds) (good M R H l start S cs k ds a .lawful) v
+      (λ q r hq d. sent-input M R H l start S cs k v ds a j q r d) X (show M R H l start S cs k ds p u X s)
 
   pub demand-three : DemandThree M
   demand-three = record { one-set = one-set; named-first = named-first; only-input = only-input }

@@ -1,5 +1,6 @@
 -- Histories of what the honest concentrators did, and which of them are lawful: each act has its evidence before it.
--- Only ECHO for each concentrator and instance, and AUX for each concentrator, instance and round, are done once.
+-- Only ECHO for each concentrator and instance, and AUX for each concentrator, instance and round, are one value, and only those that left: what
+-- no honest one got binds nobody. All acts are in the history.
 use Prim.Native.Nat.{ℕ, suc, _+_, _*_, _≤_}
 use mathlib.Core.Bool.{true}
 use mathlib.Core.List.{List, [], _∷_}
@@ -49,6 +50,17 @@ pub record Names (g : Settings) (s : Standing) (X : List ℕ) : Type 0 where
   pub exit : exitAt g s .number ≡ 0 → ⊥
   pub set : exitAt g s .names ≡ X
 
+-- which messages left: G m a if the message of m's act a was got by an honest one at some time, before or after. Of these an ECHO is one for
+-- its sender and instance, an AUX for its sender, vote and round.
+pub record Single (G : ℕ → Act → Type 0) : Type 0 where
+  pub echo-one : (p i u v : ℕ) → G p (echo i u) → G p (echo i v) → u ≡ v
+  pub aux-one : (p i r b c : ℕ) → G p (aux i r b) → G p (aux i r c) → b ≡ c
+
+-- m did a, and its message left
+pub record Heard (G : ℕ → Act → Type 0) (h : History) (a : Act) (m : ℕ) : Type 0 where
+  pub done : Did h m a
+  pub gone : G m a
+
 module _ (W : World) where
   abbrev ta : ℕ
   ta = W .settings .ta
@@ -69,18 +81,6 @@ module _ (W : World) where
   -- "A value is accepted in a round when 2·ta+1 senders' ESTs hold it."
   abbrev pub Accepted : History → ℕ → ℕ → ℕ → Type 0
   Accepted h i r b = Backed W (2 * ta + 1) 0 (Est h i r b)
-
-  -- m sent an AUX of a value of the view
-  pub record Voiced (h : History) (i r : ℕ) (v : View) (m : ℕ) : Type 0 where
-    pub value : ℕ
-    pub occurs : Occurs value v
-    pub sent : Did h m (aux i r value)
-
-  -- "when at least n−ta held AUXs carry accepted values"
-  pub record Moving (h : History) (i r : ℕ) (v : View) : Type 0 where
-    pub round : 1 ≤ r
-    pub quorum : Backed W (whole W) ta (Voiced h i r v)
-    pub accepted : (c : ℕ) → Occurs c v → Accepted h i r c
 
   -- "If those carry just one value b, .. vote i is decided b if b equals the coin"
   pub record Deciding (h : History) (i b m : ℕ) : Type 0 where
@@ -107,21 +107,33 @@ module _ (W : World) where
     pub stands : Stands h p standing
     pub names : Names (W .settings) standing X
 
+module _ (W : World) (G : ℕ → Act → Type 0) where
+  -- an AUX of m of a value of the view left
+  pub record Voiced (h : History) (i r : ℕ) (v : View) (m : ℕ) : Type 0 where
+    pub value : ℕ
+    pub occurs : Occurs value v
+    pub sent : Heard G h (aux i r value) m
+
+  -- "when at least n−ta held AUXs carry accepted values"
+  pub record Moving (h : History) (i r : ℕ) (v : View) : Type 0 where
+    pub round : 1 ≤ r
+    pub quorum : Backed W (whole W) (ta W) (Voiced h i r v)
+    pub accepted : (c : ℕ) → Occurs c v → Accepted W h i r c
+
   -- what is asked of an act of p after h
   abbrev pub Guard : History → ℕ → Act → Type 0
   Guard h p (send v) = Unit {0}
-  -- "ECHO of the value in the instance's SEND, once for each instance."
-  Guard h p (echo i v) = ((u : ℕ) → Did h p (echo i u) → ⊥) × (Honest W i → Did h i (send v))
+  -- "ECHO of the value in the instance's SEND"
+  Guard h p (echo i v) = Honest W i → Did h i (send v)
   -- "a value with n−ts ECHOs, else one with ts+1 READYs"
-  Guard h p (ready i v) = Backed W (whole W) ts (λ m. Did h m (echo i v)) ⊎ Backed W (ts + 1) 0 (λ m. Did h m (ready i v))
+  Guard h p (ready i v) = Backed W (whole W) (ts W) (Heard G h (echo i v)) ⊎ Backed W (ts W + 1) 0 (λ m. Did h m (ready i v))
   Guard h p (start i b) = Unit {0}
   -- "held from ta+1 senders"
-  Guard h p (relay i r b) = Backed W (ta + 1) 0 (Est h i r b)
-  -- "AUX, once a round"
-  Guard h p (aux i r b) = (c : ℕ) → Did h p (aux i r c) → ⊥
+  Guard h p (relay i r b) = Backed W (ta W + 1) 0 (Est W h i r b)
+  Guard h p (aux i r b) = Unit {0}
   Guard h p (move i r v) = Moving h i r v
   -- "the set the exits name, else a set held from ts+1 senders"
-  Guard h p (commit X) = Naming h X p ⊎ Backed W (ts + 1) 0 (λ m. Did h m (commit X))
+  Guard h p (commit X) = Naming W h X p ⊎ Backed W (ts W + 1) 0 (λ m. Did h m (commit X))
 
   abbrev pub Allowed : History → Event → Type 0
   Allowed h (by p a) = Guard h p a
@@ -136,17 +148,3 @@ module _ (W : World) where
   by-history a Q keep step [] law p d = absurd d
   by-history a Q keep step (e ∷ h) law p (inl q) = keep e h (step h p (rw q at (law .1)) (λ m d. by-history a Q keep step h (law .0) m d))
   by-history a Q keep step (e ∷ h) law p (inr d) = keep e h (by-history a Q keep step h (law .0) p d)
-
-  -- an act that is done once for its subject: f x and f y are both by p, so x is y
-  once : (f : ℕ → Act) → ((p q x y : ℕ) → by p (f x) ≡ by q (f y) → x ≡ y) → ((h : History) (p x : ℕ) → Guard h p (f x) → (y : ℕ) → Did h p (f y) → ⊥) → (h : History) → Lawful h → (p x y : ℕ) → Did h p (f x) → Did h p (f y) → x ≡ y
-  once f inj fresh [] law p x y d c = absurd d
-  once f inj fresh (e ∷ h) law p x y (inl d) (inl c) = inj p p x y (rw d at c)
-  once f inj fresh (e ∷ h) law p x y (inl d) (inr c) = absurd (fresh h p x (rw d at (law .1)) y c)
-  once f inj fresh (e ∷ h) law p x y (inr d) (inl c) = absurd (fresh h p y (rw c at (law .1)) x d)
-  once f inj fresh (e ∷ h) law p x y (inr d) (inr c) = once f inj fresh h (law .0) p x y d c
-
-  pub one-echo : (h : History) → Lawful h → (p i u v : ℕ) → Did h p (echo i u) → Did h p (echo i v) → u ≡ v
-  one-echo h law p i u v = once (echo i) (λ p q x y e. cc) (λ h p x g. g .0) h law p u v
-
-  pub one-aux : (h : History) → Lawful h → (p i r b c : ℕ) → Did h p (aux i r b) → Did h p (aux i r c) → b ≡ c
-  one-aux h law p i r b c = once (aux i r) (λ p q x y e. cc) (λ h p x g. g) h law p b c

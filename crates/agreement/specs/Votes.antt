@@ -10,7 +10,7 @@ use Rattle.acts.specs.declared.View.{View}
 use Rattle.acts.specs.declared.View.the-variants.{Only, Both}
 use Rattle.votes.specs.Votes.{estimate, coinValue}
 use Rattle.agreement.specs.Evidence.{World, Sound, Some, backed-map, one-of, two-of}
-use Rattle.agreement.specs.History.{relay, move, History, Did, Event, Occurs, Own, started, moved, Est, own, relayed, Accepted, Moving, Deciding, Decided, by-move, Guard, Lawful, by-history, one-aux}
+use Rattle.agreement.specs.History.{Act, relay, move, History, Did, Event, Single, Occurs, Own, started, moved, Est, own, relayed, Accepted, Moving, Deciding, Decided, by-move, Guard, Lawful, by-history}
 
 -- what is in a history stays
 module _ (W : World) (e : Event) (h : History) where
@@ -22,33 +22,33 @@ module _ (W : World) (e : Event) (h : History) where
   est-keep i r b m (own x) = own (own-keep i r b m x)
   est-keep i r b m (relayed d) = relayed (inr d)
 
-  moving-keep : (i r : ℕ) (v : View) → Moving W h i r v → Moving W (e ∷ h) i r v
-  moving-keep i r v x =
+  moving-keep : (G : ℕ → Act → Type 0) (i r : ℕ) (v : View) → Moving W G h i r v → Moving W G (e ∷ h) i r v
+  moving-keep G i r v x =
       record {
         round = x .round;
-        quorum = backed-map W (λ m hm o. record { value = o .value; occurs = o .occurs; sent = inr (o .sent) }) (x .quorum);
+        quorum = backed-map W (λ m hm o. record { value = o .value; occurs = o .occurs; sent = record { done = inr (o .sent .done); gone = o .sent .gone } }) (x .quorum);
         accepted = λ c t. backed-map W (λ m hm o. est-keep i r c m o) (x .accepted c t);
       }
 
   pub decided-keep : (p i b : ℕ) → Decided W h p i b → Decided W (e ∷ h) p i b
   decided-keep p i b (by-move x) = by-move (record { round = x .round; coin = x .coin; move = inr (x .move) })
 
-module _ (W : World) (so : Sound W (W .settings .ta)) where
+module _ (W : World) (G : ℕ → Act → Type 0) (so : Sound W (W .settings .ta)) where
   -- ---- where an EST comes from
 
   -- a relayed value was some honest one's own
-  relay-own : (i r b : ℕ) (h : History) → Lawful W h → (p : ℕ) → Did h p (relay i r b) → Some (Own W h i r b)
-  relay-own i r b = by-history W (relay i r b) (λ h. Some (Own W h i r b)) (λ e h o. record { who = o .who; has = own-keep W e h i r b (o .who) (o .has) }) step
+  relay-own : (i r b : ℕ) (h : History) → Lawful W G h → (p : ℕ) → Did h p (relay i r b) → Some (Own W h i r b)
+  relay-own i r b = by-history W G (relay i r b) (λ h. Some (Own W h i r b)) (λ e h o. record { who = o .who; has = own-keep W e h i r b (o .who) (o .has) }) step
     where
       from : (h : History) → ((m : ℕ) → Did h m (relay i r b) → Some (Own W h i r b)) → (m : ℕ) → Est W h i r b m → Some (Own W h i r b)
       from h rest m (own x) = record { who = m; has = x }
       from h rest m (relayed d) = rest m d
 
-      step : (h : History) (p : ℕ) → Guard W h p (relay i r b) → ((m : ℕ) → Did h m (relay i r b) → Some (Own W h i r b)) → Some (Own W h i r b)
+      step : (h : History) (p : ℕ) → Guard W G h p (relay i r b) → ((m : ℕ) → Did h m (relay i r b) → Some (Own W h i r b)) → Some (Own W h i r b)
       step h p g rest = let o = one-of W so (omega arith) g in from h rest (o .who) (o .has)
 
   -- an accepted value was some honest one's own
-  accepted-own : (h : History) → Lawful W h → (i r b : ℕ) → Accepted W h i r b → Some (Own W h i r b)
+  accepted-own : (h : History) → Lawful W G h → (i r b : ℕ) → Accepted W h i r b → Some (Own W h i r b)
   accepted-own h law i r b x = let o = one-of W so (omega arith) x in from (o .who) (o .has)
     where
       from : (m : ℕ) → Est W h i r b m → Some (Own W h i r b)
@@ -56,12 +56,12 @@ module _ (W : World) (so : Sound W (W .settings .ta)) where
       from m (relayed d) = relay-own i r b h law m d
 
   -- a move has its evidence
-  move-moving : (i r : ℕ) (v : View) (h : History) → Lawful W h → (p : ℕ) → Did h p (move i r v) → Moving W h i r v
-  move-moving i r v = by-history W (move i r v) (λ h. Moving W h i r v) (λ e h x. moving-keep W e h i r v x) (λ h p g rest. g)
+  move-moving : (i r : ℕ) (v : View) (h : History) → Lawful W G h → (p : ℕ) → Did h p (move i r v) → Moving W G h i r v
+  move-moving i r v = by-history W G (move i r v) (λ h. Moving W G h i r v) (λ e h x. moving-keep W e h G i r v x) (λ h p g rest. g)
 
   -- ---- the lock: p decides b in round r
 
-  module _ (h : History) (law : Lawful W h) (i r b : ℕ) (coin : b ≡ coinValue (W .coin i r)) (p : ℕ) (decides : Did h p (move i r (Only b))) where
+  module _ (one : Single G) (h : History) (law : Lawful W G h) (i r b : ℕ) (coin : b ≡ coinValue (W .coin i r)) (p : ℕ) (decides : Did h p (move i r (Only b))) where
     -- all that move in round m take b with them
     abbrev Locked : ℕ → Type 0
     Locked m = (q : ℕ) (v : View) → Did h q (move i m v) → estimate (W .coin i m) v ≡ b
@@ -76,7 +76,7 @@ module _ (W : World) (so : Sound W (W .settings .ta)) where
         let o = two-of W so (omega arith) (move-moving i r (Only b) h law p decides .quorum) (move-moving i r v h law q d .quorum) in
         let x = o .has .0 in
         let y = o .has .1 in
-        let e = one-aux W h law (o .who) i r (y .value) (x .value) (y .sent) (x .sent) in
+        let e = one .aux-one (o .who) i r (y .value) (x .value) (y .sent .gone) (x .sent .gone) in
         takes v (subst (λ (c : ℕ). Occurs c v) (e ∙ x .occurs) (y .occurs))
 
     -- only b can be accepted in the next round
@@ -108,10 +108,10 @@ module _ (W : World) (so : Sound W (W .settings .ta)) where
   decided-deciding : (h : History) (p i b : ℕ) → Decided W h p i b → Deciding W h i b p
   decided-deciding h p i b (by-move x) = x
 
-  module _ (h : History) (law : Lawful W h) (i : ℕ) where
+  module _ (one : Single G) (h : History) (law : Lawful W G h) (i : ℕ) where
     -- the later of two deciding moves decides as the earlier
     later-agrees : (b c p q : ℕ) (x : Deciding W h i b p) (y : Deciding W h i c q) → x .round ≤ y .round → c ≡ b
-    later-agrees b c p q x y le = locked h law i (x .round) b (x .coin) p (x .move) (y .round) le q (Only c) (y .move)
+    later-agrees b c p q x y le = locked one h law i (x .round) b (x .coin) p (x .move) (y .round) le q (Only c) (y .move)
 
     pub decided-agree : (p q b c : ℕ) → Decided W h p i b → Decided W h q i c → b ≡ c
     decided-agree p q b c x y = go (decided-deciding h p i b x) (decided-deciding h q i c y)
