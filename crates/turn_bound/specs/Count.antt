@@ -28,12 +28,12 @@ unfolding figuresOf
 told w k is e = record { figures = figuresOf (settingsOf w) w; given = report-gives w is 16 16 (omega arith) (omega arith); count = e }
 
 -- a session of settings g goes on in the words w
-record Going (g : Settings) (w : List ℕ) (k : ℕ) : Type 0 where
-  ruled : Ruled g
-  sound : Sound g w
-  count : word w turnsAt ≡ k
+pub record Going (g : Settings) (w : List ℕ) (k : ℕ) : Type 0 where
+  pub ruled : Ruled g
+  pub sound : Sound g w
+  pub count : word w turnsAt ≡ k
 
-opening-going : (w : List ℕ) (o : Arguments) → answer w o ≡ 0 → Going (settingsBy o) (openedBy w o) 0
+pub opening-going : (w : List ℕ) (o : Arguments) → answer w o ≡ 0 → Going (settingsBy o) (openedBy w o) 0
 opening-going w o e =
     record {
       ruled = opened-ruled w (o .coins) (o .n) (o .ta) (o .ts) (o .own) (o .session) (o .input) e;
@@ -41,12 +41,12 @@ opening-going w o e =
       count = opened-turns w (o .coins) (o .n) (o .ta) (o .ts) (o .own) (o .session) (o .input) e;
     }
 
-refused-words : (w : List ℕ) (o : Arguments) → eqb (answer w o) 0 ≡ false → openedBy w o ≡ w
+pub refused-words : (w : List ℕ) (o : Arguments) → eqb (answer w o) 0 ≡ false → openedBy w o ≡ w
 unfolding opened
 refused-words w o e = rw e
 
 module _ (g : Settings) (s : List ℕ) (start : Going g s 0) where
-  going : (cs : List Step) → Going (current g s cs) (after s cs) (acting s cs)
+  pub going : (cs : List Step) → Going (current g s cs) (after s cs) (acting s cs)
   unfolding current after acting
   going [] = start
   going (opening o ∷ cs) = at (eqb (answer (after s cs) o) 0) refl (going cs)

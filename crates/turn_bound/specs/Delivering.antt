@@ -78,7 +78,7 @@ module _ (g : Settings) (ruled : Ruled g) (s t : List ℕ) (same : (a : ℕ) →
   same-keeps : (k : ℕ) → word t k ≡ word s k → Keeps k s t
   same-keeps k e p h = ap (λ (w : ℕ). mark w p) e ∙ h
 
-  same-grows : Grows (g .n) s t
+  pub same-grows : Grows (g .n) s t
   same-grows =
       record {
         flags = same-keeps 7 (low-same 7 (omega arith));
@@ -111,6 +111,7 @@ module _ (g : Settings) (ruled : Ruled g) (s t : List ℕ) (same : (a : ℕ) →
 pub record Delivered (g : Settings) (s t : List ℕ) : Type 0 where
   pub sound : Sound g t
   pub count : word t turnsAt ≡ word s turnsAt
+  pub same : (a : ℕ) → Untouched a → word t a ≡ word s a
 
 module _ (g : Settings) (ruled : Ruled g) (s : List ℕ) (h : Sound g s) (link : ℕ) (b : List ℕ) where
   accepted-sound : (m : Message) → Form (g .n) (sessionOf s .number) link b m → Delivered g s (recorded s link m (drop 12 b))
@@ -120,6 +121,7 @@ module _ (g : Settings) (ruled : Ruled g) (s : List ℕ) (h : Sound g s) (link :
             same-sound g ruled s (recorded s link m (drop 12 b)) same h (length-recorded s (drop 12 b) link m)
             (counts-recorded (g .n) (ruled .few) s (drop 12 b) (h .size) link (f .link-low) (f .link-high) m (f .layout) (h .counts));
         count = same turnsAt (inl (omega arith));
+        same = same;
       }
     where
       same : (a : ℕ) → Untouched a → word (recorded s link m (drop 12 b)) a ≡ word s a
@@ -131,7 +133,7 @@ module _ (g : Settings) (ruled : Ruled g) (s : List ℕ) (h : Sound g s) (link :
 
   of-verdict : (v : Verdict) → verdict s link b ≡ v → Delivered g s (wordsAfter v s link b)
   unfolding wordsAfter
-  of-verdict (Refused k) e = record { sound = h; count = refl }
+  of-verdict (Refused k) e = record { sound = h; count = refl; same = λ a u. refl }
   of-verdict (Accepted m) e =
       accepted-sound m
       (taken-form (g .n) (sessionOf s .number) link b m (rw session-settings at (accepting s link b m e .taken)))

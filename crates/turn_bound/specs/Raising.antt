@@ -100,23 +100,23 @@ module _ (s : List ℕ) (size : length s ≡ 2048) where
         ests = λ j lo hi. applied-other s a (estSentAt j) (λ e. omega arith) (h j lo hi .1);
       }
 
-  relay-marks : (i r b : ℕ) → i ≤ 16 → word (applied s (Relay i r b)) (estSentAt i) ≡ withMark (word s (estSentAt i)) (estSentMark r b)
+  pub relay-marks : (i r b : ℕ) → i ≤ 16 → word (applied s (Relay i r b)) (estSentAt i) ≡ withMark (word s (estSentAt i)) (estSentMark r b)
   unfolding applied turn.marked
   relay-marks i r b high =
       word-setMark-same (counted s) (estSentAt i) (estSentMark r b) (omega (arith, length-counted s))
       ∙ ap (λ (w : ℕ). withMark w (estSentMark r b)) (word-counted-other s (estSentAt i) (λ e. omega arith))
 
   module _ (g : Settings) (ruled : Ruled g) where
-    start-entry : (i b : ℕ) → ActTold g s (Start i b) → Entry i 0 b s (applied s (Start i b))
+    pub start-entry : (i b : ℕ) → ActTold g s (Start i b) → Entry i 0 b s (applied s (Start i b))
     unfolding applied turn.marked round
     start-entry i b h =
         let before : word s (roundAt i) ≡ 0 = omega (arith, h .1 .before) in
         entered-entry s (counted s) (length-counted s ∙ size) counted-still i 0 b (h .0 .low) (omega (arith, h .0 .high, ruled .few)) (yes (omega arith)) before (omega arith) (h .1 .bit)
 
-    abbrev moveBit : ℕ → ℕ → View → ℕ
+    abbrev pub moveBit : ℕ → ℕ → View → ℕ
     moveBit i r v = estimate (coin (counted s) i r) v
 
-    move-entry : (i r : ℕ) (v : View) → ActTold g s (Move i r v) → Dec (r < 32) → Entry i r (moveBit i r v) s (applied s (Move i r v))
+    pub move-entry : (i r : ℕ) (v : View) → ActTold g s (Move i r v) → Dec (r < 32) → Entry i r (moveBit i r v) s (applied s (Move i r v))
     unfolding applied turn.marked moved round
     move-entry i r v h d =
         let before : word s (roundAt i) ≡ r = omega (arith, h .1 .current, h .1 .high) in
@@ -124,7 +124,7 @@ module _ (s : List ℕ) (size : length s ≡ 2048) where
         i r (moveBit i r v) (h .0 .low) (omega (arith, h .0 .high, ruled .few)) d before (h .1 .high) (shown-bit g s i r (coin (counted s) i r) v (h .1 .shown))
 
     -- the rounds and the ESTs after an act
-    act-change : (a : Act) → ActTold g s a → Change s (applied s a)
+    pub act-change : (a : Act) → ActTold g s a → Change s (applied s a)
     unfolding round
     act-change Idle h = still (spared-still Idle (λ j lo hi. (tt, tt)))
     act-change InForce h = still (spared-still InForce (λ j lo hi. (λ e. omega arith, λ e. omega arith)))
@@ -185,7 +185,7 @@ module _ (s : List ℕ) (size : length s ≡ 2048) where
       est-word : (j : ℕ) → 1 ≤ j → MarkWord (estSentAt j)
       est-word j low = record { not-turns = λ e. omega arith; not-round = λ i lo hi e. omega arith }
 
-      aux-word : (j : ℕ) → 1 ≤ j → MarkWord (auxSentAt j)
+      pub aux-word : (j : ℕ) → 1 ≤ j → MarkWord (auxSentAt j)
       aux-word j low = record { not-turns = λ e. omega arith; not-round = λ i lo hi e. omega arith }
 
       act-grows : (a : Act) → ActTold g s a → Grows (g .n) s (applied s a)

@@ -44,7 +44,7 @@ module _ (v w : ℕ → ℕ) where
       go (no ne) r = omega (arith, r (omega arith), h (suc n) (omega arith) (omega arith))
 
 -- a count is the sum of its members' shares
-count-sum : (M : ℕ → Bool) (k : ℕ) → count M k ≡ total (λ p. share (M p) 1) everyone k
+pub count-sum : (M : ℕ → Bool) (k : ℕ) → count M k ≡ total (λ p. share (M p) 1) everyone k
 unfolding total
 count-sum M zero = refl
 count-sum M (suc k) = rw (count-sum M k)

@@ -1,0 +1,152 @@
+-- Turns after all messages are held: each acts, until nothing is due.
+use Prim.Native.Nat.{ℕ, zero, suc, _+_, _*_, _-_, _≤_, _<_}
+use mathlib.Core.Bool.{Bool, true, false, _&&_, cond, true≢false}
+use mathlib.Core.List.{List, [], _∷_}
+use mathlib.Core.Logic.{_≢_, _⊎_, inl, inr}
+use mathlib.Core.Path.{_≡_, refl, sym, ap, subst, _∙_}
+use native.Mathlib.Omega.{arith}
+use lib.Dec.{eqb, ltb}
+use lib.ListN.{length}
+use Rattle.settings.specs.Bools.{and-left}
+use Rattle.settings.specs.Settings.{quorum}
+use Rattle.settings.specs.declared.Settings.{Settings}
+use Rattle.quorum.specs.Marks.{mark}
+use Rattle.quorum.specs.MarkLaws.{mark-other}
+use Rattle.quorum.specs.TotalLaws.{count-all, count-le}
+use Rattle.records.specs.Layout.{turnsAt, sessionAt}
+use Rattle.records.specs.Words.{word, marked}
+use Rattle.records.specs.Fill.{blank, length-blank}
+use Rattle.records.specs.Records.{closed, commitCount, commitSet}
+use Rattle.commits.specs.Commits.{commitHeld, sameSet, setHolders}
+use Rattle.acts.specs.Acts.{isDue}
+use Rattle.acts.specs.declared.Act.{Act}
+use Rattle.acts.specs.declared.Act.the-variants.{Idle, InForce, Commit, Send, Echo, Ready, Start, Relay, Aux, Move}
+use Rattle.session.specs.Session.{sessionOf, sessionWith, stored}
+use Rattle.session.specs.declared.Session.{Session}
+use Rattle.session.specs.declared.Stored.the-variants.{Held}
+use Rattle.delivery.specs.Frame.{MarkWord}
+use Rattle.turn.specs.Told.{ActTold}
+use Rattle.turn.specs.Due.{due}
+use Rattle.turn.specs.DueLaws.{due-told}
+use Rattle.turn.specs.Turn.{applied, admittedIn, admittedFor, admits, wordsFor, turnWords}
+use Rattle.turn.specs.Turn as turn-specs
+use Rattle.turn.specs.Frame.{Placed, told-placed, Kept, setting, held, beyond, length-applied, applied-idle, applied-other, applied-kept, applied-turns}
+use Rattle.turn_bound.specs.TurnBound.{Step, turn, after}
+use Rattle.turn_bound.specs.Sound.{Sound, sound-state}
+use Rattle.turn_bound.specs.Turning.{Turned, turn-sound}
+use Rattle.agreement.specs.Runs.{Message, COMMIT}
+use Rattle.agreement.specs.EngineSeen.{Numbered}
+use Rattle.agreement.specs.EngineKept.{count-back, held-back}
+use Rattle.costliest.specs.Exact.{turn-exact}
+use Rattle.costliest.specs.Tight.{set-mark}
+use Rattle.costliest.specs.Calls.{each, turns}
+use Rattle.costliest.specs.Saying.{settings, Good, Keeping, ruled}
+use Rattle.costliest.specs.Hearing.{Heard, Prepared, heard-stable}
+
+-- ---- a turn of the session
+
+module _ (n c : ℕ) (low : 1 ≤ n) (few : n ≤ 16) (s : List ℕ) (x : Good n c s) where
+  abbrev a : Act
+  a = due (settings n) s
+
+  pub told : ActTold (settings n) s a
+  told = due-told (settings n) s (ruled n c low few)
+
+  placed : Placed a
+  placed = told-placed (settings n) s (ruled n c low few) a told
+
+  is-stored : stored s ≡ Held (sessionOf s)
+  unfolding stored
+  is-stored = rw (sound-state (settings n) (ruled n c low few) s (x .sound))
+
+  pub turn-words : turnWords s (length (blank 140)) ≡ applied s a
+  unfolding turnWords wordsFor admits admittedFor admittedIn sessionOf sessionWith
+  turn-words = rw (is-stored, x .unclosed, length-blank 140, x .sound .settings)
+
+  same : (j : ℕ) → Kept j → word (applied s a) j ≡ word s j
+  same j k = applied-kept s a placed j k
+
+  mark-kept : (k : ℕ) → MarkWord k → Kept k
+  mark-kept k (inl y) = held (omega arith) (omega arith)
+  mark-kept k (inr (inl y)) = beyond (omega arith)
+  mark-kept k (inr (inr y)) = beyond (omega arith)
+
+  pub turn-keeps : Keeping s (applied s a)
+  unfolding marked commitHeld
+  turn-keeps =
+      record {
+        marks = λ k w q e. ap (λ (y : ℕ). mark y q) (same k (mark-kept k w)) ∙ e;
+        commits = λ k lo hi e. rw (count-back s (applied s a) (x .sound .size) (length-applied s a) same k lo hi) e;
+      }
+
+  pub turn-good : closed (applied s a) ≡ false → Good n c (applied s a)
+  turn-good unclosed =
+      record {
+        sound = rw turn-words at (turn-sound (settings n) (ruled n c low few) s (x .sound) (blank 140) .sound);
+        exact = rw turn-words at (turn-exact (settings n) (ruled n c low few) s (x .sound) (x .exact) (blank 140));
+        session = same sessionAt (setting (omega arith)) ∙ x .session;
+        unclosed = unclosed;
+        tame = λ k y num h. x .tame k y num (held-back s (applied s a) (x .sound .size) (length-applied s a) same k y (num .low) (num .high) h);
+      }
+
+  pub turn-acts : isDue a ≡ true → word (applied s a) turnsAt ≡ word s turnsAt + 1
+  turn-acts d = applied-turns s a placed (omega (arith, x .sound .size)) d
+
+-- ---- no set is in force while only one COMMIT is held
+
+module _ (n : ℕ) (two : 2 ≤ n) (low : 1 ≤ n) (few : n ≤ 16) (s : List ℕ) (x : Good n 1 s) where
+  not-in-force : ActTold (settings n) s InForce → ⊥
+  unfolding setHolders quorum
+  not-in-force h =
+      let p = h .sender in
+      let all : setHolders s n p ≡ n = omega (arith, h .holds .enough, count-le (λ q. commitHeld s q && sameSet s p q) n) in
+      let there : commitHeld s 2 ≡ true = and-left (commitHeld s 2) (sameSet s p 2) (count-all (λ q. commitHeld s q && sameSet s p q) n 2 all (omega arith) two) in
+      let one = x .tame 2 (COMMIT (commitSet s 2)) (record { low = omega arith; high = omega arith }) (record { there = there; same = refl }) in
+      omega (arith, one .1)
+
+  still-open : (a : Act) → ActTold (settings n) s a → closed (applied s a) ≡ false
+  unfolding closed marked applied turn-specs.marked
+  still-open Idle h = x .unclosed
+  still-open InForce h = absurd (not-in-force h)
+  still-open (Commit k) h = ap (λ (w : ℕ). mark w 1) (set-mark s (x .sound .size) (settings n) (ruled n 1 low few) 7 3 (omega arith) (λ z. omega arith)) ∙ mark-other (word s 7) 3 1 (λ z. omega arith) ∙ x .unclosed
+  still-open (Send v) h = ap (λ (w : ℕ). mark w 1) (set-mark s (x .sound .size) (settings n) (ruled n 1 low few) 7 2 (omega arith) (λ z. omega arith)) ∙ mark-other (word s 7) 2 1 (λ z. omega arith) ∙ x .unclosed
+  still-open (Echo i v) h = ap (λ (w : ℕ). mark w 1) (applied-other s (Echo i v) 7 (λ z. omega arith) (λ z. omega arith)) ∙ x .unclosed
+  still-open (Ready i v) h = ap (λ (w : ℕ). mark w 1) (applied-other s (Ready i v) 7 (λ z. omega arith) (λ z. omega arith)) ∙ x .unclosed
+  still-open (Start i b) h = ap (λ (w : ℕ). mark w 1) (applied-other s (Start i b) 7 (λ z. omega arith) (λ z. omega arith, λ z. omega arith)) ∙ x .unclosed
+  still-open (Relay i r b) h = ap (λ (w : ℕ). mark w 1) (applied-other s (Relay i r b) 7 (λ z. omega arith) (λ z. omega arith)) ∙ x .unclosed
+  still-open (Aux i r b) h = ap (λ (w : ℕ). mark w 1) (applied-other s (Aux i r b) 7 (λ z. omega arith) (λ z. omega arith)) ∙ x .unclosed
+  still-open (Move i r v) h = ap (λ (w : ℕ). mark w 1) (applied-other s (Move i r v) 7 (λ z. omega arith) (λ z. omega arith, λ z. omega arith, λ z. omega arith, λ z. omega arith)) ∙ x .unclosed
+
+-- ---- k turns
+
+module _ (n : ℕ) (two : 2 ≤ n) (low : 1 ≤ n) (few : n ≤ 16) (begin : List ℕ) where
+  -- after k turns from a count of m: all of them acted, or nothing is due
+  pub record Turning (m k : ℕ) (s : List ℕ) : Type 0 where
+    pub ready : Prepared n low few begin s
+    pub acted : (word s turnsAt ≡ m + k) ⊎ (isDue (due (settings n) s) ≡ false)
+
+  next-ready : (s : List ℕ) → Prepared n low few begin s → Prepared n low few begin (applied s (due (settings n) s))
+  next-ready s y =
+      record {
+        good = turn-good n 1 low few s (y .good) (still-open n two low few s (y .good) (due (settings n) s) (told n 1 low few s (y .good)));
+        all = heard-stable n low few begin s _ (turn-keeps n 1 low few s (y .good)) (y .all);
+      }
+
+  next-turn : (m k : ℕ) (s : List ℕ) → Turning m k s → Turning m (suc k) (applied s (due (settings n) s))
+  next-turn m k s y = at (isDue (due (settings n) s)) refl (y .acted)
+    where
+      a : Act
+      a = due (settings n) s
+
+      at : (b : Bool) → isDue (due (settings n) s) ≡ b → (word s turnsAt ≡ m + k) ⊎ (isDue (due (settings n) s) ≡ false) → Turning m (suc k) (applied s (due (settings n) s))
+      at true d (inl e) = record { ready = next-ready s (y .ready); acted = inl (omega (arith, turn-acts n 1 low few s (y .ready .good) d)) }
+      at true d (inr e) = absurd (true≢false (sym d ∙ e))
+      at false d e = record { ready = next-ready s (y .ready); acted = inr (rw (applied-idle s (due (settings n) s) d) d) }
+
+  pub turns-turning : (k : ℕ) (cs : List Step) → Prepared n low few begin (after begin cs) → Turning (word (after begin cs) turnsAt) k (after begin (turns k cs))
+  unfolding turns each after
+  turns-turning zero cs y = record { ready = y; acted = inl (omega arith) }
+  turns-turning (suc k) cs y = of (turns-turning k cs y)
+    where
+      of : Turning (word (after begin cs) turnsAt) k (after begin (turns k cs)) → Turning (word (after begin cs) turnsAt) (suc k) (turnWords (after begin (turns k cs)) (length (blank 140)))
+      of z = rw (turn-words n 1 low few (after begin (turns k cs)) (z .ready .good)) (next-turn (word (after begin cs) turnsAt) k (after begin (turns k cs)) z)

@@ -1,0 +1,62 @@
+-- The calls of the costliest session of n concentrators: settings ta = ts = 0, own number 1, session 7, input 5, coin words of 0.
+-- The newest call stands first.
+use Prim.Native.Nat.{ℕ, zero, suc, _+_, _*_, _-_}
+use mathlib.Core.List.{List, [], _∷_}
+use Rattle.records.specs.Fill.{blank}
+use Rattle.wire.specs.Message.{encode}
+use Rattle.wire.specs.declared.Message.{Message}
+use Rattle.wire.specs.declared.Message.the-variants.{Send, Ready, Est, Aux, Commit}
+use Rattle.turn_bound.specs.TurnBound.{Arguments, Step, delivery, turn}
+
+-- n coin words
+unfoldable pub coinWords : ℕ → List ℕ
+coinWords zero = []
+coinWords (suc n) = 0 ∷ coinWords n
+
+-- the opening
+unfoldable pub opens : ℕ → Arguments
+opens n = record { n = n; ta = 0; ts = 0; own = 1; session = 7; input = 5; coins = coinWords n }
+
+-- f 1 to f n, one after another, after the calls cs
+unfoldable pub each : (ℕ → List Step → List Step) → ℕ → List Step → List Step
+each f zero cs = cs
+each f (suc n) cs = f (suc n) (each f n cs)
+
+-- the message m of concentrator p over its link
+unfoldable pub say : ℕ → Message → List Step → List Step
+say p m cs = delivery p (encode m p 7 (7 ∷ [])) ∷ cs
+
+-- k turns, each lent 140 bytes
+unfoldable pub turns : ℕ → List Step → List Step
+turns k cs = each (λ j ds. turn (blank 140) ∷ ds) k cs
+
+-- SEND of i in each instance i
+unfoldable pub sends : ℕ → List Step → List Step
+sends n = each (λ i. say i (Send i i)) n
+
+-- READY of i from everyone in each instance i
+unfoldable pub readies : ℕ → List Step → List Step
+readies n = each (λ i. each (λ p. say p (Ready i i)) n) n
+
+-- in each vote and round EST of 0 and 1 from concentrator 1, and AUX of 0 from everyone
+unfoldable pub ests : ℕ → List Step → List Step
+ests n = each (λ i. each (λ r cs. say 1 (Est i r 1) (say 1 (Est i r 0) cs)) 32) n
+
+unfoldable pub auxs : ℕ → List Step → List Step
+auxs n = each (λ i. each (λ r. each (λ p. say p (Aux i r 0)) n) 32) n
+
+-- a COMMIT of {7}
+unfoldable pub commit : ℕ → List Step → List Step
+commit p = say p (Commit 1)
+
+-- all but the last turn's messages
+unfoldable pub heard : ℕ → List Step
+heard n = commit 1 (auxs n (ests n (readies n (sends n []))))
+
+-- all turns but the last
+unfoldable pub acted : ℕ → List Step
+acted n = turns (99 * n + 2) (heard n)
+
+-- the COMMITs of the others, and a last turn, which puts {7} in force
+unfoldable pub costly : ℕ → List Step
+costly n = turns 1 (each (λ p. commit (p + 1)) (n - 1) (acted n))

@@ -1,0 +1,239 @@
+-- The costliest session: for n from 2 to 16 the calls `costly n` after the opening `opens n` bring exactly 99·n+3 turns.
+use Prim.Native.Nat.{ℕ, zero, suc, _+_, _*_, _-_, _≤_, _<_}
+use mathlib.Core.Bool.{Bool, true, false, _&&_, not, cond, true≢false}
+use mathlib.Core.List.{List, [], _∷_}
+use mathlib.Core.Logic.{_≢_, _⊎_, inl, inr}
+use mathlib.Core.Path.{_≡_, refl, sym, ap, subst, _∙_}
+use native.Mathlib.Omega.{arith}
+use native.Mathlib.Decide.{ℕ-discrete}
+use lib.Dec.{eqb, leb}
+use lib.ListN.{length}
+use borrow.Author.Tests.{eq-eqb, ne-eqb, le-leb}
+use Rattle.settings.specs.Bools.{and-both}
+use Rattle.settings.specs.Laws.{rules-valid}
+use Rattle.settings.specs.Thresholds.{turn-bound-sum}
+use Rattle.settings.specs.Settings.{quorum, validSettings, namedTa}
+use Rattle.settings.specs.declared.Settings.{Settings}
+use Rattle.quorum.specs.Marks.{mark}
+use Rattle.quorum.specs.MarkLaws.{mark-zero}
+use Rattle.quorum.specs.TotalLaws.{all-count}
+use Rattle.quorum.specs.Every.{every}
+use Rattle.quorum.specs.Lowest.{lowest-none}
+use Rattle.records.specs.Layout.{turnsAt, commitCountAt}
+use Rattle.records.specs.Words.{word, marked}
+use Rattle.records.specs.Fill.{blank}
+use Rattle.records.specs.Records.{closed, sendHeld, echoHeld, readyHeld, estHeld, auxHeld, commitCount, commitValue, commitSet}
+use Rattle.commits.specs.Commits.{commitHeld, sameSet, setHolders, setLeads, setLeader}
+use Rattle.commits.specs.Sets.{listed, set-listed, set-length}
+use Rattle.acts.specs.Acts.{isDue, orAct}
+use Rattle.acts.specs.declared.Act.{Act}
+use Rattle.acts.specs.declared.Act.the-variants.{InForce}
+use Rattle.session.specs.Session.{numbered}
+use Rattle.opening.specs.Opening.{openAnswer, openWords, opened}
+use Rattle.opening.specs.Laws.{first-zero, first-session}
+use Rattle.turn.specs.Due.{inForceRule, due}
+use Rattle.turn.specs.Turn.{applied, turnWords}
+use Rattle.turn_bound.specs.TurnBound.{Arguments, answer, openedBy, settingsBy, Step, delivery, turn, after, acting, TurnCount}
+use Rattle.turn_bound.specs.Opened.{opened-sound}
+use Rattle.turn_bound.specs.Sound.{sound-bound}
+use Rattle.turn_bound.specs.Turning.{turn-sound}
+use Rattle.turn_bound.specs.Count.{turn-count}
+use Rattle.agreement.specs.Runs.{Message, SEND, ECHO, READY, EST, AUX, COMMIT}
+use Rattle.agreement.specs.EngineSeen.{Numbered, holds}
+use Rattle.costliest.specs.Calls.{coinWords, opens, each, say, turns, commit, heard, acted, costly}
+use Rattle.costliest.specs.Exact.{Exact, opening-exact, new-flags}
+use Rattle.costliest.specs.Saying.{settings, Allowed, Good, Keeping, ruled}
+use Rattle.costliest.specs.Hearing.{Brings, Bringing, Prepared, heard-ready, commits-bringing}
+use Rattle.costliest.specs.Idle.{idle-count}
+use Rattle.costliest.specs.Acting.{turn-words, turn-acts, Turning, turns-turning}
+
+-- "settings and calls with which one concentrator takes exactly 99·n+3 turns", in any buffer of 2,048 words
+pub record Costs (n : ℕ) (s : List ℕ) : Type 0 where
+  pub is-opened : answer s (opens n) ≡ 0
+  pub exactly : acting (openedBy s (opens n)) (costly n) ≡ 99 * n + 3
+
+unfoldable pub Costliest : Type 0
+Costliest = (n : ℕ) → 2 ≤ n → n ≤ 16 → (s : List ℕ) → length s ≡ 2048 → Costs n s
+
+-- ---- the opening
+
+length-coins : (n : ℕ) → length (coinWords n) ≡ n
+unfolding coinWords
+length-coins zero = refl
+length-coins (suc n) = ap suc (length-coins n)
+
+module _ (n : ℕ) (two : 2 ≤ n) (low : 1 ≤ n) (few : n ≤ 16) (s : List ℕ) (size : length s ≡ 2048) where
+  accepted : answer s (opens n) ≡ 0
+  unfolding opens openAnswer namedTa numbered
+  accepted =
+      rw (
+        size,
+        rules-valid n 0 0 (ruled n 1 low few),
+        le-leb 1 n low,
+        length-coins n,
+        eq-eqb n n refl,
+      )
+
+  abbrev first : List ℕ
+  first = openedBy s (opens n)
+
+  first-is : first ≡ openWords n 0 0 1 7 5 (coinWords n)
+  unfolding opens opened
+  first-is = rw (eq-eqb (answer s (opens n)) 0 accepted)
+
+  zero-at : (k : ℕ) → 24 ≤ k → word first k ≡ 0
+  zero-at k l = rw first-is (first-zero n 0 0 1 7 5 (coinWords n) few k l)
+
+  no-mark : (k q : ℕ) → 24 ≤ k → marked first k q ≡ true → ⊥
+  unfolding marked
+  no-mark k q l e = true≢false (sym e ∙ ap (λ (w : ℕ). mark w q) (zero-at k l) ∙ mark-zero q)
+
+  no-set : (p : ℕ) → commitHeld first p ≡ true → ⊥
+  unfolding commitHeld commitCount
+  no-set p e = true≢false (sym e ∙ rw (zero-at (commitCountAt p) (omega arith)))
+
+  none-held : (k : ℕ) (y : Message) → holds first k y → ⊥
+  unfolding sendHeld echoHeld readyHeld estHeld auxHeld
+  none-held k (SEND v) h = no-mark _ k (omega arith) (h .there)
+  none-held k (ECHO i v) h = no-mark _ k (omega arith) (h .there)
+  none-held k (READY i v) h = no-mark _ k (omega arith) (h .there)
+  none-held k (EST i r b) h = no-mark _ _ (omega arith) (h .there)
+  none-held k (AUX i r b) h = no-mark _ _ (omega arith) (h .there)
+  none-held k (COMMIT X) h = no-set k (h .there)
+
+  first-good : Good n 1 first
+  unfolding opens closed marked namedTa
+  first-good =
+      record {
+        sound = opened-sound s (coinWords n) n 0 0 1 7 5 accepted;
+        exact = opening-exact s (opens n) accepted;
+        session = rw first-is (first-session n 0 0 1 7 5 (coinWords n));
+        unclosed = rw first-is (ap (λ (w : ℕ). mark w 1) (new-flags n 0 0 1 7 5 (coinWords n) few) ∙ mark-zero 1);
+        tame = λ k y num h. absurd (none-held k y h);
+      }
+
+  -- ---- all turns but the last
+
+  prepared : Prepared n low few first (after first (heard n))
+  unfolding after
+  prepared = heard-ready n low few first first-good
+
+  turning : Turning n two low few first (word (after first (heard n)) turnsAt) (99 * n + 2) (after first (acted n))
+  unfolding acted
+  turning = turns-turning n two low few first (99 * n + 2) (heard n) prepared
+
+  -- not one fewer
+  enough : 99 * n + 2 ≤ word (after first (acted n)) turnsAt
+  enough = of (turning .acted)
+    where
+      of : (word (after first (acted n)) turnsAt ≡ word (after first (heard n)) turnsAt + (99 * n + 2)) ⊎ (isDue (due (settings n) (after first (acted n))) ≡ false) → 99 * n + 2 ≤ word (after first (acted n)) turnsAt
+      of (inl e) = omega arith
+      of (inr e) = idle-count n two few low first (after first (acted n)) (turning .ready .good) (turning .ready .all) e (turning .ready .good .exact)
+
+  -- ---- the last
+
+  abbrev last : List Step
+  last = each (λ p. commit (p + 1)) (n - 1) (acted n)
+
+  -- COMMITs of all are welcome from here on
+  widened : Good n n (after first (acted n))
+  widened = of (turning .ready .good)
+    where
+      wide : (k : ℕ) (y : Message) → Numbered k → holds (after first (acted n)) k y → Allowed 1 k y → Allowed n k y
+      wide k (SEND v) num h a = tt
+      wide k (ECHO i v) num h a = tt
+      wide k (READY i v) num h a = a
+      wide k (EST i r b) num h a = tt
+      wide k (AUX i r b) num h a = a
+      wide k (COMMIT X) num h a = (a .0, omega (arith, a .1))
+
+      of : Good n 1 (after first (acted n)) → Good n n (after first (acted n))
+      of x = record { sound = x .sound; exact = x .exact; session = x .session; unclosed = x .unclosed; tame = λ k y num h. wide k y num h (x .tame k y num h) }
+
+  brings : Brings n low few first n (λ t. (p : ℕ) → 1 ≤ p → p ≤ n - 1 → commitHeld t (p + 1) ≡ true) (each (λ p. commit (p + 1)) (n - 1)) (acted n)
+  brings = commits-bringing n low few first (acted n) widened
+
+  good : Good n n (after first last)
+  good = brings .good
+
+  all-committed : (p : ℕ) → 1 ≤ p → p ≤ n → commitHeld (after first last) p ≡ true
+  all-committed p lo hi = at (ℕ-discrete p 1)
+    where
+      at : Dec (p ≡ 1) → commitHeld (after first last) p ≡ true
+      at (yes e) = rw e (brings .keeps .commits 1 (omega arith) (omega arith) (turning .ready .all .committed))
+      at (no ne) = let e : p - 1 + 1 ≡ p = omega arith in subst (λ (q : ℕ). commitHeld (after first last) q ≡ true) e (brings .fact (p - 1) (omega arith) (omega arith))
+
+  module _ (t : List ℕ) (tsize : length t ≡ 2048) where
+    record Single (p : ℕ) : Type 0 where
+      one : commitCount t p ≡ 1
+      seven : commitValue t p 1 ≡ 7
+
+    head-is : (a b : ℕ) → a ∷ [] ≡ b ∷ [] → a ≡ b
+    head-is a b e = cc
+
+    single : (p : ℕ) → p ≤ 16 → commitSet t p ≡ 7 ∷ [] → Single p
+    unfolding listed
+    single p hi e =
+        let count : commitCount t p ≡ 1 = sym (set-length t p tsize hi) ∙ ap length e in
+        let all : listed (commitValue t p) 1 ≡ 7 ∷ [] = ap (listed (commitValue t p)) (sym count) ∙ sym (set-listed t p tsize hi) ∙ e in
+        record { one = count; seven = head-is (commitValue t p 1) 7 all }
+
+    same-single : (p q : ℕ) → Single p → Single q → sameSet t p q ≡ true
+    unfolding sameSet every
+    same-single p q x y = rw (x .one, y .one, x .seven, y .seven)
+
+  seven-of : (p : ℕ) → 1 ≤ p → p ≤ n → Single (after first last) (good .sound .size) p
+  seven-of p lo hi =
+      single (after first last) (good .sound .size) p (omega arith)
+      (good .tame p (COMMIT (commitSet (after first last) p)) (record { low = lo; high = omega arith }) (record { there = all-committed p lo hi; same = refl }) .0)
+
+  leads : setLeads (after first last) n n 1 ≡ true
+  unfolding setLeads setHolders
+  leads =
+      and-both (commitHeld (after first last) 1) _ (all-committed 1 (omega arith) low)
+      (le-leb n (setHolders (after first last) n 1) (omega (
+        arith,
+        all-count (λ q. commitHeld (after first last) q && sameSet (after first last) 1 q) n
+            (λ q lo hi. and-both (commitHeld (after first last) q) (sameSet (after first last) 1 q) (all-committed q lo hi)
+            (same-single (after first last) (good .sound .size) 1 q (seven-of 1 (omega arith) low) (seven-of q lo hi))),
+      )))
+
+  quorum-all : quorum (settings n) ≡ n
+  unfolding quorum
+  quorum-all = omega arith
+
+  leader : setLeader (after first last) n n ≢ 0
+  unfolding setLeader
+  leader z = true≢false (sym leads ∙ lowest-none (setLeads (after first last) n n) n z 1 (omega arith) low)
+
+  rule : inForceRule (settings n) (after first last) ≡ InForce
+  unfolding inForceRule
+  rule = rw (quorum-all, ne-eqb (setLeader (after first last) n n) 0 leader)
+
+  in-force : isDue (due (settings n) (after first last)) ≡ true
+  unfolding due orAct
+  in-force = rw rule
+
+  -- deliveries are no turns
+  same-acting : (k : ℕ) (cs : List Step) → acting first (each (λ p. commit (p + 1)) k cs) ≡ acting first cs
+  unfolding each commit say acting
+  same-acting zero cs = refl
+  same-acting (suc k) cs = same-acting k cs
+
+  counts : (cs : List Step) → word (after first cs) turnsAt ≡ acting first cs
+  unfolding TurnCount
+  counts cs = turn-count s (opens n) accepted cs .stored
+
+  exactly : acting first (costly n) ≡ 99 * n + 3
+  unfolding costly turns each after
+  exactly =
+      let a : acting first last ≡ acting first (acted n) = same-acting (n - 1) (acted n) in
+      let same : turnWords (after first last) (length (blank 140)) ≡ applied (after first last) (due (settings n) (after first last)) = turn-words n n low few (after first last) good in
+      let one = turn-acts n n low few (after first last) good in-force in
+      let final : word (turnWords (after first last) (length (blank 140))) turnsAt ≡ word (after first last) turnsAt + 1 = ap (λ (t : List ℕ). word t turnsAt) same ∙ one in
+      let most = sound-bound (settings n) (ruled n n low few) _ (turn-sound (settings n) (ruled n n low few) (after first last) (good .sound) (blank 140) .sound) in
+      omega (arith, counts (costly n), counts last, counts (acted n), enough, final, most, turn-bound-sum (settings n))
+
+pub costliest : Costliest
+unfolding Costliest
+costliest n two few s size = record { is-opened = accepted n two (omega arith) few s size; exactly = exactly n two (omega arith) few s size }

@@ -1,0 +1,11 @@
+pub mod Calls
+pub mod Sums
+pub mod Tight
+pub mod Exact
+pub mod One
+pub mod Saying
+pub mod Hearing
+pub mod Idle
+pub mod Acting
+pub mod Costliest
+pub mod Five

@@ -1,0 +1,240 @@
+-- One concentrator takes at most five turns: its vote never starts, since a broadcast with output is Exit 1.
+use Prim.Native.Nat.{ℕ, _+_, _≤_, _<_}
+use mathlib.Core.Bool.{Bool, true, false, _&&_, cond, true≢false}
+use mathlib.Core.List.{List, [], _∷_}
+use mathlib.Core.Logic.{_≢_, inl, inr}
+use mathlib.Core.Path.{_≡_, refl, sym, ap, subst, _∙_}
+use native.Mathlib.Omega.{arith}
+use lib.Dec.{eqb, leb}
+use lib.ListN.{length}
+use borrow.Author.Tests.{eqb-true, eq-eqb}
+use Rattle.settings.specs.Laws.{Ruled}
+use Rattle.settings.specs.Settings.{quorum, voteQuorum, namedTa}
+use Rattle.settings.specs.declared.Settings.{Settings}
+use Rattle.quorum.specs.Marks.{mark}
+use Rattle.quorum.specs.MarkLaws.{mark-zero}
+use Rattle.quorum.specs.Total.{share, total, count, everyone}
+use Rattle.quorum.specs.TotalLaws.{total-none, count-le}
+use Rattle.quorum.specs.Lowest.{lowest}
+use Rattle.records.specs.Layout.{turnsAt, roundAt, estSentAt, auxSentAt, decidedOneAt}
+use Rattle.records.specs.Words.{word, marked}
+use Rattle.records.specs.Records.{round, commitSent, sendSent, decidedZero, decidedOne}
+use Rattle.acts.specs.Acts.{isDue, orAct, actAt, firstAct}
+use Rattle.acts.specs.Choices.{all-cond, all-or}
+use Rattle.acts.specs.declared.Act.{Act}
+use Rattle.acts.specs.declared.Act.the-variants.{Idle, InForce, Commit, Send, Echo, Ready, Start, Relay, Aux, Move}
+use Rattle.broadcasts.specs.Leading.{present}
+use Rattle.broadcasts.specs.Broadcasts.{output, echoRule, readyRule}
+use Rattle.broadcasts.specs.Due.{echo-rule-holds, ready-rule-holds}
+use Rattle.broadcasts.specs.declared.Output.{Output}
+use Rattle.broadcasts.specs.declared.Output.the-variants.{Value, Nothing}
+use Rattle.votes.specs.Votes.{votesDecidedOne, voteAct, startAct, relayAct, roundAct, running}
+use Rattle.exits.specs.Exits.{exitOf, exit1At, naming, withOutput, hasValue, valueIn}
+use Rattle.exits.specs.Now.{exitNow}
+use Rattle.commits.specs.Commits.{setLeader}
+use Rattle.opening.specs.Opening.{openAnswer, openWords, opened}
+use Rattle.opening.specs.Laws.{first-zero}
+use Rattle.session.specs.declared.Session.{Session}
+use Rattle.turn.specs.Due.{inForceRule, commitDue, commitOf, commitRule, sendRule, votesRule, due}
+use Rattle.turn.specs.Turn.{applied, turnWords}
+use Rattle.turn.specs.Frame.{applied-other}
+use Rattle.turn.specs.Admitting.{admitted-settings}
+use Rattle.turn.specs.Laws.{Taken, Way, refused, taken, way}
+use Rattle.delivery.specs.Delivery.{delivered}
+use Rattle.turn_bound.specs.TurnBound.{Arguments, answer, openedBy, settingsBy, Step, opening, delivery, turn, report, after, acting, current}
+use Rattle.turn_bound.specs.Sums.{share-few}
+use Rattle.turn_bound.specs.Potential.{instancePart, potential}
+use Rattle.turn_bound.specs.Sound.{Sound}
+use Rattle.turn_bound.specs.Delivering.{Delivered, delivery-sound}
+use Rattle.turn_bound.specs.Opened.{opened-ruled}
+use Rattle.turn_bound.specs.Count.{Going, going, opening-going, refused-words}
+
+-- the vote has not begun
+record Quiet (s : List ℕ) : Type 0 where
+  round : word s (roundAt 1) ≡ 0
+  ests : word s (estSentAt 1) ≡ 0
+  auxs : word s (auxSentAt 1) ≡ 0
+  ones : word s decidedOneAt ≡ 0
+
+abbrev alone : Settings
+alone = record { n = 1; ta = 0; ts = 0 }
+
+-- ---- no vote is due
+
+abbrev NoVote : Act → Type 0
+NoVote Idle = Unit {0}
+NoVote InForce = Unit {0}
+NoVote (Commit k) = Unit {0}
+NoVote (Send v) = Unit {0}
+NoVote (Echo i v) = Unit {0}
+NoVote (Ready i v) = Unit {0}
+NoVote (Start i b) = ⊥
+NoVote (Relay i r b) = ⊥
+NoVote (Aux i r b) = ⊥
+NoVote (Move i r v) = ⊥
+
+-- a broadcast with output is Exit 1
+exit-one : (o : ℕ → Output) (as0 as1 : ℕ → Bool) (v : ℕ) → o 1 ≡ Value v → exitOf alone o as0 as1 .number ≡ 1
+unfolding exitOf exit1At naming lowest withOutput total quorum
+exit-one o as0 as1 v e = rw (e, eq-eqb v v refl)
+
+module _ (s : List ℕ) (q : Quiet s) where
+  no-ones : votesDecidedOne alone s ≡ 0
+  unfolding votesDecidedOne decidedOne marked
+  no-ones = total-none (λ p. 1) (decidedOne s) 1 (λ p a b. ap (λ (w : ℕ). mark w p) (q .ones) ∙ mark-zero p)
+
+  before : round s 1 ≡ 0
+  unfolding round
+  before = rw (q .round)
+
+  vote-idle : voteAct alone s false (votesDecidedOne alone s) 1 ≡ Idle
+  unfolding voteAct startAct relayAct roundAct running voteQuorum orAct firstAct actAt lowest
+  vote-idle = rw (before, no-ones)
+
+  votes-idle : votesRule alone s ≡ Idle
+  unfolding votesRule exitNow firstAct actAt lowest
+  votes-idle = go (output alone s 1) refl
+    where
+      go : (x : Output) → output alone s 1 ≡ x → votesRule alone s ≡ Idle
+      go (Value v) e = rw (exit-one (output alone s) (decidedZero s) (decidedOne s) v e)
+      go Nothing e = cases (eqb (exitNow alone s .number) 1)
+        where
+          inner : firstAct (λ i. voteAct alone s (present (output alone s i)) (votesDecidedOne alone s) i) 1 ≡ Idle
+          inner = rw (e, vote-idle)
+
+          cases : (b : Bool) → cond b Idle (firstAct (λ i. voteAct alone s (present (output alone s i)) (votesDecidedOne alone s) i) 1) ≡ Idle
+          cases true = refl
+          cases false = inner
+
+  due-no-vote : NoVote (due alone s)
+  unfolding due inForceRule commitRule commitOf sendRule
+  due-no-vote =
+      all-or NoVote (inForceRule alone s) _ (all-cond NoVote (eqb (setLeader s 1 (quorum alone)) 0) Idle InForce (λ e. tt) (λ e. tt))
+      (all-or NoVote (commitRule alone s) _ (all-cond NoVote (commitSent s) Idle (commitOf (commitDue alone s)) (λ e. tt) (λ e. set (commitDue alone s)))
+      (all-or NoVote (sendRule s) _ (all-cond NoVote (sendSent s) Idle (Send (word s 5)) (λ e. tt) (λ e. tt))
+      (all-or NoVote (echoRule alone s) _ (echo-rule-holds NoVote alone s tt (λ i a b e f. tt))
+      (all-or NoVote (readyRule alone s) _ (ready-rule-holds NoVote alone s tt (λ i v a b e f. tt))
+      (rw votes-idle tt)))))
+    where
+      set : (xs : List ℕ) → NoVote (commitOf xs)
+      set [] = tt
+      set (x ∷ xs) = tt
+
+-- ---- calls keep the vote quiet
+
+module _ (s : List ℕ) where
+  -- a word that no such act writes
+  spared : (a : Act) → NoVote a → (k : ℕ) → k ≢ 6 → k ≢ 7 → k ≢ 136 → k ≢ 137 → word (applied s a) k ≡ word s k
+  spared Idle h k t f e r = applied-other s Idle k t tt
+  spared InForce h k t f e r = applied-other s InForce k t f
+  spared (Commit c) h k t f e r = applied-other s (Commit c) k t f
+  spared (Send v) h k t f e r = applied-other s (Send v) k t f
+  spared (Echo i v) h k t f e r = applied-other s (Echo i v) k t e
+  spared (Ready i v) h k t f e r = applied-other s (Ready i v) k t r
+  spared (Start i b) h k t f e r = absurd h
+  spared (Relay i x b) h k t f e r = absurd h
+  spared (Aux i x b) h k t f e r = absurd h
+  spared (Move i x v) h k t f e r = absurd h
+
+  act-quiet : (a : Act) → NoVote a → Quiet s → Quiet (applied s a)
+  act-quiet a h q =
+      record {
+        round = spared a h 24 (λ e. omega arith) (λ e. omega arith) (λ e. omega arith) (λ e. omega arith) ∙ q .round;
+        ests = spared a h 40 (λ e. omega arith) (λ e. omega arith) (λ e. omega arith) (λ e. omega arith) ∙ q .ests;
+        auxs = spared a h 56 (λ e. omega arith) (λ e. omega arith) (λ e. omega arith) (λ e. omega arith) ∙ q .auxs;
+        ones = spared a h 139 (λ e. omega arith) (λ e. omega arith) (λ e. omega arith) (λ e. omega arith) ∙ q .ones;
+      }
+
+only-alone : (g : Settings) → Ruled g → g .n ≡ 1 → g ≡ alone
+only-alone g r e = same e (omega (arith, r .margin)) (omega (arith, r .margin))
+  where
+    same : g .n ≡ 1 → g .ta ≡ 0 → g .ts ≡ 0 → g ≡ alone
+    same a b c = λ i. record { n = a i; ta = b i; ts = c i }
+
+module _ (s : List ℕ) (q : Quiet s) where
+  no-marks : (k m : ℕ) → word s k ≡ 0 → count (mark (word s k)) m ≡ 0
+  no-marks k m e = total-none (λ p. 1) (mark (word s k)) m (λ p a b. ap (λ (w : ℕ). mark w p) e ∙ mark-zero p)
+
+  part-few : instancePart s 1 ≤ 2
+  unfolding instancePart
+  part-few =
+      let out : share (eqb (word s 24) 33) 1 ≡ 0 = rw (q .round) in
+      omega (arith, share-few (mark (word s 136) 1), share-few (mark (word s 137) 1), no-marks 40 64 (q .ests), no-marks 56 32 (q .auxs), out)
+
+  quiet-potential : potential 1 s ≤ 5
+  unfolding potential total
+  quiet-potential = omega (arith, count-le (mark (word s 7)) 3, part-few)
+
+module _ (g : Settings) (ruled : Ruled g) (s : List ℕ) (h : Sound g s) (one : g .n ≡ 1) (q : Quiet s) where
+  turn-quiet : (out : List ℕ) → Quiet (turnWords s (length out))
+  turn-quiet out = of (way s out)
+    where
+      of : Way s out → Quiet (turnWords s (length out))
+      of (refused k r) = rw (r .words) q
+      of (taken y t) =
+          let same : y .settings ≡ alone = admitted-settings s (length out) y (t .admits) ∙ h .settings ∙ only-alone g ruled one in
+          rw (t .words, same) (act-quiet s (due alone s) (due-no-vote s q) q)
+
+  delivery-quiet : (link : ℕ) (b : List ℕ) → Quiet (delivered s link b)
+  delivery-quiet link b = of (delivery-sound g ruled s h link b)
+    where
+      of : Delivered g s (delivered s link b) → Quiet (delivered s link b)
+      of y =
+          record {
+            round = y .same 24 (inl (omega arith)) ∙ q .round;
+            ests = y .same 40 (inl (omega arith)) ∙ q .ests;
+            auxs = y .same 56 (inl (omega arith)) ∙ q .auxs;
+            ones = y .same 139 (inr (omega arith, omega arith)) ∙ q .ones;
+          }
+
+  quiet-few : word s turnsAt ≤ 5
+  quiet-few =
+      let least : word s turnsAt ≤ potential 1 s = rw one at (h .turns) in
+      omega (arith, least, quiet-potential s q)
+
+opening-quiet : (w : List ℕ) (o : Arguments) → answer w o ≡ 0 → Quiet (openedBy w o)
+unfolding opened
+opening-quiet w o e =
+    let few = opened-ruled w (o .coins) (o .n) (o .ta) (o .ts) (o .own) (o .session) (o .input) e .few in
+    let z = first-zero (o .n) (o .ta) (o .ts) (o .own) (o .session) (o .input) (o .coins) few in
+    rw (eq-eqb (answer w o) 0 e)
+    (record { round = z 24 (omega arith); ests = z 40 (omega arith); auxs = z 56 (omega arith); ones = z 139 (omega arith) })
+
+-- for every accepted opening and every list of calls after it, further openings among them: where the last accepted opening has n = 1,
+-- at most five turns since then acted
+unfoldable pub AtMostFive : Type 0
+AtMostFive =
+    (s : List ℕ) (o : Arguments) → answer s o ≡ 0 →
+    (cs : List Step) → current (settingsBy o) (openedBy s o) cs .n ≡ 1 → acting (openedBy s o) cs ≤ 5
+
+module _ (s : List ℕ) (o : Arguments) (e : answer s o ≡ 0) where
+  abbrev first : List ℕ
+  first = openedBy s o
+
+  abbrev now : List Step → Settings
+  now cs = current (settingsBy o) first cs
+
+  quiet : (cs : List Step) → now cs .n ≡ 1 → Quiet (after first cs)
+  unfolding current after
+  quiet [] one = opening-quiet s o e
+  quiet (opening p ∷ cs) one = at (eqb (answer (after first cs) p) 0) refl one (λ d. quiet cs d)
+    where
+      at : (b : Bool) → eqb (answer (after first cs) p) 0 ≡ b → cond b (settingsBy p) (now cs) .n ≡ 1 → (now cs .n ≡ 1 → Quiet (after first cs)) → Quiet (openedBy (after first cs) p)
+      at true d f x = opening-quiet (after first cs) p (eqb-true (answer (after first cs) p) 0 d)
+      at false d f x = rw (refused-words (after first cs) p d) (x f)
+  quiet (delivery link b ∷ cs) one =
+      let y = going (settingsBy o) first (opening-going s o e) cs in
+      delivery-quiet (now cs) (y .ruled) (after first cs) (y .sound) one (quiet cs one) link b
+  quiet (turn out ∷ cs) one =
+      let y = going (settingsBy o) first (opening-going s o e) cs in
+      turn-quiet (now cs) (y .ruled) (after first cs) (y .sound) one (quiet cs one) out
+  quiet (report ∷ cs) one = quiet cs one
+
+  few-turns : (cs : List Step) → now cs .n ≡ 1 → acting first cs ≤ 5
+  few-turns cs one =
+      let y = going (settingsBy o) first (opening-going s o e) cs in
+      omega (arith, y .count, quiet-few (now cs) (y .ruled) (after first cs) (y .sound) one (quiet cs one))
+
+pub at-most-five : AtMostFive
+unfolding AtMostFive
+at-most-five s o e cs one = few-turns s o e cs one
