@@ -1,10 +1,11 @@
--- What holds of each act of a choice holds of the act chosen.
+-- What holds of each act of a choice holds of the act chosen; where none is due, none of them is.
 use Prim.Native.Nat.{ℕ, _≤_}
-use mathlib.Core.Bool.{Bool, true, false, cond}
-use mathlib.Core.Path.{_≡_, refl}
+use mathlib.Core.Bool.{Bool, true, false, cond, true≢false}
+use mathlib.Core.Path.{_≡_, refl, sym, _∙_}
+use native.Mathlib.Decide.{ℕ-discrete}
 use lib.Dec.{eqb}
-use borrow.Author.Tests.{eqb-false}
-use Rattle.quorum.specs.Lowest.{lowest, Lowest, lowest-is}
+use borrow.Author.Tests.{eqb-false, ne-eqb}
+use Rattle.quorum.specs.Lowest.{lowest, Lowest, lowest-is, lowest-none}
 use Rattle.acts.specs.Acts.{isDue, orAct, actAt, firstAct}
 use Rattle.acts.specs.declared.Act.{Act}
 use Rattle.acts.specs.declared.Act.the-variants.{Idle}
@@ -30,3 +31,27 @@ module _ (P : Act → Type 0) where
 
       found : Lowest test n k → P (f k)
       found l = q k (l .low) (l .high)
+
+pub or-idle : (a b : Act) → isDue (orAct a b) ≡ false → (isDue a ≡ false) × (isDue b ≡ false)
+unfolding orAct
+or-idle a b e = go (isDue a) refl e
+  where
+    go : (t : Bool) → isDue a ≡ t → isDue (cond t a b) ≡ false → (isDue a ≡ false) × (isDue b ≡ false)
+    go true f g = absurd (true≢false (sym f ∙ g))
+    go false f g = (f, g)
+
+pub first-idle : (f : ℕ → Act) (n : ℕ) → isDue (firstAct f n) ≡ false → (i : ℕ) → 1 ≤ i → i ≤ n → isDue (f i) ≡ false
+unfolding firstAct actAt
+first-idle f n e = at (ℕ-discrete (lowest (λ i. isDue (f i)) n) 0)
+  where
+    at : Dec (lowest (λ i. isDue (f i)) n ≡ 0) → (i : ℕ) → 1 ≤ i → i ≤ n → isDue (f i) ≡ false
+    at (yes z) = lowest-none (λ i. isDue (f i)) n z
+    at (no ne) = absurd (true≢false (sym (lowest-is (λ i. isDue (f i)) n (lowest (λ i. isDue (f i)) n) refl ne .holds) ∙ due-false))
+      where
+        due-false : isDue (f (lowest (λ i. isDue (f i)) n)) ≡ false
+        due-false = rw (ne-eqb (lowest (λ i. isDue (f i)) n) 0 ne) at e
+
+-- a test before an act that is due
+pub passed-test : (t : Bool) (a : Act) → isDue a ≡ true → isDue (cond t Idle a) ≡ false → t ≡ true
+passed-test true a d e = refl
+passed-test false a d e = absurd (true≢false (sym d ∙ e))

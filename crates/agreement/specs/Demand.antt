@@ -10,7 +10,8 @@ use Rattle.agreement.specs.Evidence.{World, whole, liars, Sound, sound, 
 use Rattle.agreement.specs.History.{Act, send, commit, History, Did}
 use Rattle.agreement.specs.Moments.{Within, now, after, within-tail, before-now, before-after, within-trans}
 use Rattle.agreement.specs.Runs as Runs
-use Rattle.agreement.specs.Runs.{Message, COMMIT, HeldFrom, OutputsHeld, Inv, Due, backing, shows-named, shows-force}
+use Rattle.held.specs.Held.{Message, COMMIT}
+use Rattle.agreement.specs.Runs.{HeldFrom, OutputsHeld, Inv, Due, backing, shows-named, shows-force}
 use Rattle.agreement.specs.Agreement.{Shown, agreement, validity}
 use Rattle.agreement.specs.Calls.{Machine, Call, world, place, words, Shows, Opened, Conditions, PutIn, Earlier, OneSet, NamedFirst, OnlyInput, DemandThree}
 use Rattle.agreement.specs.Laws.{Reading, Active, Laws}

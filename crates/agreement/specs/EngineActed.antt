@@ -29,11 +29,12 @@ use Rattle.turn.specs.Marks.{MarkWord, keeps-applied, echo-marked, aux-marked}
 use Rattle.turn.specs.Decisions.{DecidedBy, decided-zero-came, decided-one-came}
 use Rattle.agreement.specs.Evidence.{World}
 use Rattle.agreement.specs.History.{Act, send, echo, ready, start, relay, aux, move, commit, Decision, zero, one}
-use Rattle.agreement.specs.Runs.{Message, Decides, Changed, Kept, Acted}
+use Rattle.held.specs.Held.{Message, Numbered}
+use Rattle.held.specs.Keeping.{held-back}
+use Rattle.agreement.specs.Runs.{Decides, Changed, Kept, Acted}
 use Rattle.agreement.specs.Calls.{Arguments, agreed, engine, world}
-use Rattle.agreement.specs.EngineSeen.{Numbered, engineSeen}
+use Rattle.agreement.specs.EngineSeen.{engineSeen}
 use Rattle.agreement.specs.EngineReading.{Belongs, shownAct}
-use Rattle.agreement.specs.EngineKept.{held-back}
 
 -- a move decides for the coin, where its AUXs carry that value only
 decides-only : (k : Bool) (v : View) → decides k v ≡ true → v ≡ Only (coinValue k)

@@ -31,12 +31,13 @@ use Rattle.delivery.specs.Delivery.{placeHeld, recorded, deliverAnswer}
 use Rattle.delivery.specs.Frame.{InLayout, length-recorded}
 use Rattle.delivery.specs.Kept.{in-layout, SetAfter, before, now, set-after, Untouched, word-untouched, ValueFits, fit-recorded}
 use Rattle.agreement.specs.History.{Decision, zero, one}
-use Rattle.agreement.specs.Runs.{Message, Delivered}
+use Rattle.held.specs.Held.{Message, meaning}
+use Rattle.held.specs.Recording.{held-recorded}
+use Rattle.agreement.specs.Runs.{Delivered}
 use Rattle.agreement.specs.Calls.{Arguments, Agreed, Bytes, engine}
 use Rattle.agreement.specs.Laws.{at, Delivery}
 use Rattle.agreement.specs.EngineSeen.{engineSeen}
-use Rattle.agreement.specs.EngineReading.{Belongs, Sets, Belonging, Says, meaning, engineReading}
-use Rattle.agreement.specs.EngineHeld.{held-recorded}
+use Rattle.agreement.specs.EngineReading.{Belongs, Sets, Belonging, Says, engineReading}
 
 -- the values of a message that is taken have 64 bits
 value-fits : (m : wire-message.Message) (xs v : List ℕ) → Fitting (valuesOf m xs) → ((j : ℕ) → valueAt v j < 2 ^ 64) → ValueFits m v

@@ -33,8 +33,9 @@ use Rattle.turn.specs.Told.{ActTold, SetHeld, Rests, on-exit, on-copies}
 use Rattle.agreement.specs.Evidence.{World, whole, Backed}
 use Rattle.agreement.specs.Thresholds.{by-quorum, by-vote-quorum, by-copy, by-relay, by-accept}
 use Rattle.agreement.specs.History.{Act, Occurs, Names}
-use Rattle.agreement.specs.Runs.{Message, SEND, ECHO, READY, EST, AUX, COMMIT, HeldFrom, Carried, MoveDue, Due, OutputsHeld}
-use Rattle.agreement.specs.EngineSeen.{Numbered, Voting, engineSeen}
+use Rattle.held.specs.Held.{Message, SEND, ECHO, READY, EST, AUX, COMMIT, Numbered, Voting}
+use Rattle.agreement.specs.Runs.{HeldFrom, Carried, MoveDue, Due, OutputsHeld}
+use Rattle.agreement.specs.EngineSeen.{engineSeen}
 use Rattle.agreement.specs.EngineReading.{shownAct}
 
 -- of two tests, each under a condition, one passes

@@ -1,21 +1,17 @@
--- What a turn leaves as it was: all that is held, and the session that the words belong to.
-use Prim.Native.Nat.{ℕ, _+_, _*_, _≤_, _<_, _^_}
+-- The words after a turn belong to the session that they belonged to.
+use Prim.Native.Nat.{ℕ, _+_, _≤_}
 use mathlib.Core.Bool.{Bool, true, false, cond}
 use mathlib.Core.List.{List}
-use mathlib.Core.Path.{_≡_, refl, sym, ap, _∙_}
+use mathlib.Core.Path.{_∙_}
 use native.Mathlib.Omega.{arith}
 use lib.Dec.{eqb, ltb}
-use lib.ListN.{length}
 use Rattle.settings.specs.Settings.{roundLimit}
 use Rattle.settings.specs.Laws.{Ruled}
 use Rattle.settings.specs.declared.Settings.{Settings}
-use Rattle.quorum.specs.Marks.{mark}
 use Rattle.records.specs.Layout.{turnsAt, roundAt, estSentAt, estSentMark, decidedZeroAt, decidedOneAt}
 use Rattle.records.specs.Words.{word, put, marked, setMark}
-use Rattle.records.specs.Records.{sendHeld, sendValue, echoHeld, echoValue, readyHeld, readyValue, estHeld, auxHeld, commitCount, commitValue, commitSet, coin}
+use Rattle.records.specs.Records.{coin}
 use Rattle.records.specs.Bounds.{Fit, fit-put, fit-setMark}
-use Rattle.commits.specs.Commits.{commitHeld}
-use Rattle.commits.specs.Sets.{set-agree}
 use Rattle.acts.specs.Acts.{isDue}
 use Rattle.acts.specs.declared.Act as acts
 use Rattle.acts.specs.declared.Act.the-variants.{Idle, InForce, Commit, Send, Echo, Ready, Start, Relay, Aux, Move}
@@ -24,50 +20,9 @@ use Rattle.votes.specs.Votes.{estimate}
 use Rattle.turn.specs.Turn.{counted, entered, decidedAs, newDecision, moveDecided, moved, applied}
 use Rattle.turn.specs.Turn as turn
 use Rattle.turn.specs.Told.{ActTold}
-use Rattle.turn.specs.Frame.{Placed, told-placed, Kept, setting, coins, held, beyond, length-applied, applied-kept}
-use Rattle.agreement.specs.Runs.{Message, SEND, ECHO, READY, EST, AUX, COMMIT}
+use Rattle.turn.specs.Frame.{Placed, told-placed, setting, coins, length-applied, applied-kept}
 use Rattle.agreement.specs.Calls.{Arguments}
-use Rattle.agreement.specs.EngineSeen.{Numbered, Voting, Valued, Cast, Committed, holds}
 use Rattle.agreement.specs.EngineReading.{Belongs}
-
--- ---- what is held stays
-
-module _ (s t : List ℕ) (size : length s ≡ 2048) (sizes : length t ≡ length s) (same : (j : ℕ) → Kept j → word t j ≡ word s j) where
-  mark-back : (j p : ℕ) → Kept j → marked t j p ≡ true → marked s j p ≡ true
-  unfolding marked
-  mark-back j p k e = ap (λ (w : ℕ). mark w p) (sym (same j k)) ∙ e
-
-  pub count-back : (m : ℕ) → 1 ≤ m → m ≤ 16 → commitCount t m ≡ commitCount s m
-  unfolding commitCount
-  count-back m low high = rw (same (119 + m) (held (omega arith) (omega arith)))
-
-  value-back : (m k : ℕ) → commitValue t m k ≡ commitValue s m k
-  unfolding commitValue
-  value-back m k = same (751 + 16 * m + k) (beyond (omega arith))
-
-  pub set-back : (m : ℕ) → 1 ≤ m → m ≤ 16 → commitSet t m ≡ commitSet s m
-  set-back m low high = set-agree s t m m size (sizes ∙ size) high high (count-back m low high) (λ k lo hi. value-back m k)
-
-  commit-back : (m : ℕ) → 1 ≤ m → m ≤ 16 → (X : List ℕ) → Committed (commitHeld t m ≡ true) (commitSet t m) X → Committed (commitHeld s m ≡ true) (commitSet s m) X
-  unfolding commitHeld
-  commit-back m low high X h =
-      record { there = rw (← count-back m low high) (h .there); same = sym (set-back m low high) ∙ h .same }
-
-  pub held-back : (m : ℕ) (x : Message) → 1 ≤ m → m ≤ 16 → holds t m x → holds s m x
-  unfolding sendHeld sendValue echoHeld echoValue readyHeld readyValue estHeld auxHeld
-  held-back m (SEND v) low high h =
-      record { instance = h .instance; there = mark-back 140 m (beyond (omega arith)) (h .there); same = sym (same (71 + m) (held (omega arith) (omega arith))) ∙ h .same }
-  held-back m (ECHO i v) low high h =
-      let n : Numbered i = h .instance in
-      record { instance = n; there = mark-back (87 + i) m (held (omega (arith, n .low)) (omega (arith, n .high))) (h .there); same = sym (same (239 + 16 * i + m) (beyond (omega arith))) ∙ h .same }
-  held-back m (READY i v) low high h =
-      let n : Numbered i = h .instance in
-      record { instance = n; there = mark-back (103 + i) m (held (omega (arith, n .low)) (omega (arith, n .high))) (h .there); same = sym (same (495 + 16 * i + m) (beyond (omega arith))) ∙ h .same }
-  held-back m (EST i r b) low high h = record { vote = h .vote; there = mark-back (991 + 32 * i + r) (16 * b + m) (beyond (omega arith)) (h .there) }
-  held-back m (AUX i r b) low high h = record { vote = h .vote; there = mark-back (991 + 32 * i + r) (32 + 16 * b + m) (beyond (omega arith)) (h .there) }
-  held-back m (COMMIT X) low high h = commit-back m low high X h
-
--- ---- the words belong to the session still
 
 fit-entered : (s : List ℕ) (i r b : ℕ) → Fit s → r ≤ 33 → Fit (entered s i r b)
 unfolding entered

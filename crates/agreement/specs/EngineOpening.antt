@@ -23,10 +23,11 @@ use Rattle.opening.specs.Cases.{Accepted, accepted}
 use Rattle.opening.specs.Laws.{coin-below, length-first, first-n, first-ta, first-ts, first-own, first-session, first-input, first-coin, first-zero, fit-first}
 use Rattle.opening.specs.Opening.{openWords, opened}
 use Rattle.agreement.specs.History.{Decision, zero, one}
-use Rattle.agreement.specs.Runs.{Message, SEND, ECHO, READY, EST, AUX, COMMIT, Blank}
+use Rattle.held.specs.Held.{Message, SEND, ECHO, READY, EST, AUX, COMMIT, holds}
+use Rattle.agreement.specs.Runs.{Blank}
 use Rattle.agreement.specs.Calls.{Arguments, agreed, engine}
 use Rattle.agreement.specs.Laws.{at}
-use Rattle.agreement.specs.EngineSeen.{holds, engineSeen}
+use Rattle.agreement.specs.EngineSeen.{engineSeen}
 use Rattle.agreement.specs.EngineReading.{Belongs, Sets, Belonging, engineReading}
 
 -- the words after an accepted opening

@@ -1,5 +1,5 @@
 -- The engine's words as a state of its session, the act of a turn, and what the bytes of a message say.
-use Prim.Native.Nat.{ℕ, _+_, _≤_, _<_, _^_}
+use Prim.Native.Nat.{ℕ, _≤_, _<_, _^_}
 use mathlib.Core.Bool.{true}
 use mathlib.Core.List.{List}
 use mathlib.Core.Option.{Option, none, some}
@@ -24,8 +24,8 @@ use Rattle.turn.specs.Due.{due, commitDue}
 use Rattle.turn.specs.Turn.{admits}
 use Rattle.turn.specs.declared.Admitted.{Admitted}
 use Rattle.turn.specs.declared.Admitted.the-variants as admitted
+use Rattle.held.specs.Held.{Message, meaning}
 use Rattle.agreement.specs.History.{Act, send, echo, ready, start, relay, aux, move, commit}
-use Rattle.agreement.specs.Runs.{Message, SEND, ECHO, READY, EST, AUX, COMMIT}
 use Rattle.agreement.specs.Calls.{Arguments, Agreed, agreed, Bytes, engine}
 use Rattle.agreement.specs.Laws.{Reading}
 use Rattle.agreement.specs.EngineSeen.{engineSeen}
@@ -73,15 +73,6 @@ admittedAct (admitted.Open x) s = shownAct (x .settings) s (due (x .settings) s)
 
 unfoldable pub actOf : List ℕ → List ℕ → Option Act
 actOf w lent = admittedAct (admits w (length lent)) w
-
--- what a message says, with the values xs that stand beside a COMMIT
-abbrev pub meaning : wire.Message → List ℕ → Message
-meaning (message.Send i v) xs = SEND v
-meaning (message.Echo i v) xs = ECHO i v
-meaning (message.Ready i v) xs = READY i v
-meaning (message.Est i r b) xs = EST i r b
-meaning (message.Aux i r b) xs = AUX i r b
-meaning (message.Commit k) xs = COMMIT xs
 
 -- the bytes b from the link of concentrator m say x
 pub record Says (S : Agreed) (m : ℕ) (b : Bytes) (x : Message) : Type 0 where

@@ -29,7 +29,8 @@ use Rattle.report.specs.Laws.{Reported, reported, report-gives, report-names, r
 use Rattle.report.specs.declared.Figures.{Figures}
 use Rattle.agreement.specs.Evidence.{World, whole}
 use Rattle.agreement.specs.History.{Act, Names}
-use Rattle.agreement.specs.Runs.{Message, COMMIT, HeldFrom, OutputsHeld}
+use Rattle.held.specs.Held.{Message, COMMIT}
+use Rattle.agreement.specs.Runs.{HeldFrom, OutputsHeld}
 use Rattle.agreement.specs.Calls.{Arguments, agreed, ReportNames, ReportEnforces, engine, world}
 use Rattle.agreement.specs.EngineSeen.{engineSeen}
 use Rattle.agreement.specs.EngineReading.{Belongs, Belonging, admittedAct, actOf}

@@ -56,10 +56,10 @@ use Rattle.turn.specs.declared.Outcome.{Outcome}
 use Rattle.turn.specs.declared.Outcome.the-variants as outcome
 use Rattle.agreement.specs.Evidence.{World}
 use Rattle.agreement.specs.History.{Act, commit, move}
-use Rattle.agreement.specs.Runs.{Message}
+use Rattle.held.specs.Held.{Message, EST, meaning}
 use Rattle.agreement.specs.Runs as runs
 use Rattle.agreement.specs.Calls.{Arguments, agreed, Bytes, SendsBytes, engine, world}
-use Rattle.agreement.specs.EngineReading.{Belongs, Sets, shownAct, meaning, Says}
+use Rattle.agreement.specs.EngineReading.{Belongs, Sets, shownAct, Says}
 use Rattle.agreement.specs.EngineActed.{coin-same}
 
 -- ---- sets that may be sent
@@ -178,7 +178,7 @@ module _ (o : Arguments) (H : ℕ → Bool) (w : List ℕ) (x : Belongs o w) (se
   sending : (a : Option Act) (m0 m : wire.Message) → outcome.Sent m0 ≡ outcome.Sent m → Sending a m0 → Sending a m
   sending a m0 m e s = let same : m0 ≡ m = cc in subst (Sending a) same s
 
-  est-sending : (a : Act) (i r b : ℕ) → 1 ≤ i → i ≤ o .n → 1 ≤ r → r ≤ 32 → b ≤ 1 → runs.message W a ≡ runs.EST i r b → Sending (some a) (message.Est i r b)
+  est-sending : (a : Act) (i r b : ℕ) → 1 ≤ i → i ≤ o .n → 1 ≤ r → r ≤ 32 → b ≤ 1 → runs.message W a ≡ EST i r b → Sending (some a) (message.Est i r b)
   est-sending a i r b lo hi begun ended bit e = record { proper = single (message.Est i r b) b (lo, hi, begun, ended, bit) refl refl (omega arith); shows = e }
 
   commit-sending : (k : ℕ) → 1 ≤ k → length xs ≡ k → Good xs → Sending (some (commit xs)) (message.Commit k)
@@ -196,7 +196,7 @@ module _ (o : Arguments) (H : ℕ → Bool) (w : List ℕ) (x : Belongs o w) (se
       go : (b : Bool) → ltb r 32 ≡ b → cond b (outcome.Sent (message.Est i (r + 1) (estimate (records.coin w i r) v))) outcome.MovedOut ≡ outcome.Sent m → Sending (some (move i r v)) m
       go true l f =
           sending _ (message.Est i (r + 1) (estimate (records.coin w i r) v)) m f
-          (est-sending _ i (r + 1) (estimate (records.coin w i r) v) lo hi (omega arith) (omega (arith, ltb-true r 32 l)) bit (rw (coin-same o H w x i r lo hi) (ap (λ (q : ℕ). runs.EST i q (estimate (W .coin i r) v)) (next r))))
+          (est-sending _ i (r + 1) (estimate (records.coin w i r) v) lo hi (omega arith) (omega (arith, ltb-true r 32 l)) bit (rw (coin-same o H w x i r lo hi) (ap (λ (q : ℕ). EST i q (estimate (W .coin i r) v)) (next r))))
       go false l f = absurd (let z : _≡_ {A = ℕ} 0 1 = cc in omega arith)
 
   act-sending : (a : acts.Act) → ActTold g w a → (m : wire.Message) → outcomeOf (o .own) w a ≡ outcome.Sent m → Sending (shownAct g w a) m

@@ -27,12 +27,13 @@ use Rattle.turn.specs.declared.Outcome.{Outcome}
 use Rattle.turn.specs.declared.Outcome.the-variants as outcome
 use Rattle.agreement.specs.Evidence.{World}
 use Rattle.agreement.specs.History.{Act, send}
+use Rattle.held.specs.Keeping.{count-back, set-back}
 use Rattle.agreement.specs.Runs.{Kept}
 use Rattle.agreement.specs.Calls.{Arguments, agreed, Bytes, SendsBytes, engine, world}
 use Rattle.agreement.specs.Laws.{Quiet, Active, Turned}
 use Rattle.agreement.specs.EngineSeen.{engineSeen}
 use Rattle.agreement.specs.EngineReading.{Belongs, Sets, Belonging, shownAct, admittedAct, actOf, engineReading}
-use Rattle.agreement.specs.EngineKept.{belongs-applied, count-back, set-back}
+use Rattle.agreement.specs.EngineKept.{belongs-applied}
 use Rattle.agreement.specs.EngineDue.{ShownDue, shown-due}
 use Rattle.agreement.specs.EngineActed.{unchanged, kept-by, ShownActed, shown-acted}
 use Rattle.agreement.specs.EngineSent.{silent, shown-says}

@@ -13,7 +13,8 @@ use mathlib.Core.Path.{_≡_}
 use Rattle.settings.specs.Laws.{Ruled}
 use Rattle.agreement.specs.Evidence.{World, whole}
 use Rattle.agreement.specs.History.{Act, send, Names}
-use Rattle.agreement.specs.Runs.{Message, COMMIT, message, Seen, HeldFrom, OutputsHeld, Due, Kept, Delivered, Acted, Blank}
+use Rattle.held.specs.Held.{Message, COMMIT}
+use Rattle.agreement.specs.Runs.{message, Seen, HeldFrom, OutputsHeld, Due, Kept, Delivered, Acted, Blank}
 use Rattle.agreement.specs.Calls.{Machine, world}
 
 -- a reading of a machine's words

@@ -14,8 +14,6 @@ pub mod Demand
 pub mod EngineSeen
 pub mod EngineReading
 pub mod EngineOpening
-pub mod EngineColumns
-pub mod EngineHeld
 pub mod EngineDelivery
 pub mod EngineKept
 pub mod EngineDue

@@ -13,7 +13,8 @@ use Rattle.settings.specs.Laws.{Ruled}
 use Rattle.agreement.specs.Evidence.{World, Honest}
 use Rattle.agreement.specs.History.{Act, echo, aux, History, Did, by, Lawful, Single}
 use Rattle.agreement.specs.Moments.{Within, now, after, within-tail, within-trans}
-use Rattle.agreement.specs.Runs.{Message, Said, message, said-of, said-later, Gone, Credit, Inv, due-guard, inv-blank, inv-keep, inv-fewer, inv-kept, inv-delivered, inv-acted}
+use Rattle.held.specs.Held.{Message}
+use Rattle.agreement.specs.Runs.{Said, message, said-of, said-later, Gone, Credit, Inv, due-guard, inv-blank, inv-keep, inv-fewer, inv-kept, inv-delivered, inv-acted}
 use Rattle.agreement.specs.Calls.{Machine, Call, opening, delivery, turn, report, world, place, left, words, Sent, Conditions}
 use Rattle.agreement.specs.Laws.{Reading, Turned, Laws}
 use Rattle.agreement.specs.Openings.{becomes, did, tell, status, history, Known, opened-known, known-opened}

@@ -11,18 +11,12 @@ use Rattle.acts.specs.declared.View.the-variants.{Only}
 use Rattle.votes.specs.Votes.{estimate, coinValue}
 use Rattle.broadcasts.specs.declared.Output.the-variants.{Value}
 use Rattle.exits.specs.Agree.{Standing}
+use Rattle.held.specs.Held.{Message, SEND, ECHO, READY, EST, AUX, COMMIT}
 use Rattle.agreement.specs.Evidence.{World, whole, Honest, Backed, backed-map}
 use Rattle.agreement.specs.History.{Act, send, echo, ready, start, relay, aux, move, commit, Event, by, History, Did, Single, Heard, Occurs, Decision, Names, started, moved, Est, own, relayed, Decided, by-move, Stands, Guard}
 use Rattle.agreement.specs.Votes.{est-keep, decided-keep}
 use Rattle.agreement.specs.Moments.{Within, now, after}
 use Rattle.agreement.specs.Agreement.{Shown, by-exits, in-force}
-
--- what a message says, beside its sender; the instance of a SEND is its sender
-pub data Message : Type 0 where
-  SEND : ℕ → Message
-  ECHO READY : ℕ → ℕ → Message
-  EST AUX : ℕ → ℕ → ℕ → Message
-  COMMIT : List ℕ → Message
 
 -- what the states of a machine show
 pub record Seen (St : Type 0) : Type 1 where

@@ -1,40 +1,8 @@
--- Definitions opened together, so that a closed term computes: `unfolding calls` opens those of the four calls, `unfolding checks` those of
--- the test of a list.
-use Rattle.settings.specs.Settings.{validSettings, namedTa, quorum, copy, voteQuorum, relay, accept, turnBound}
-use Rattle.quorum.specs.Marks.{mark, withMark}
-use Rattle.quorum.specs.Total.{total}
-use Rattle.quorum.specs.Lowest.{lowest}
-use Rattle.quorum.specs.Every.{every}
-use Rattle.records.specs.Words as words
-use Rattle.records.specs.Records.{closed, sendSent, commitSent, echoSent, readySent, sendHeld, sendValue, echoHeld, echoValue, readyHeld, readyValue, estHeld, auxHeld, coin, round, estSent, auxSent, decidedZero, decidedOne, decided, commitCount, commitValue, commitSet}
-use Rattle.records.specs.Fill.{blank, storeOf}
-use Rattle.acts.specs.Acts.{orAct, actAt, firstAct}
-use Rattle.broadcasts.specs.Leading.{holders, leads, valueOf, leading}
-use Rattle.broadcasts.specs.Broadcasts.{output, echoAct, readyDue, readyAct, echoRule, readyRule}
-use Rattle.commits.specs.Commits.{commitHeld, sameSet, setHolders, setLeads, setLeader, setOf, leadingSet}
-use Rattle.votes.specs.Votes.{estCount, accepted, votesDecidedOne, startAct, relayValue, relayRound, relayAct, running, auxValue, auxAct, carries, carriers, auxCount, view, moveValue, moveAct, roundAct, voteAct}
-use Rattle.exits.specs.Exits.{withOutput, sizeS, exit1At, votesDone, exit2At, exit3Full, noExit, exit3, naming, exitOf}
-use Rattle.exits.specs.Now.{exitNow}
-use Rattle.session.specs.Session.{numbered, roundsRight, commitsRight, numbersRight, settingsOf, isState, sessionWith, sessionOf, stored}
-use Rattle.wire.specs.Bytes.{be2, be4, be8, valueAt, values, risesFrom, rises, bytes2, bytes4, bytes8, valueBytes}
-use Rattle.wire.specs.Message.{byKind, headerFor, frontBytes, headerBytes, messageBytes, encode}
-use Rattle.wire.specs.Message as wire
-use Rattle.wire.specs.Reading.{lengthRight, headerOf, fieldsRight, takenIf, readValues, readChecked, readMessage}
-use Rattle.opening.specs.Opening.{openAnswer, coinWord, withSettings, withCoins, openWords, opened}
-use Rattle.delivery.specs.Delivery.{placeHeld, judged, verdictIn, verdictFor, verdict, recorded, answerOf, wordsAfter, deliverAnswer, delivered}
-use Rattle.turn.specs.Due.{inForceRule, orSet, commitDue, commitOf, commitRule, sendRule, votesRule, due}
-use Rattle.turn.specs.Turn.{moveOutcome, outcomeOf, entered, decidedAs, newDecision, moveDecided, moved, applied, admittedIn, admittedFor, admits, bytesAfter, outcomeFor, wordsFor, bytesFor, turnOutcome, turnWords, turnBytes}
-use Rattle.turn.specs.Turn as turn
-use Rattle.report.specs.Report.{inForceSet, figuresOf, answerFor, namedFor, inForceFor, reportAnswer, reportNamed, reportInForce}
-use Rattle.report.specs.Report as report
+-- Definitions of the test of a list opened together, so that a closed term computes: `unfolding checks`.
 use Rattle.agreement_example.specs.Checking.{isOpened, wordsOf, withWords, sameList, wasSent, sentBy, sameSession, opens, openedWords, statesAfter, sentAfter, listed, openingRight, deliveryRight, callRight, step, run}
 use Rattle.agreement_example.specs.Example.{closesWith, closes, ends, passes}
 use Rattle.agreement_example.specs.Refusals.{refusalOf, refusal, withRefusal, afterCall, refusals}
 use Rattle.agreement_example.specs.Messages.{lowBytes, bytesOf, coinWords, openingOf, deliver, turnOf}
-
-unfoldable pub calls : Unit {0}
-unfolding validSettings namedTa quorum copy voteQuorum relay accept turnBound mark withMark total lowest every words.word words.put words.marked words.setMark closed sendSent commitSent echoSent readySent sendHeld sendValue echoHeld echoValue readyHeld readyValue estHeld auxHeld coin round estSent auxSent decidedZero decidedOne decided commitCount commitValue commitSet blank storeOf orAct actAt firstAct holders leads valueOf leading output echoAct readyDue readyAct echoRule readyRule estCount accepted votesDecidedOne startAct relayValue relayRound relayAct running auxValue auxAct carries carriers auxCount view moveValue moveAct roundAct voteAct commitHeld sameSet setHolders setLeads setLeader setOf leadingSet withOutput sizeS exit1At votesDone exit2At exit3Full noExit exit3 naming exitOf exitNow numbered roundsRight commitsRight numbersRight settingsOf isState sessionWith sessionOf stored be2 be4 be8 valueAt values risesFrom rises bytes2 bytes4 bytes8 valueBytes byKind headerFor frontBytes headerBytes messageBytes encode wire.atFront lengthRight headerOf fieldsRight takenIf readValues readChecked readMessage openAnswer coinWord withSettings withCoins openWords opened placeHeld judged verdictIn verdictFor verdict recorded answerOf wordsAfter deliverAnswer delivered inForceRule orSet commitDue commitOf commitRule sendRule votesRule due moveOutcome outcomeOf entered decidedAs newDecision moveDecided moved turn.counted turn.marked applied admittedIn admittedFor admits bytesAfter outcomeFor wordsFor bytesFor turnOutcome turnWords turnBytes inForceSet figuresOf report.admittedIn report.admittedFor report.admits report.atFront answerFor namedFor inForceFor reportAnswer reportNamed reportInForce
-calls = tt
 
 unfoldable pub checks : Unit {0}
 unfolding isOpened wordsOf withWords sameList wasSent sentBy sameSession opens openedWords statesAfter sentAfter listed openingRight deliveryRight callRight step run closesWith closes ends passes refusalOf refusal withRefusal afterCall refusals lowBytes bytesOf coinWords openingOf deliver turnOf

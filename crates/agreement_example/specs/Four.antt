@@ -16,7 +16,8 @@ use Rattle.agreement.specs.Calls.{Call, opening, delivery, report, engine, Agre
 use Rattle.agreement_example.specs.Example.{Example, passes, passes-example}
 use Rattle.agreement_example.specs.Refusals.{refusals}
 use Rattle.agreement_example.specs.Messages.{bytesOf, openingOf, deliver, turnOf}
-use Rattle.agreement_example.specs.Computing.{calls, checks}
+use Rattle.turn_bound.specs.Computing.{calls}
+use Rattle.agreement_example.specs.Computing.{checks}
 
 abbrev pub session : Agreed
 session = record { settings = record { n = 4; ta = 1; ts = 1 }; number = 7; coins = 0 ∷ 0 ∷ 0 ∷ 0 ∷ [] }

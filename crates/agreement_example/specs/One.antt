@@ -22,7 +22,8 @@ use Rattle.agreement.specs.Calls.{Call, opening, delivery, report, engine, Agre
 use Rattle.agreement_example.specs.Example.{Example, passes, passes-example}
 use Rattle.agreement_example.specs.Refusals.{refusals}
 use Rattle.agreement_example.specs.Messages.{bytesOf, openingOf, deliver, turnOf}
-use Rattle.agreement_example.specs.Computing.{calls, checks}
+use Rattle.turn_bound.specs.Computing.{calls}
+use Rattle.agreement_example.specs.Computing.{checks}
 
 abbrev pub session : Agreed
 session = record { settings = record { n = 1; ta = 0; ts = 0 }; number = 7; coins = 0 ∷ [] }

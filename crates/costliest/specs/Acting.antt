@@ -1,47 +1,42 @@
 -- Turns after all messages are held: each acts, until nothing is due.
-use Prim.Native.Nat.{ℕ, zero, suc, _+_, _*_, _-_, _≤_, _<_}
-use mathlib.Core.Bool.{Bool, true, false, _&&_, cond, true≢false}
-use mathlib.Core.List.{List, [], _∷_}
-use mathlib.Core.Logic.{_≢_, _⊎_, inl, inr}
-use mathlib.Core.Path.{_≡_, refl, sym, ap, subst, _∙_}
+use Prim.Native.Nat.{ℕ, zero, suc, _+_, _≤_}
+use mathlib.Core.Bool.{Bool, true, false, _&&_, true≢false}
+use mathlib.Core.List.{List}
+use mathlib.Core.Logic.{_⊎_, inl, inr}
+use mathlib.Core.Path.{_≡_, refl, sym, ap, _∙_}
 use native.Mathlib.Omega.{arith}
-use lib.Dec.{eqb, ltb}
 use lib.ListN.{length}
 use Rattle.settings.specs.Bools.{and-left}
 use Rattle.settings.specs.Settings.{quorum}
-use Rattle.settings.specs.declared.Settings.{Settings}
 use Rattle.quorum.specs.Marks.{mark}
 use Rattle.quorum.specs.MarkLaws.{mark-other}
 use Rattle.quorum.specs.TotalLaws.{count-all, count-le}
 use Rattle.records.specs.Layout.{turnsAt, sessionAt}
 use Rattle.records.specs.Words.{word, marked}
 use Rattle.records.specs.Fill.{blank, length-blank}
-use Rattle.records.specs.Records.{closed, commitCount, commitSet}
+use Rattle.records.specs.Records.{closed, commitSet}
 use Rattle.commits.specs.Commits.{commitHeld, sameSet, setHolders}
 use Rattle.acts.specs.Acts.{isDue}
 use Rattle.acts.specs.declared.Act.{Act}
 use Rattle.acts.specs.declared.Act.the-variants.{Idle, InForce, Commit, Send, Echo, Ready, Start, Relay, Aux, Move}
 use Rattle.session.specs.Session.{sessionOf, sessionWith, stored}
-use Rattle.session.specs.declared.Session.{Session}
 use Rattle.session.specs.declared.Stored.the-variants.{Held}
-use Rattle.delivery.specs.Frame.{MarkWord}
 use Rattle.turn.specs.Told.{ActTold}
 use Rattle.turn.specs.Due.{due}
 use Rattle.turn.specs.DueLaws.{due-told}
 use Rattle.turn.specs.Turn.{applied, admittedIn, admittedFor, admits, wordsFor, turnWords}
 use Rattle.turn.specs.Turn as turn-specs
-use Rattle.turn.specs.Frame.{Placed, told-placed, Kept, setting, held, beyond, length-applied, applied-idle, applied-other, applied-kept, applied-turns}
-use Rattle.turn_bound.specs.TurnBound.{Step, turn, after}
-use Rattle.turn_bound.specs.Sound.{Sound, sound-state}
-use Rattle.turn_bound.specs.Turning.{Turned, turn-sound}
-use Rattle.agreement.specs.Runs.{Message, COMMIT}
-use Rattle.agreement.specs.EngineSeen.{Numbered}
-use Rattle.agreement.specs.EngineKept.{count-back, held-back}
-use Rattle.costliest.specs.Exact.{turn-exact}
-use Rattle.costliest.specs.Tight.{set-mark}
+use Rattle.turn.specs.Frame.{Placed, told-placed, Kept, setting, length-applied, applied-idle, applied-other, applied-kept, applied-turns}
+use Rattle.turn_bound.specs.TurnBound.{Step, after}
+use Rattle.turn_bound.specs.Raising.{counted-mark}
+use Rattle.turn_bound.specs.Sound.{sound-state}
+use Rattle.turn_bound.specs.Turning.{turn-sound}
+use Rattle.held.specs.Held.{COMMIT}
+use Rattle.held.specs.Keeping.{held-back}
+use Rattle.held.specs.Staying.{Stays, stays-kept}
 use Rattle.costliest.specs.Calls.{each, turns}
-use Rattle.costliest.specs.Saying.{settings, Good, Keeping, ruled}
-use Rattle.costliest.specs.Hearing.{Heard, Prepared, heard-stable}
+use Rattle.costliest.specs.Saying.{settings, Good, ruled}
+use Rattle.costliest.specs.Hearing.{Prepared, heard-stable}
 
 -- ---- a turn of the session
 
@@ -66,27 +61,16 @@ module _ (n c : ℕ) (low : 1 ≤ n) (few : n ≤ 16) (s : List ℕ) (x : Good n
   same : (j : ℕ) → Kept j → word (applied s a) j ≡ word s j
   same j k = applied-kept s a placed j k
 
-  mark-kept : (k : ℕ) → MarkWord k → Kept k
-  mark-kept k (inl y) = held (omega arith) (omega arith)
-  mark-kept k (inr (inl y)) = beyond (omega arith)
-  mark-kept k (inr (inr y)) = beyond (omega arith)
-
-  pub turn-keeps : Keeping s (applied s a)
-  unfolding marked commitHeld
-  turn-keeps =
-      record {
-        marks = λ k w q e. ap (λ (y : ℕ). mark y q) (same k (mark-kept k w)) ∙ e;
-        commits = λ k lo hi e. rw (count-back s (applied s a) (x .sound .size) (length-applied s a) same k lo hi) e;
-      }
+  pub turn-stays : Stays s (applied s a)
+  turn-stays = stays-kept s (applied s a) (x .sound .size) (length-applied s a) same
 
   pub turn-good : closed (applied s a) ≡ false → Good n c (applied s a)
   turn-good unclosed =
       record {
         sound = rw turn-words at (turn-sound (settings n) (ruled n c low few) s (x .sound) (blank 140) .sound);
-        exact = rw turn-words at (turn-exact (settings n) (ruled n c low few) s (x .sound) (x .exact) (blank 140));
         session = same sessionAt (setting (omega arith)) ∙ x .session;
         unclosed = unclosed;
-        tame = λ k y num h. x .tame k y num (held-back s (applied s a) (x .sound .size) (length-applied s a) same k y (num .low) (num .high) h);
+        allowed = λ k y num h. x .allowed k y num (held-back s (applied s a) (x .sound .size) (length-applied s a) same k y (num .low) (num .high) h);
       }
 
   pub turn-acts : isDue a ≡ true → word (applied s a) turnsAt ≡ word s turnsAt + 1
@@ -101,15 +85,15 @@ module _ (n : ℕ) (two : 2 ≤ n) (low : 1 ≤ n) (few : n ≤ 16) (s : List �
       let p = h .sender in
       let all : setHolders s n p ≡ n = omega (arith, h .holds .enough, count-le (λ q. commitHeld s q && sameSet s p q) n) in
       let there : commitHeld s 2 ≡ true = and-left (commitHeld s 2) (sameSet s p 2) (count-all (λ q. commitHeld s q && sameSet s p q) n 2 all (omega arith) two) in
-      let one = x .tame 2 (COMMIT (commitSet s 2)) (record { low = omega arith; high = omega arith }) (record { there = there; same = refl }) in
+      let one = x .allowed 2 (COMMIT (commitSet s 2)) (record { low = omega arith; high = omega arith }) (record { there = there; same = refl }) in
       omega (arith, one .1)
 
   still-open : (a : Act) → ActTold (settings n) s a → closed (applied s a) ≡ false
   unfolding closed marked applied turn-specs.marked
   still-open Idle h = x .unclosed
   still-open InForce h = absurd (not-in-force h)
-  still-open (Commit k) h = ap (λ (w : ℕ). mark w 1) (set-mark s (x .sound .size) (settings n) (ruled n 1 low few) 7 3 (omega arith) (λ z. omega arith)) ∙ mark-other (word s 7) 3 1 (λ z. omega arith) ∙ x .unclosed
-  still-open (Send v) h = ap (λ (w : ℕ). mark w 1) (set-mark s (x .sound .size) (settings n) (ruled n 1 low few) 7 2 (omega arith) (λ z. omega arith)) ∙ mark-other (word s 7) 2 1 (λ z. omega arith) ∙ x .unclosed
+  still-open (Commit k) h = ap (λ (w : ℕ). mark w 1) (counted-mark s (x .sound .size) 7 3 (omega arith) (λ z. omega arith)) ∙ mark-other (word s 7) 3 1 (λ z. omega arith) ∙ x .unclosed
+  still-open (Send v) h = ap (λ (w : ℕ). mark w 1) (counted-mark s (x .sound .size) 7 2 (omega arith) (λ z. omega arith)) ∙ mark-other (word s 7) 2 1 (λ z. omega arith) ∙ x .unclosed
   still-open (Echo i v) h = ap (λ (w : ℕ). mark w 1) (applied-other s (Echo i v) 7 (λ z. omega arith) (λ z. omega arith)) ∙ x .unclosed
   still-open (Ready i v) h = ap (λ (w : ℕ). mark w 1) (applied-other s (Ready i v) 7 (λ z. omega arith) (λ z. omega arith)) ∙ x .unclosed
   still-open (Start i b) h = ap (λ (w : ℕ). mark w 1) (applied-other s (Start i b) 7 (λ z. omega arith) (λ z. omega arith, λ z. omega arith)) ∙ x .unclosed
@@ -129,7 +113,7 @@ module _ (n : ℕ) (two : 2 ≤ n) (low : 1 ≤ n) (few : n ≤ 16) (begin : Lis
   next-ready s y =
       record {
         good = turn-good n 1 low few s (y .good) (still-open n two low few s (y .good) (due (settings n) s) (told n 1 low few s (y .good)));
-        all = heard-stable n low few begin s _ (turn-keeps n 1 low few s (y .good)) (y .all);
+        all = heard-stable n low few begin s _ (turn-stays n 1 low few s (y .good)) (y .all);
       }
 
   next-turn : (m k : ℕ) (s : List ℕ) → Turning m k s → Turning m (suc k) (applied s (due (settings n) s))

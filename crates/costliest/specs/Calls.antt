@@ -1,19 +1,20 @@
--- The calls of the costliest session of n concentrators: settings ta = ts = 0, own number 1, session 7, input 5, coin words of 0.
--- The newest call stands first.
+-- The settings and calls of the costliest session of n concentrators (request N13). The newest call stands first.
 use Prim.Native.Nat.{ℕ, zero, suc, _+_, _*_, _-_}
+use mathlib.Core.Bool.{cond}
 use mathlib.Core.List.{List, [], _∷_}
+use lib.Dec.{eqb}
 use Rattle.records.specs.Fill.{blank}
 use Rattle.wire.specs.Message.{encode}
 use Rattle.wire.specs.declared.Message.{Message}
-use Rattle.wire.specs.declared.Message.the-variants.{Send, Ready, Est, Aux, Commit}
+use Rattle.wire.specs.declared.Message.the-variants.{Send, Echo, Ready, Est, Aux, Commit}
 use Rattle.turn_bound.specs.TurnBound.{Arguments, Step, delivery, turn}
 
--- n coin words
+-- n coin words of 0
 unfoldable pub coinWords : ℕ → List ℕ
 coinWords zero = []
 coinWords (suc n) = 0 ∷ coinWords n
 
--- the opening
+-- the opening: ta = ts = 0, own number 1
 unfoldable pub opens : ℕ → Arguments
 opens n = record { n = n; ta = 0; ts = 0; own = 1; session = 7; input = 5; coins = coinWords n }
 
@@ -22,7 +23,7 @@ unfoldable pub each : (ℕ → List Step → List Step) → ℕ → List Step �
 each f zero cs = cs
 each f (suc n) cs = f (suc n) (each f n cs)
 
--- the message m of concentrator p over its link
+-- the message m of concentrator p over its link; a COMMIT is of {7}
 unfoldable pub say : ℕ → Message → List Step → List Step
 say p m cs = delivery p (encode m p 7 (7 ∷ [])) ∷ cs
 
@@ -45,11 +46,10 @@ ests n = each (λ i. each (λ r cs. say 1 (Est i r 1) (say 1 (Est i r 0) cs)) 32
 unfoldable pub auxs : ℕ → List Step → List Step
 auxs n = each (λ i. each (λ r. each (λ p. say p (Aux i r 0)) n) 32) n
 
--- a COMMIT of {7}
 unfoldable pub commit : ℕ → List Step → List Step
 commit p = say p (Commit 1)
 
--- all but the last turn's messages
+-- what is held before the first turn
 unfoldable pub heard : ℕ → List Step
 heard n = commit 1 (auxs n (ests n (readies n (sends n []))))
 
@@ -60,3 +60,11 @@ acted n = turns (99 * n + 2) (heard n)
 -- the COMMITs of the others, and a last turn, which puts {7} in force
 unfoldable pub costly : ℕ → List Step
 costly n = turns 1 (each (λ p. commit (p + 1)) (n - 1) (acted n))
+
+-- one concentrator alone, whose turns send SEND, ECHO, READY and COMMIT and put a set in force, with a delivery between any two
+unfoldable pub five : List Step
+five = turns 1 (commit 1 (turns 1 (say 1 (Ready 1 5) (turns 1 (say 1 (Echo 1 5) (turns 1 (say 1 (Send 1 5) (turns 1 []))))))))
+
+-- the costliest session of n concentrators
+unfoldable pub costliestCalls : ℕ → List Step
+costliestCalls n = cond (eqb n 1) five (costly n)

@@ -1,19 +1,17 @@
 -- The costliest session: for n from 2 to 16 the calls `costly n` after the opening `opens n` bring exactly 99·n+3 turns.
-use Prim.Native.Nat.{ℕ, zero, suc, _+_, _*_, _-_, _≤_, _<_}
-use mathlib.Core.Bool.{Bool, true, false, _&&_, not, cond, true≢false}
+use Prim.Native.Nat.{ℕ, zero, suc, _+_, _*_, _-_, _≤_}
+use mathlib.Core.Bool.{true, false, _&&_, true≢false}
 use mathlib.Core.List.{List, [], _∷_}
 use mathlib.Core.Logic.{_≢_, _⊎_, inl, inr}
 use mathlib.Core.Path.{_≡_, refl, sym, ap, subst, _∙_}
 use native.Mathlib.Omega.{arith}
 use native.Mathlib.Decide.{ℕ-discrete}
-use lib.Dec.{eqb, leb}
 use lib.ListN.{length}
 use borrow.Author.Tests.{eq-eqb, ne-eqb, le-leb}
 use Rattle.settings.specs.Bools.{and-both}
 use Rattle.settings.specs.Laws.{rules-valid}
 use Rattle.settings.specs.Thresholds.{turn-bound-sum}
-use Rattle.settings.specs.Settings.{quorum, validSettings, namedTa}
-use Rattle.settings.specs.declared.Settings.{Settings}
+use Rattle.settings.specs.Settings.{quorum, namedTa}
 use Rattle.quorum.specs.Marks.{mark}
 use Rattle.quorum.specs.MarkLaws.{mark-zero}
 use Rattle.quorum.specs.TotalLaws.{all-count}
@@ -26,24 +24,21 @@ use Rattle.records.specs.Records.{closed, sendHeld, echoHeld, readyHeld, estHel
 use Rattle.commits.specs.Commits.{commitHeld, sameSet, setHolders, setLeads, setLeader}
 use Rattle.commits.specs.Sets.{listed, set-listed, set-length}
 use Rattle.acts.specs.Acts.{isDue, orAct}
-use Rattle.acts.specs.declared.Act.{Act}
 use Rattle.acts.specs.declared.Act.the-variants.{InForce}
 use Rattle.session.specs.Session.{numbered}
 use Rattle.opening.specs.Opening.{openAnswer, openWords, opened}
-use Rattle.opening.specs.Laws.{first-zero, first-session}
+use Rattle.opening.specs.Laws.{first-zero, first-session, first-flags}
 use Rattle.turn.specs.Due.{inForceRule, due}
 use Rattle.turn.specs.Turn.{applied, turnWords}
-use Rattle.turn_bound.specs.TurnBound.{Arguments, answer, openedBy, settingsBy, Step, delivery, turn, after, acting, TurnCount}
+use Rattle.turn_bound.specs.TurnBound.{answer, openedBy, Step, after, acting, TurnCount}
 use Rattle.turn_bound.specs.Opened.{opened-sound}
 use Rattle.turn_bound.specs.Sound.{sound-bound}
 use Rattle.turn_bound.specs.Turning.{turn-sound}
 use Rattle.turn_bound.specs.Count.{turn-count}
-use Rattle.agreement.specs.Runs.{Message, SEND, ECHO, READY, EST, AUX, COMMIT}
-use Rattle.agreement.specs.EngineSeen.{Numbered, holds}
+use Rattle.held.specs.Held.{Message, SEND, ECHO, READY, EST, AUX, COMMIT, Numbered, holds}
 use Rattle.costliest.specs.Calls.{coinWords, opens, each, say, turns, commit, heard, acted, costly}
-use Rattle.costliest.specs.Exact.{Exact, opening-exact, new-flags}
-use Rattle.costliest.specs.Saying.{settings, Allowed, Good, Keeping, ruled}
-use Rattle.costliest.specs.Hearing.{Brings, Bringing, Prepared, heard-ready, commits-bringing}
+use Rattle.costliest.specs.Saying.{settings, Allowed, Good, ruled}
+use Rattle.costliest.specs.Hearing.{Brings, Prepared, heard-ready, commits-bringing}
 use Rattle.costliest.specs.Idle.{idle-count}
 use Rattle.costliest.specs.Acting.{turn-words, turn-acts, Turning, turns-turning}
 
@@ -106,10 +101,9 @@ module _ (n : ℕ) (two : 2 ≤ n) (low : 1 ≤ n) (few : n ≤ 16) (s : List �
   first-good =
       record {
         sound = opened-sound s (coinWords n) n 0 0 1 7 5 accepted;
-        exact = opening-exact s (opens n) accepted;
         session = rw first-is (first-session n 0 0 1 7 5 (coinWords n));
-        unclosed = rw first-is (ap (λ (w : ℕ). mark w 1) (new-flags n 0 0 1 7 5 (coinWords n) few) ∙ mark-zero 1);
-        tame = λ k y num h. absurd (none-held k y h);
+        unclosed = rw first-is (ap (λ (w : ℕ). mark w 1) (first-flags n 0 0 1 7 5 (coinWords n)) ∙ mark-zero 1);
+        allowed = λ k y num h. absurd (none-held k y h);
       }
 
   -- ---- all turns but the last
@@ -128,7 +122,7 @@ module _ (n : ℕ) (two : 2 ≤ n) (low : 1 ≤ n) (few : n ≤ 16) (s : List �
     where
       of : (word (after first (acted n)) turnsAt ≡ word (after first (heard n)) turnsAt + (99 * n + 2)) ⊎ (isDue (due (settings n) (after first (acted n))) ≡ false) → 99 * n + 2 ≤ word (after first (acted n)) turnsAt
       of (inl e) = omega arith
-      of (inr e) = idle-count n two few low first (after first (acted n)) (turning .ready .good) (turning .ready .all) e (turning .ready .good .exact)
+      of (inr e) = idle-count n two few low first (after first (acted n)) (turning .ready .good) (turning .ready .all) e
 
   -- ---- the last
 
@@ -148,7 +142,7 @@ module _ (n : ℕ) (two : 2 ≤ n) (low : 1 ≤ n) (few : n ≤ 16) (s : List �
       wide k (COMMIT X) num h a = (a .0, omega (arith, a .1))
 
       of : Good n 1 (after first (acted n)) → Good n n (after first (acted n))
-      of x = record { sound = x .sound; exact = x .exact; session = x .session; unclosed = x .unclosed; tame = λ k y num h. wide k y num h (x .tame k y num h) }
+      of x = record { sound = x .sound; session = x .session; unclosed = x .unclosed; allowed = λ k y num h. wide k y num h (x .allowed k y num h) }
 
   brings : Brings n low few first n (λ t. (p : ℕ) → 1 ≤ p → p ≤ n - 1 → commitHeld t (p + 1) ≡ true) (each (λ p. commit (p + 1)) (n - 1)) (acted n)
   brings = commits-bringing n low few first (acted n) widened
@@ -185,7 +179,7 @@ module _ (n : ℕ) (two : 2 ≤ n) (low : 1 ≤ n) (few : n ≤ 16) (s : List �
   seven-of : (p : ℕ) → 1 ≤ p → p ≤ n → Single (after first last) (good .sound .size) p
   seven-of p lo hi =
       single (after first last) (good .sound .size) p (omega arith)
-      (good .tame p (COMMIT (commitSet (after first last) p)) (record { low = lo; high = omega arith }) (record { there = all-committed p lo hi; same = refl }) .0)
+      (good .allowed p (COMMIT (commitSet (after first last) p)) (record { low = lo; high = omega arith }) (record { there = all-committed p lo hi; same = refl }) .0)
 
   leads : setLeads (after first last) n n 1 ≡ true
   unfolding setLeads setHolders

@@ -3,19 +3,13 @@ use Prim.Native.Nat.{ℕ}
 use mathlib.Core.List.{List, [], _∷_}
 use mathlib.Core.Path.{_≡_, refl, sym, ap, _∙_}
 use lib.ListN.{length}
-use lib.Dec.{eqb}
-use borrow.Author.Tests.{eq-eqb}
 use Rattle.records.specs.Layout.{turnsAt}
 use Rattle.records.specs.Words.{word}
-use Rattle.opening.specs.Opening.{openAnswer, openWords, opened}
-use Rattle.wire.specs.declared.Message.the-variants.{Send, Echo, Ready, Commit}
-use Rattle.turn_bound.specs.TurnBound.{answer, openedBy, Step, after, acting, TurnCount}
+use Rattle.opening.specs.Opening.{openWords, opened}
+use Rattle.turn_bound.specs.TurnBound.{answer, openedBy, after, acting, TurnCount}
 use Rattle.turn_bound.specs.Count.{turn-count}
-use Rattle.agreement_example.specs.Computing.{calls}
-use Rattle.costliest.specs.Calls.{coinWords, opens, each, say, turns}
-
-unfoldable pub five : List Step
-five = turns 1 (say 1 (Commit 1) (turns 1 (say 1 (Ready 1 5) (turns 1 (say 1 (Echo 1 5) (turns 1 (say 1 (Send 1 5) (turns 1 []))))))))
+use Rattle.turn_bound.specs.Computing.{calls}
+use Rattle.costliest.specs.Calls.{coinWords, opens, each, say, turns, commit, five}
 
 pub record TakesFive (s : List ℕ) : Type 0 where
   pub is-opened : answer s (opens 1) ≡ 0
@@ -25,7 +19,7 @@ unfoldable pub Five : Type 0
 Five = (s : List ℕ) → length s ≡ 2048 → TakesFive s
 
 computed : word (after (openWords 1 0 0 1 7 5 (0 ∷ [])) five) turnsAt ≡ 5
-unfolding calls five turns each say after
+unfolding calls five turns each commit say after
 computed = refl
 
 accepted : (s : List ℕ) → length s ≡ 2048 → answer s (opens 1) ≡ 0

@@ -1,39 +1,39 @@
 -- After the calls `heard n` every message of the session is held.
-use Prim.Native.Nat.{ℕ, zero, suc, _+_, _*_, _-_, _≤_, _<_}
-use mathlib.Core.Bool.{Bool, true, false}
+use Prim.Native.Nat.{ℕ, zero, suc, _+_, _-_, _≤_}
+use mathlib.Core.Bool.{true}
 use mathlib.Core.List.{List, [], _∷_}
 use mathlib.Core.Logic.{inl, inr}
-use mathlib.Core.Path.{_≡_, refl, sym, ap, subst, _∙_}
+use mathlib.Core.Path.{_≡_, refl, subst}
 use native.Mathlib.Omega.{arith}
 use native.Mathlib.Decide.{decLe}
-use lib.ListN.{length}
 use Rattle.records.specs.Layout.{voteAt, estMark, auxMark}
-use Rattle.records.specs.Words.{word, marked}
+use Rattle.records.specs.Words.{marked}
 use Rattle.commits.specs.Commits.{commitHeld}
 use Rattle.wire.specs.Bytes.{risesFrom, rises}
-use Rattle.wire.specs.Message.{valuesOf, encode}
+use Rattle.wire.specs.Message.{valuesOf}
 use Rattle.wire.specs.declared.Message as wire-message
 use Rattle.wire.specs.declared.Message.the-variants as wire
 use Rattle.wire_laws.specs.Proper.{Proper}
-use Rattle.delivery.specs.Delivery.{delivered}
 use Rattle.delivery.specs.Frame.{MarkWord, markWordOf, markOf}
-use Rattle.turn_bound.specs.TurnBound.{Step, delivery, after}
-use Rattle.agreement.specs.EngineReading.{meaning}
+use Rattle.delivery.specs.Held.{NotCommit}
+use Rattle.turn_bound.specs.TurnBound.{Step, after}
+use Rattle.held.specs.Held.{meaning}
+use Rattle.held.specs.Staying.{Stays, stays-same, stays-then}
 use Rattle.costliest.specs.Calls.{each, say, sends, readies, ests, auxs, commit, heard}
-use Rattle.costliest.specs.Saying.{settings, Allowed, Good, Keeping, keeping-same, keeping-then, NotCommit, Said, say-mark, say-commit, commit-proper}
+use Rattle.costliest.specs.Saying.{Allowed, Good, Said, say-mark, say-commit, commit-proper}
 
 module _ (n : ℕ) (low : 1 ≤ n) (few : n ≤ 16) (first : List ℕ) where
   -- the calls of f keep all that is held, and leave F
   pub record Brings (c : ℕ) (F : List ℕ → Type 0) (f : List Step → List Step) (cs : List Step) : Type 0 where
     pub good : Good n c (after first (f cs))
-    pub keeps : Keeping (after first cs) (after first (f cs))
+    pub keeps : Stays (after first cs) (after first (f cs))
     pub fact : F (after first (f cs))
 
   abbrev pub Bringing : ℕ → (List ℕ → Type 0) → (List Step → List Step) → Type 0
   Bringing c F f = (cs : List Step) → Good n c (after first cs) → Brings c F f cs
 
   abbrev Stable : (List ℕ → Type 0) → Type 0
-  Stable F = (s t : List ℕ) → Keeping s t → F s → F t
+  Stable F = (s t : List ℕ) → Stays s t → F s → F t
 
   -- F holds for each of 1 to k
   abbrev Each : (ℕ → List ℕ → Type 0) → ℕ → List ℕ → Type 0
@@ -41,14 +41,14 @@ module _ (n : ℕ) (low : 1 ≤ n) (few : n ≤ 16) (first : List ℕ) where
 
   each-bringing : (c : ℕ) (F : ℕ → List ℕ → Type 0) (f : ℕ → List Step → List Step) (k : ℕ) → ((i : ℕ) → 1 ≤ i → i ≤ k → Stable (F i)) → ((i : ℕ) → 1 ≤ i → i ≤ k → Bringing c (F i) (f i)) → Bringing c (Each F k) (each f k)
   unfolding each
-  each-bringing c F f zero st h cs x = record { good = x; keeps = keeping-same (after first cs); fact = λ i a b. absurd (omega arith) }
+  each-bringing c F f zero st h cs x = record { good = x; keeps = stays-same (after first cs); fact = λ i a b. absurd (omega arith) }
   each-bringing c F f (suc k) st h cs x = of (each-bringing c F f k (λ i a b. st i a (omega arith)) (λ i a b. h i a (omega arith)) cs x)
     where
       of : Brings c (Each F k) (each f k) cs → Brings c (Each F (suc k)) (λ ds. f (suc k) (each f k ds)) cs
       of y = last (h (suc k) (omega arith) (omega arith) (each f k cs) (y .good))
         where
           last : Brings c (F (suc k)) (f (suc k)) (each f k cs) → Brings c (Each F (suc k)) (λ ds. f (suc k) (each f k ds)) cs
-          last z = record { good = z .good; keeps = keeping-then (y .keeps) (z .keeps); fact = λ i a b. at i a b (decLe i k) }
+          last z = record { good = z .good; keeps = stays-then (y .keeps) (z .keeps); fact = λ i a b. at i a b (decLe i k) }
             where
               at : (i : ℕ) → 1 ≤ i → i ≤ suc k → Dec (i ≤ k) → F i (after first (f (suc k) (each f k cs)))
               at i a b (yes l) = st i a b _ _ (z .keeps) (y .fact i a l)
@@ -65,7 +65,7 @@ module _ (n : ℕ) (low : 1 ≤ n) (few : n ≤ 16) (first : List ℕ) where
       of y = last (q (f cs) (y .good))
         where
           last : Brings c G g (f cs) → Brings c (λ s. F s × G s) (λ ds. g (f ds)) cs
-          last z = record { good = z .good; keeps = keeping-then (y .keeps) (z .keeps); fact = (st _ _ (z .keeps) (y .fact), z .fact) }
+          last z = record { good = z .good; keeps = stays-then (y .keeps) (z .keeps); fact = (st _ _ (z .keeps) (y .fact), z .fact) }
 
   -- ---- one message
 
@@ -171,7 +171,7 @@ module _ (n : ℕ) (low : 1 ≤ n) (few : n ≤ 16) (first : List ℕ) where
     pub voted : AuxsHeld s
     pub committed : commitHeld s 1 ≡ true
 
-  pub heard-stable : (s t : List ℕ) → Keeping s t → Heard s → Heard t
+  pub heard-stable : (s t : List ℕ) → Stays s t → Heard s → Heard t
   heard-stable s t k y =
       record {
         sent = each-stable (λ i. Marked 140 i) n (λ i lo hi. marked-stable 140 i (inr (inl refl))) s t k (y .sent);
@@ -204,9 +204,9 @@ module _ (n : ℕ) (low : 1 ≤ n) (few : n ≤ 16) (first : List ℕ) where
                       e : Brings 1 (λ s. commitHeld s 1 ≡ true) (commit 1) (auxs n (ests n (readies n (sends n [])))) → Prepared (after first (heard n))
                       e y5 =
                           let k4 = y5 .keeps in
-                          let k3 = keeping-then (y4 .keeps) k4 in
-                          let k2 = keeping-then (y3 .keeps) k3 in
-                          let k1 = keeping-then (y2 .keeps) k2 in
+                          let k3 = stays-then (y4 .keeps) k4 in
+                          let k2 = stays-then (y3 .keeps) k3 in
+                          let k1 = stays-then (y2 .keeps) k2 in
                           record {
                             good = y5 .good;
                             all =

@@ -1,29 +1,28 @@
 -- Where all messages are held and nothing is due, everything was sent but the set in force.
-use Prim.Native.Nat.{ℕ, zero, suc, _+_, _*_, _-_, _≤_, _<_, min}
-use mathlib.Core.Bool.{Bool, true, false, _&&_, _||_, cond, true≢false, false≢true}
+use Prim.Native.Nat.{ℕ, zero, suc, _+_, _*_, _-_, _≤_, min}
+use mathlib.Core.Bool.{true, false, _&&_, cond, true≢false}
 use mathlib.Core.List.{List, [], _∷_}
-use mathlib.Core.Logic.{_≢_, _⊎_, inl, inr}
+use mathlib.Core.Logic.{_≢_}
 use mathlib.Core.Path.{_≡_, refl, sym, ap, subst, _∙_}
 use native.Mathlib.Omega.{arith}
 use native.Mathlib.Decide.{decLe, ℕ-discrete}
-use lib.Dec.{eqb, leb}
+use lib.Dec.{eqb}
 use lib.ListN.{length}
 use borrow.Author.Tests.{eq-eqb, ne-eqb, eqb-true, le-leb, ltb-true}
-use Rattle.settings.specs.Bools.{and-left, and-right, and-both}
-use Rattle.settings.specs.Laws.{Ruled}
+use Rattle.settings.specs.Bools.{and-both}
 use Rattle.settings.specs.Settings.{quorum, copy, voteQuorum, relay, accept}
 use Rattle.settings.specs.declared.Settings.{Settings}
 use Rattle.quorum.specs.Marks.{mark}
-use Rattle.quorum.specs.Total.{share, total, count, everyone}
+use Rattle.quorum.specs.Total.{total, count, everyone}
 use Rattle.quorum.specs.TotalLaws.{member-total, all-count, count-all, count-le}
-use Rattle.quorum.specs.Lowest.{lowest, Lowest, lowest-is, lowest-none}
-use Rattle.quorum.specs.Every.{every, each-every}
-use Rattle.records.specs.Layout.{roundAt, estSentAt, auxSentAt, voteAt, estMark, auxMark}
+use Rattle.quorum.specs.Lowest.{lowest-none}
+use Rattle.quorum.specs.Every.{each-every}
+use Rattle.records.specs.Layout.{roundAt, estSentAt, auxSentAt, voteAt, estMark}
 use Rattle.records.specs.Words.{word, marked}
 use Rattle.records.specs.Records.{sendSent, commitSent, echoSent, readySent, sendHeld, sendValue, readyHeld, readyValue, echoHeld, echoValue, estHeld, auxHeld, round, estSent, auxSent, commitCount, commitValue, commitSet, decidedZero, decidedOne}
-use Rattle.acts.specs.Acts.{isDue, orAct, actAt, firstAct}
-use Rattle.acts.specs.declared.Act.{Act}
-use Rattle.acts.specs.declared.Act.the-variants.{Idle, InForce, Commit, Send, Echo, Ready, Start, Relay, Aux, Move}
+use Rattle.acts.specs.Acts.{isDue, orAct}
+use Rattle.acts.specs.Choices.{or-idle, first-idle, passed-test}
+use Rattle.acts.specs.declared.Act.the-variants.{Idle, Commit, Send, Echo, Ready, Start, Relay, Aux}
 use Rattle.broadcasts.specs.Leading.{present, holders, leading, orOutput}
 use Rattle.broadcasts.specs.Broadcasts.{output, echoAct, readyDue, readyOf, readyAct, echoRule, readyRule}
 use Rattle.broadcasts.specs.Laws.{leading-some, output-unique}
@@ -31,7 +30,7 @@ use Rattle.broadcasts.specs.declared.Output.{Output}
 use Rattle.broadcasts.specs.declared.Output.the-variants.{Value, Nothing}
 use Rattle.commits.specs.Commits.{commitHeld, sameSet, setHolders, setLeads, setLeader, setOf, leadingSet}
 use Rattle.commits.specs.Sets.{set-length}
-use Rattle.votes.specs.Votes.{estCount, accepted, votesDecidedOne, startAct, relayValue, relayRound, relayAct, running, auxValue, auxAct, carries, carriers, view, moveValue, moveAct, roundAct, voteAct}
+use Rattle.votes.specs.Votes.{estCount, accepted, votesDecidedOne, startAct, relayValue, relayRound, relayAct, running, auxValue, auxAct, carries, carriers, moveValue, moveAct, roundAct, voteAct}
 use Rattle.exits.specs.Exits.{Exit, withOutput, hasValue, everyBroadcast, noExit}
 use Rattle.exits.specs.Stated.{singleExit, outputsExit}
 use Rattle.exits.specs.Ways.{First, Way, first, second, third, none, way}
@@ -40,38 +39,9 @@ use Rattle.turn.specs.Due.{inForceRule, orSet, commitDue, commitOf, commitRule,
 use Rattle.turn.specs.Told.{SetHeld}
 use Rattle.turn.specs.DueLaws.{leader-holds}
 use Rattle.turn_bound.specs.Potential.{instancePart, potential}
-use Rattle.turn_bound.specs.Sound.{Sound}
-use Rattle.agreement.specs.Runs.{READY}
-use Rattle.agreement.specs.EngineSeen.{Numbered}
-use Rattle.costliest.specs.Exact.{Exact}
+use Rattle.held.specs.Held.{READY}
 use Rattle.costliest.specs.Saying.{settings, Good, ruled}
 use Rattle.costliest.specs.Hearing.{Heard}
-
--- ---- nothing due of several
-
-or-idle : (a b : Act) → isDue (orAct a b) ≡ false → (isDue a ≡ false) × (isDue b ≡ false)
-unfolding orAct
-or-idle a b e = go (isDue a) refl e
-  where
-    go : (t : Bool) → isDue a ≡ t → isDue (cond t a b) ≡ false → (isDue a ≡ false) × (isDue b ≡ false)
-    go true f g = absurd (true≢false (sym f ∙ g))
-    go false f g = (f, g)
-
-first-idle : (f : ℕ → Act) (n : ℕ) → isDue (firstAct f n) ≡ false → (i : ℕ) → 1 ≤ i → i ≤ n → isDue (f i) ≡ false
-unfolding firstAct actAt
-first-idle f n e = at (ℕ-discrete (lowest (λ i. isDue (f i)) n) 0)
-  where
-    at : Dec (lowest (λ i. isDue (f i)) n ≡ 0) → (i : ℕ) → 1 ≤ i → i ≤ n → isDue (f i) ≡ false
-    at (yes z) = lowest-none (λ i. isDue (f i)) n z
-    at (no ne) = absurd (true≢false (sym (lowest-is (λ i. isDue (f i)) n (lowest (λ i. isDue (f i)) n) refl ne .holds) ∙ due-false))
-      where
-        due-false : isDue (f (lowest (λ i. isDue (f i)) n)) ≡ false
-        due-false = rw (ne-eqb (lowest (λ i. isDue (f i)) n) 0 ne) at e
-
--- a test before an act that is due
-passed-test : (t : Bool) (a : Act) → isDue a ≡ true → isDue (cond t Idle a) ≡ false → t ≡ true
-passed-test true a d e = refl
-passed-test false a d e = absurd (true≢false (sym d ∙ e))
 
 module _ (n : ℕ) (two : 2 ≤ n) (few : n ≤ 16) (low : 1 ≤ n) (begin : List ℕ) (s : List ℕ) (x : Good n 1 s) (h : Heard n low few begin s) where
   abbrev g : Settings
@@ -93,7 +63,7 @@ module _ (n : ℕ) (two : 2 ≤ n) (few : n ≤ 16) (low : 1 ≤ n) (begin : Lis
   value-is : (i p : ℕ) → 1 ≤ i → i ≤ n → 1 ≤ p → p ≤ n → readyValue s i p ≡ i
   unfolding readyHeld
   value-is i p lo hi l k =
-      x .tame p (READY i (readyValue s i p)) (record { low = l; high = omega arith })
+      x .allowed p (READY i (readyValue s i p)) (record { low = l; high = omega arith })
       (record { instance = record { low = lo; high = omega arith }; there = h .readied i lo hi p l k; same = refl })
 
   holders-all : (i : ℕ) → 1 ≤ i → i ≤ n → holders (readyHeld s i) (readyValue s i) i n ≡ n
@@ -277,7 +247,7 @@ module _ (n : ℕ) (two : 2 ≤ n) (few : n ≤ 16) (low : 1 ≤ n) (begin : Lis
       let f = or-idle (readyRule g s) _ (d .1) in
       record { sent = send-done (c .0); committed = commit-done (b .0); echoed = echo-done (d .0); readied = ready-done (f .0); votes = votes-done (f .1) }
 
-  module _ (d : Done) (exact : Exact g s) where
+  module _ (d : Done) where
     est-marks : (i : ℕ) → VoteDone i → count (mark (word s (estSentAt i))) 64 ≡ 64
     unfolding estSent marked
     est-marks i v = all-count (mark (word s (estSentAt i))) 64 (λ q a b. at q a b (decLe q 32))
@@ -288,7 +258,7 @@ module _ (n : ℕ) (two : 2 ≤ n) (few : n ≤ 16) (low : 1 ≤ n) (begin : Lis
 
     aux-marks : (i : ℕ) → 1 ≤ i → i ≤ n → VoteDone i → count (mark (word s (auxSentAt i))) 32 ≡ 32
     unfolding auxSent marked
-    aux-marks i lo hi v = all-count (mark (word s (auxSentAt i))) 32 (λ r a b. exact .passed i r lo hi a (omega (arith, v .out)))
+    aux-marks i lo hi v = all-count (mark (word s (auxSentAt i))) 32 (λ r a b. x .sound .orderly .passed i r lo hi a (omega (arith, v .out)))
 
     part-full : (i : ℕ) → 1 ≤ i → i ≤ n → instancePart s i ≡ 99
     unfolding instancePart echoSent readySent marked
@@ -311,5 +281,5 @@ module _ (n : ℕ) (two : 2 ≤ n) (few : n ≤ 16) (low : 1 ≤ n) (begin : Lis
     nearly-full = omega (arith, flags-two, parts-full n (omega arith))
 
   -- "99·n+3" but one
-  pub idle-count : isDue (due g s) ≡ false → Exact g s → 99 * n + 2 ≤ word s 6
-  idle-count e exact = omega (arith, exact .tight, nearly-full (idle-done e) exact)
+  pub idle-count : isDue (due g s) ≡ false → 99 * n + 2 ≤ word s 6
+  idle-count e = omega (arith, x .sound .turns, nearly-full (idle-done e))

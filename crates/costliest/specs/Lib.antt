@@ -1,7 +1,4 @@
 pub mod Calls
-pub mod Sums
-pub mod Tight
-pub mod Exact
 pub mod One
 pub mod Saying
 pub mod Hearing

@@ -1,25 +1,25 @@
 -- One concentrator takes at most five turns: its vote never starts, since a broadcast with output is Exit 1.
-use Prim.Native.Nat.{ℕ, _+_, _≤_, _<_}
-use mathlib.Core.Bool.{Bool, true, false, _&&_, cond, true≢false}
+use Prim.Native.Nat.{ℕ, _≤_}
+use mathlib.Core.Bool.{Bool, true, false, cond}
 use mathlib.Core.List.{List, [], _∷_}
 use mathlib.Core.Logic.{_≢_, inl, inr}
-use mathlib.Core.Path.{_≡_, refl, sym, ap, subst, _∙_}
+use mathlib.Core.Path.{_≡_, refl, ap, _∙_}
 use native.Mathlib.Omega.{arith}
-use lib.Dec.{eqb, leb}
+use lib.Dec.{eqb}
 use lib.ListN.{length}
 use borrow.Author.Tests.{eqb-true, eq-eqb}
 use Rattle.settings.specs.Laws.{Ruled}
-use Rattle.settings.specs.Settings.{quorum, voteQuorum, namedTa}
+use Rattle.settings.specs.Settings.{quorum, voteQuorum}
 use Rattle.settings.specs.declared.Settings.{Settings}
 use Rattle.quorum.specs.Marks.{mark}
 use Rattle.quorum.specs.MarkLaws.{mark-zero}
-use Rattle.quorum.specs.Total.{share, total, count, everyone}
+use Rattle.quorum.specs.Total.{share, total, count}
 use Rattle.quorum.specs.TotalLaws.{total-none, count-le}
 use Rattle.quorum.specs.Lowest.{lowest}
 use Rattle.records.specs.Layout.{turnsAt, roundAt, estSentAt, auxSentAt, decidedOneAt}
 use Rattle.records.specs.Words.{word, marked}
 use Rattle.records.specs.Records.{round, commitSent, sendSent, decidedZero, decidedOne}
-use Rattle.acts.specs.Acts.{isDue, orAct, actAt, firstAct}
+use Rattle.acts.specs.Acts.{orAct, actAt, firstAct}
 use Rattle.acts.specs.Choices.{all-cond, all-or}
 use Rattle.acts.specs.declared.Act.{Act}
 use Rattle.acts.specs.declared.Act.the-variants.{Idle, InForce, Commit, Send, Echo, Ready, Start, Relay, Aux, Move}
@@ -29,17 +29,16 @@ use Rattle.broadcasts.specs.Due.{echo-rule-holds, ready-rule-holds}
 use Rattle.broadcasts.specs.declared.Output.{Output}
 use Rattle.broadcasts.specs.declared.Output.the-variants.{Value, Nothing}
 use Rattle.votes.specs.Votes.{votesDecidedOne, voteAct, startAct, relayAct, roundAct, running}
-use Rattle.exits.specs.Exits.{exitOf, exit1At, naming, withOutput, hasValue, valueIn}
+use Rattle.exits.specs.Exits.{exitOf, exit1At, naming, withOutput}
 use Rattle.exits.specs.Now.{exitNow}
 use Rattle.commits.specs.Commits.{setLeader}
-use Rattle.opening.specs.Opening.{openAnswer, openWords, opened}
+use Rattle.opening.specs.Opening.{opened}
 use Rattle.opening.specs.Laws.{first-zero}
-use Rattle.session.specs.declared.Session.{Session}
 use Rattle.turn.specs.Due.{inForceRule, commitDue, commitOf, commitRule, sendRule, votesRule, due}
 use Rattle.turn.specs.Turn.{applied, turnWords}
 use Rattle.turn.specs.Frame.{applied-other}
 use Rattle.turn.specs.Admitting.{admitted-settings}
-use Rattle.turn.specs.Laws.{Taken, Way, refused, taken, way}
+use Rattle.turn.specs.Laws.{Way, refused, taken, way}
 use Rattle.delivery.specs.Delivery.{delivered}
 use Rattle.turn_bound.specs.TurnBound.{Arguments, answer, openedBy, settingsBy, Step, opening, delivery, turn, report, after, acting, current}
 use Rattle.turn_bound.specs.Sums.{share-few}
@@ -47,7 +46,7 @@ use Rattle.turn_bound.specs.Potential.{instancePart, potential}
 use Rattle.turn_bound.specs.Sound.{Sound}
 use Rattle.turn_bound.specs.Delivering.{Delivered, delivery-sound}
 use Rattle.turn_bound.specs.Opened.{opened-ruled}
-use Rattle.turn_bound.specs.Count.{Going, going, opening-going, refused-words}
+use Rattle.turn_bound.specs.Count.{going, opening-going, refused-words}
 
 -- the vote has not begun
 record Quiet (s : List ℕ) : Type 0 where
@@ -189,8 +188,8 @@ module _ (g : Settings) (ruled : Ruled g) (s : List ℕ) (h : Sound g s) (one : 
 
   quiet-few : word s turnsAt ≤ 5
   quiet-few =
-      let least : word s turnsAt ≤ potential 1 s = rw one at (h .turns) in
-      omega (arith, least, quiet-potential s q)
+      let is : word s turnsAt ≡ potential 1 s = rw one at (h .turns) in
+      omega (arith, is, quiet-potential s q)
 
 opening-quiet : (w : List ℕ) (o : Arguments) → answer w o ≡ 0 → Quiet (openedBy w o)
 unfolding opened

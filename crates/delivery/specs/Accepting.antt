@@ -61,6 +61,15 @@ accepting s link b m e = of (stored s) refl e
     of NoState t f = absurd (let z : _≡_ {A = ℕ} 0 1 = cc in omega arith)
     of (Held x) t f = open-session x (held-read s x t) (closed s) refl f
 
+-- a message that is taken is recorded where its place is free, and changes nothing where it is not
+pub delivered-taken : (s : List ℕ) (link : ℕ) (b : List ℕ) (m : Message) → stored s ≡ Held (sessionOf s) → closed s ≡ false → readMessage (sessionOf s .settings .n) (sessionOf s .number) link b ≡ parsed.Taken m → delivered s link b ≡ cond (placeHeld s link m) s (recorded s link m (drop 12 b))
+unfolding delivered verdict verdictFor verdictIn judged wordsAfter
+delivered-taken s link b m is unclosed read = rw (is, unclosed, read) (go (placeHeld s link m))
+  where
+    go : (h : Bool) → wordsAfter (cond h (Refused 11) (Accepted m)) s link b ≡ cond h s (recorded s link m (drop 12 b))
+    go true = refl
+    go false = refl
+
 module _ (s : List ℕ) (link : ℕ) (b : List ℕ) (v : Verdict) (e : v ≡ verdict s link b) where
   module _ (m : Message) (t : v ≡ Accepted m) where
     told : Passed (sessionOf s .settings .n) (sessionOf s .number) link b m

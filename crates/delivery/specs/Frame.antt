@@ -1,16 +1,16 @@
 -- What recording a message leaves: nothing is held after it that was not, but that message.
-use Prim.Native.Nat.{ℕ, zero, suc, _+_, _*_, _≤_, _<_}
-use mathlib.Core.Bool.{Bool, true, false}
+use Prim.Native.Nat.{ℕ, _+_, _≤_, _<_}
+use mathlib.Core.Bool.{true}
 use mathlib.Core.List.{List}
 use mathlib.Core.Logic.{_⊎_, inl, inr, _≢_}
-use mathlib.Core.Path.{_≡_, refl, sym, ap, subst, _∙_}
+use mathlib.Core.Path.{_≡_, sym, ap, _∙_}
 use native.Mathlib.Omega.{arith}
 use native.Mathlib.Decide.{ℕ-discrete}
 use lib.ListN.{length}
-use Rattle.quorum.specs.Marks.{mark, withMark}
+use Rattle.quorum.specs.Marks.{mark}
 use Rattle.quorum.specs.MarkLaws.{mark-came}
 use Rattle.records.specs.Layout.{sendMarksAt, sendValueAt, echoMarksAt, echoValueAt, readyMarksAt, readyValueAt, voteAt, estMark, auxMark, commitCountAt, commitRowAt}
-use Rattle.records.specs.Words.{word, put, marked, setMark, length-put, length-setMark, word-put-same, word-put-other, word-setMark-same, word-setMark-other}
+use Rattle.records.specs.Words.{word, put, marked, setMark, length-put, length-setMark, word-put-other, word-setMark-same, word-setMark-other}
 use Rattle.records.specs.Fill.{storeOf, length-storeOf, store-other}
 use Rattle.wire.specs.Bytes.{valueAt}
 use Rattle.wire.specs.declared.Message.{Message}
@@ -47,6 +47,21 @@ markOf p (Est i r b) = estMark b p
 markOf p (Aux i r b) = auxMark b p
 markOf p (Commit k) = 0
 
+-- a word of values or of the count of a COMMIT, which is no word of marks
+abbrev pub ValueWord : ℕ → Type 0
+ValueWord a = ((72 ≤ a) × (a ≤ 87)) ⊎ (((120 ≤ a) × (a ≤ 135)) ⊎ ((256 ≤ a) × (a ≤ 1023)))
+
+pub no-marks : (a k : ℕ) → ValueWord a → MarkWord k → k ≢ a
+no-marks a k (inl x) (inl y) e = omega arith
+no-marks a k (inl x) (inr (inl y)) e = omega arith
+no-marks a k (inl x) (inr (inr y)) e = omega arith
+no-marks a k (inr (inl x)) (inl y) e = omega arith
+no-marks a k (inr (inl x)) (inr (inl y)) e = omega arith
+no-marks a k (inr (inl x)) (inr (inr y)) e = omega arith
+no-marks a k (inr (inr x)) (inl y) e = omega arith
+no-marks a k (inr (inr x)) (inr (inl y)) e = omega arith
+no-marks a k (inr (inr x)) (inr (inr y)) e = omega arith
+
 -- a mark that is set after one was set was set before, or is that one
 mark-set : (s : List ℕ) (w q a j : ℕ) → w < length s → marked (setMark s w q) a j ≡ true → (marked s a j ≡ true) ⊎ ((a ≡ w) × (j ≡ q))
 unfolding marked
@@ -61,7 +76,7 @@ mark-set s w q a j l e = go (ℕ-discrete a w)
         came (inr x) = inr (y, x)
 
 -- a store at a word that is not one of marks
-mark-put : (s : List ℕ) (k v a j : ℕ) → a ≢ k → marked (put s k v) a j ≡ marked s a j
+pub mark-put : (s : List ℕ) (k v a j : ℕ) → a ≢ k → marked (put s k v) a j ≡ marked s a j
 unfolding marked
 mark-put s k v a j ne = ap (λ (x : ℕ). mark x j) (word-put-other s k v a ne)
 
@@ -75,35 +90,24 @@ value-then-mark s k v w q a j l ne e = of (mark-set (put s k v) w q a j (rw leng
 -- no new mark but that of the message
 pub mark-recorded : (s v : List ℕ) (p : ℕ) (m : Message) (a j : ℕ) → length s ≡ 2048 → InLayout p m → MarkWord a → marked (recorded s p m v) a j ≡ true → (marked s a j ≡ true) ⊎ ((a ≡ markWordOf p m) × (j ≡ markOf p m))
 unfolding recorded marked
-mark-recorded s v p (Send i x) a j l h t e = value-then-mark s (sendValueAt i) x sendMarksAt i a j (omega arith) (λ z. apart z t) e
-  where
-    apart : a ≡ sendValueAt i → MarkWord a → ⊥
-    apart z (inl y) = omega arith
-    apart z (inr (inl y)) = omega arith
-    apart z (inr (inr y)) = omega arith
-mark-recorded s v p (Echo i x) a j l h t e = value-then-mark s (echoValueAt i p) x (echoMarksAt i) p a j (omega arith) (λ z. apart z t) e
-  where
-    apart : a ≡ echoValueAt i p → MarkWord a → ⊥
-    apart z (inl y) = omega arith
-    apart z (inr (inl y)) = omega arith
-    apart z (inr (inr y)) = omega arith
-mark-recorded s v p (Ready i x) a j l h t e = value-then-mark s (readyValueAt i p) x (readyMarksAt i) p a j (omega arith) (λ z. apart z t) e
-  where
-    apart : a ≡ readyValueAt i p → MarkWord a → ⊥
-    apart z (inl y) = omega arith
-    apart z (inr (inl y)) = omega arith
-    apart z (inr (inr y)) = omega arith
+mark-recorded s v p (Send i x) a j l h t e =
+    value-then-mark s (sendValueAt i) x sendMarksAt i a j (omega arith) (no-marks (sendValueAt i) a (inl (omega arith, omega arith)) t) e
+mark-recorded s v p (Echo i x) a j l h t e =
+    value-then-mark s (echoValueAt i p) x (echoMarksAt i) p a j (omega arith) (no-marks (echoValueAt i p) a (inr (inr (omega arith, omega arith))) t) e
+mark-recorded s v p (Ready i x) a j l h t e =
+    value-then-mark s (readyValueAt i p) x (readyMarksAt i) p a j (omega arith) (no-marks (readyValueAt i p) a (inr (inr (omega arith, omega arith))) t) e
 mark-recorded s v p (Est i r b) a j l h t e = mark-set s (voteAt i r) (estMark b p) a j (omega arith) e
 mark-recorded s v p (Aux i r b) a j l h t e = mark-set s (voteAt i r) (auxMark b p) a j (omega arith) e
 mark-recorded s v p (Commit k) a j l h t e = inl (kept ∙ e)
   where
-    outside : MarkWord a → (a ≢ commitCountAt p) × ((c : ℕ) → 1 ≤ c → c ≤ k → a ≢ commitRowAt p + c)
-    outside (inl y) = ((λ z. omega arith), λ c lo hi z. omega arith)
-    outside (inr (inl y)) = ((λ z. omega arith), λ c lo hi z. omega arith)
-    outside (inr (inr y)) = ((λ z. omega arith), λ c lo hi z. omega arith)
+    count : a ≢ commitCountAt p
+    count = no-marks (commitCountAt p) a (inr (inl (omega arith, omega arith))) t
+
+    value : (c : ℕ) → 1 ≤ c → c ≤ k → a ≢ commitRowAt p + c
+    value c lo hi = no-marks (commitRowAt p + c) a (inr (inr (omega arith, omega arith))) t
 
     kept : marked s a j ≡ marked (put (storeOf (valueAt v) (commitRowAt p) s k) (commitCountAt p) k) a j
-    kept = ap (λ (x : ℕ). mark x j) (sym (word-put-other _ (commitCountAt p) k a (outside t .0) ∙ store-other (valueAt v) (commitRowAt p) s k a (outside t .1)))
+    kept = ap (λ (x : ℕ). mark x j) (sym (word-put-other _ (commitCountAt p) k a count ∙ store-other (valueAt v) (commitRowAt p) s k a value))
 
 -- the words that recording a message of sender p may change
 abbrev pub Changed : ℕ → Message → ℕ → Type 0

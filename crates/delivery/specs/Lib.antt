@@ -5,3 +5,4 @@ pub mod Frame
 pub mod Answers
 pub mod Values
 pub mod Kept
+pub mod Held

@@ -10,7 +10,7 @@ use lib.ListN.{length}
 use Rattle.settings.specs.Settings.{namedTa}
 use Rattle.records.specs.Bounds.{Fit, fit-put, fit-storeOf, fit-blank}
 use Rattle.records.specs.Fill.{blank, length-blank, word-blank, length-storeOf, store-other, store-same}
-use Rattle.records.specs.Layout.{stateWords, nAt, taAt, tsAt, ownAt, sessionAt, inputAt, turnsAt, coinAt}
+use Rattle.records.specs.Layout.{stateWords, nAt, taAt, tsAt, ownAt, sessionAt, inputAt, turnsAt, flagsAt, coinAt}
 use Rattle.records.specs.Words.{word, length-put, word-put-same, word-put-other, word-past-end}
 use Rattle.opening.specs.Opening.{coinWord, withSettings, withCoins, openWords}
 
@@ -134,6 +134,12 @@ module _ (n ta ts own session input : ℕ) (coins : List ℕ) where
       first-base turnsAt (λ j lo hi z. omega arith)
       ∙ settled-other (blank stateWords) n (namedTa ta) ts own session input turnsAt (omega arith)
       ∙ word-blank stateWords turnsAt (omega arith)
+
+  pub first-flags : word first flagsAt ≡ 0
+  first-flags =
+      first-base flagsAt (λ j lo hi z. omega arith)
+      ∙ settled-other (blank stateWords) n (namedTa ta) ts own session input flagsAt (omega arith)
+      ∙ word-blank stateWords flagsAt (omega arith)
 
   module _ (few : n ≤ 16) where
     pub first-coin : (i : ℕ) → 1 ≤ i → i ≤ n → word first (coinAt i) ≡ coinWord coins i

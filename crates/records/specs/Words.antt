@@ -1,12 +1,15 @@
 -- The state as a list of words: one word read, one word put, one mark set.
 use Prim.Native.Nat.{ℕ, _≤_, _<_}
-use mathlib.Core.Bool.{Bool}
+use mathlib.Core.Bool.{Bool, true, false≢true}
 use mathlib.Core.List.{List}
 use mathlib.Core.Logic.{_≢_}
 use mathlib.Core.Path.{_≡_, refl, sym, ap, _∙_}
+use native.Mathlib.Omega.{arith}
+use native.Mathlib.Decide.{decLe, ℕ-discrete}
 use lib.ListN.{length, getD, set, length-set, List·getD-eq-default}
 use lib.Seq.{set-out, getD-set-same, getD-set-other}
 use Rattle.quorum.specs.Marks.{mark, withMark}
+use Rattle.quorum.specs.MarkLaws.{mark-same, mark-kept, mark-zero}
 
 -- the word at k, and 0 past the end
 unfoldable pub word : List ℕ → ℕ → ℕ
@@ -69,3 +72,20 @@ unfolding put
 put-past-end s k v h = sym (set-out s k v h)
 
 pub ruleset words = (word-within, word-past-end, put-within, put-past-end)
+
+-- a mark that is set is there, and all that were there stay
+
+pub marked-new : (s : List ℕ) (k p : ℕ) → k < length s → 1 ≤ p → p ≤ 64 → marked (setMark s k p) k p ≡ true
+unfolding marked
+marked-new s k p l lo hi = ap (λ (w : ℕ). mark w p) (word-setMark-same s k p l) ∙ mark-same (word s k) p lo hi
+
+pub marked-kept : (s : List ℕ) (j q k p : ℕ) → marked s k p ≡ true → marked (setMark s j q) k p ≡ true
+unfolding marked
+marked-kept s j q k p h = at (ℕ-discrete k j) (decLe (length s) k)
+  where
+    at : Dec (k ≡ j) → Dec (length s ≤ k) → mark (word (setMark s j q) k) p ≡ true
+    at (no ne) d = ap (λ (w : ℕ). mark w p) (word-setMark-other s j q k ne) ∙ h
+    at (yes e) (yes past) = absurd (false≢true (sym (mark-zero p) ∙ ap (λ (w : ℕ). mark w p) (word-past-end s k past) ∙ h))
+    at (yes e) (no within) =
+        let is : word (setMark s j q) k ≡ withMark (word s k) q = rw (← e) (word-setMark-same s k q (omega arith)) in
+        ap (λ (w : ℕ). mark w p) is ∙ mark-kept (word s k) q p h

@@ -1,18 +1,17 @@
 -- Marks never vanish, and what was sent is marked so.
 use Prim.Native.Nat.{ℕ, _+_, _≤_, _<_}
-use mathlib.Core.Bool.{Bool, true, false, cond, false≢true}
+use mathlib.Core.Bool.{Bool, true, false, cond}
 use mathlib.Core.List.{List}
 use mathlib.Core.Logic.{_≢_}
-use mathlib.Core.Path.{_≡_, sym, ap, _∙_}
+use mathlib.Core.Path.{_≡_, ap, _∙_}
 use native.Mathlib.Omega.{arith}
-use native.Mathlib.Decide.{decLe, ℕ-discrete}
 use lib.Dec.{eqb, ltb}
 use lib.ListN.{length}
 use Rattle.settings.specs.Settings.{roundLimit}
-use Rattle.quorum.specs.Marks.{mark, withMark}
-use Rattle.quorum.specs.MarkLaws.{mark-same, mark-kept, mark-zero}
+use Rattle.quorum.specs.Marks.{mark}
+use Rattle.quorum.specs.MarkLaws.{mark-same}
 use Rattle.records.specs.Layout.{flagsAt, closedMark, sendSentMark, commitSentMark, echoSentAt, readySentAt, decidedZeroAt, decidedOneAt, roundAt, estSentAt, estSentMark, auxSentAt}
-use Rattle.records.specs.Words.{word, put, marked, setMark, word-put-other, word-setMark-same, word-setMark-other, word-past-end}
+use Rattle.records.specs.Words.{word, put, marked, setMark, word-put-other, word-setMark-same, marked-kept}
 use Rattle.records.specs.Records.{closed, sendSent, commitSent, echoSent, readySent, auxSent, estSent, coin}
 use Rattle.acts.specs.Acts.{isDue}
 use Rattle.acts.specs.declared.Act.{Act}
@@ -31,14 +30,8 @@ keeps-same : (k : ℕ) (s t : List ℕ) → word t k ≡ word s k → Keeps k s 
 keeps-same k s t e p h = ap (λ (w : ℕ). mark w p) e ∙ h
 
 keeps-mark : (k : ℕ) (s : List ℕ) (j q : ℕ) → Keeps k s (setMark s j q)
-keeps-mark k s j q = at (ℕ-discrete k j) (decLe (length s) k)
-  where
-    at : Dec (k ≡ j) → Dec (length s ≤ k) → Keeps k s (setMark s j q)
-    at (no ne) d p h = keeps-same k s (setMark s j q) (word-setMark-other s j q k ne) p h
-    at (yes e) (yes past) p h = absurd (false≢true (sym (mark-zero p) ∙ ap (λ (w : ℕ). mark w p) (word-past-end s k past) ∙ h))
-    at (yes e) (no within) p h =
-        let is : word (setMark s j q) k ≡ withMark (word s k) q = rw (← e) (word-setMark-same s k q (omega arith)) in
-        ap (λ (w : ℕ). mark w p) is ∙ mark-kept (word s k) q p h
+unfolding marked
+keeps-mark k s j q p h = marked-kept s j q k p h
 
 -- a word of marks: neither the count nor a round
 pub record MarkWord (k : ℕ) : Type 0 where

@@ -2,7 +2,7 @@
 use Prim.Native.Nat.{ℕ, _≤_, _<_}
 use mathlib.Core.List.{List}
 use mathlib.Core.Logic.{_≢_, inl, inr}
-use mathlib.Core.Path.{_≡_, refl, ap, _∙_}
+use mathlib.Core.Path.{_≡_, refl, sym, ap, _∙_}
 use native.Mathlib.Omega.{arith}
 use native.Mathlib.Decide.{ℕ-discrete}
 use lib.ListN.{length, drop}
@@ -72,22 +72,23 @@ module _ (n : ℕ) (few : n ≤ 16) (s v : List ℕ) (size : length s ≡ 2048) 
 
 -- words that differ only where messages are recorded
 module _ (g : Settings) (ruled : Ruled g) (s t : List ℕ) (same : (a : ℕ) → Untouched a → word t a ≡ word s a) where
-  low-same : (a : ℕ) → a < 72 → word t a ≡ word s a
-  low-same a l = same a (inl (omega arith))
-
   same-keeps : (k : ℕ) → word t k ≡ word s k → Keeps k s t
   same-keeps k e p h = ap (λ (w : ℕ). mark w p) e ∙ h
 
-  pub same-grows : Grows (g .n) s t
+  same-grows : Grows (g .n) s t
   same-grows =
       record {
-        flags = same-keeps 7 (low-same 7 (omega arith));
+        flags = same-keeps 7 (same 7 (inl (omega arith)));
         echoes = same-keeps 136 (same 136 (inr (omega arith, omega arith)));
         readies = same-keeps 137 (same 137 (inr (omega arith, omega arith)));
-        ests = λ i low high. same-keeps (estSentAt i) (low-same (estSentAt i) (omega (arith, ruled .few)));
-        auxs = λ i low high. same-keeps (auxSentAt i) (low-same (auxSentAt i) (omega (arith, ruled .few)));
-        moved-out = λ i low high e. low-same (roundAt i) (omega (arith, ruled .few)) ∙ e;
+        ests = λ i low high. same-keeps (estSentAt i) (same (estSentAt i) (inl (omega (arith, ruled .few))));
+        auxs = λ i low high. same-keeps (auxSentAt i) (same (auxSentAt i) (inl (omega (arith, ruled .few))));
+        moved-out = λ i low high e. same (roundAt i) (inl (omega (arith, ruled .few))) ∙ e;
       }
+
+module _ (g : Settings) (ruled : Ruled g) (s t : List ℕ) (same : (a : ℕ) → Untouched a → word t a ≡ word s a) where
+  low-same : (a : ℕ) → a < 72 → word t a ≡ word s a
+  low-same a l = same a (inl (omega arith))
 
   same-settings : settingsOf t ≡ settingsOf s
   unfolding settingsOf
@@ -103,8 +104,16 @@ module _ (g : Settings) (ruled : Ruled g) (s t : List ℕ) (same : (a : ℕ) →
         counts = c;
         orderly =
             orderly-kept (g .n) (ruled .few) s t (h .orderly)
-            (still (record { rounds = λ j lo hi. low-same (roundAt j) (omega arith); ests = λ j lo hi. low-same (estSentAt j) (omega arith) }));
-        turns = omega (arith, low-same turnsAt (omega arith), h .turns, potential-grows (g .n) s t same-grows);
+            (still (record { rounds = λ j lo hi. low-same (roundAt j) (omega arith); ests = λ j lo hi. low-same (estSentAt j) (omega arith) }))
+            (same-grows g ruled s t same .auxs);
+        turns =
+            omega (
+              arith,
+              low-same turnsAt (omega arith),
+              h .turns,
+              potential-grows (g .n) s t (same-grows g ruled s t same),
+              potential-grows (g .n) t s (same-grows g ruled t s (λ a u. sym (same a u))),
+            );
       }
 
 -- what a delivery leaves

@@ -1,8 +1,10 @@
 pub mod TurnBound
+pub mod Computing
 pub mod Sums
 pub mod Potential
 pub mod Rounds
 pub mod Raising
+pub mod ByOne
 pub mod Sound
 pub mod Delivering
 pub mod Turning

@@ -1,8 +1,8 @@
 -- The words after an accepted opening are sound.
-use Prim.Native.Nat.{ℕ, _≤_}
+use Prim.Native.Nat.{ℕ, zero, suc, _≤_}
 use mathlib.Core.Bool.{true, false≢true}
 use mathlib.Core.List.{List}
-use mathlib.Core.Path.{_≡_, sym, ap, _∙_}
+use mathlib.Core.Path.{_≡_, refl, sym, ap, _∙_}
 use native.Mathlib.Omega.{arith}
 use lib.ListN.{length}
 use lib.Dec.{leb}
@@ -13,12 +13,15 @@ use Rattle.settings.specs.Laws.{Ruled, valid-rules}
 use Rattle.settings.specs.declared.Settings.{Settings}
 use Rattle.quorum.specs.Marks.{mark}
 use Rattle.quorum.specs.MarkLaws.{mark-zero}
-use Rattle.records.specs.Layout.{turnsAt, roundAt, estSentAt, estSentMark, commitCountAt}
+use Rattle.quorum.specs.Total.{total, count, everyone}
+use Rattle.quorum.specs.TotalLaws.{total-none}
+use Rattle.records.specs.Layout.{turnsAt, flagsAt, roundAt, estSentAt, estSentMark, auxSentAt, commitCountAt}
 use Rattle.records.specs.Words.{word}
 use Rattle.session.specs.Session.{numbered, settingsOf}
 use Rattle.opening.specs.Opening.{openAnswer, openWords, opened}
 use Rattle.opening.specs.Cases.{Accepted, accepted}
-use Rattle.opening.specs.Laws.{length-first, first-n, first-ta, first-ts, first-own, first-turns, first-zero}
+use Rattle.opening.specs.Laws.{length-first, first-n, first-ta, first-ts, first-own, first-turns, first-flags, first-zero}
+use Rattle.turn_bound.specs.Potential.{instancePart, potential}
 use Rattle.turn_bound.specs.Sound.{Sound}
 
 -- the words of a new state
@@ -36,6 +39,30 @@ module _ (n ta ts own session input : ℕ) (coins : List ℕ) (few : n ≤ 16) w
   no-est : (j p : ℕ) → 1 ≤ j → j ≤ n → mark (word new (estSentAt j)) p ≡ true → ⊥
   no-est j p lo hi e = false≢true (sym (mark-zero p) ∙ ap (λ (x : ℕ). mark x p) (sym (new-zero (estSentAt j) (omega arith))) ∙ e)
 
+  no-marks : (k m : ℕ) → word new k ≡ 0 → count (mark (word new k)) m ≡ 0
+  no-marks k m e = total-none (λ p. 1) (mark (word new k)) m (λ p a b. ap (λ (w : ℕ). mark w p) e ∙ mark-zero p)
+
+  part-zero : (i : ℕ) → 1 ≤ i → instancePart new i ≡ 0
+  unfolding instancePart
+  part-zero i lo =
+      rw (
+        new-zero 136 (omega arith),
+        new-zero 137 (omega arith),
+        mark-zero i,
+        no-marks (estSentAt i) 64 (new-zero (estSentAt i) (omega arith)),
+        no-marks (auxSentAt i) 32 (new-zero (auxSentAt i) (omega arith)),
+        new-zero (roundAt i) (omega arith),
+      )
+
+  parts-zero : (k : ℕ) → total (instancePart new) everyone k ≡ 0
+  unfolding total
+  parts-zero zero = refl
+  parts-zero (suc k) = omega (arith, part-zero (suc k) (omega arith), parts-zero k)
+
+  new-potential : potential n new ≡ 0
+  unfolding potential
+  new-potential = omega (arith, no-marks flagsAt 3 (first-flags n ta ts own session input coins), parts-zero n)
+
   new-sound : 1 ≤ own → own ≤ n → Sound (record { n = n; ta = namedTa ta; ts = ts }) new
   new-sound low high =
       record {
@@ -48,8 +75,9 @@ module _ (n ta ts own session input : ℕ) (coins : List ℕ) (few : n ≤ 16) w
             record {
               rounds = λ j lo hi. omega (arith, new-zero (roundAt j) (omega arith));
               reached = λ j r b lo hi rl rh bb e. absurd (no-est j (estSentMark r b) lo hi e);
+              passed = λ j r lo hi l e. absurd (omega (arith, new-zero (roundAt j) (omega arith)));
             };
-        turns = omega (arith, first-turns n ta ts own session input coins);
+        turns = first-turns n ta ts own session input coins ∙ sym new-potential;
       }
 
 module _ (s coins : List ℕ) (n ta ts own session input : ℕ) (e : openAnswer (length s) n ta ts own (length coins) ≡ 0) where

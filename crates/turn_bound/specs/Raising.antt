@@ -2,6 +2,7 @@
 use Prim.Native.Nat.{ℕ, _+_, _≤_, _<_}
 use mathlib.Core.Bool.{Bool, true, false, false≢true}
 use mathlib.Core.List.{List}
+use mathlib.Core.Logic.{_≢_}
 use mathlib.Core.Path.{_≡_, ap, _∙_}
 use native.Mathlib.Omega.{arith}
 use native.Mathlib.Decide.{decLt}
@@ -9,9 +10,9 @@ use lib.ListN.{length}
 use borrow.Author.Tests.{lt-ltb, le-ltb}
 use Rattle.settings.specs.Laws.{Ruled}
 use Rattle.settings.specs.declared.Settings.{Settings}
-use Rattle.quorum.specs.Marks.{withMark}
+use Rattle.quorum.specs.Marks.{mark, withMark}
 use Rattle.records.specs.Layout.{roundAt, estSentAt, estSentMark, auxSentAt}
-use Rattle.records.specs.Words.{word, put, marked, length-put, word-put-same, word-put-other, word-setMark-same, word-setMark-other}
+use Rattle.records.specs.Words.{word, put, marked, setMark, length-put, word-put-same, word-put-other, word-setMark-same, word-setMark-other}
 use Rattle.records.specs.Records.{closed, sendSent, commitSent, echoSent, readySent, estSent, auxSent, round, coin}
 use Rattle.acts.specs.Acts.{isDue}
 use Rattle.acts.specs.declared.Act.{Act}
@@ -65,12 +66,13 @@ module _ (s u : List ℕ) (size : length u ≡ 2048) (same : Still s u) (i r b :
   unfolding entered
   leaves l = rw (lt-ltb 32 (r + 1) (omega arith)) (est-put ∙ same .ests i low few)
 
-  entered-entry : Dec (r < 32) → word s (roundAt i) ≡ r → r ≤ 32 → b ≤ 1 → Entry i r b s t
-  entered-entry d e h c =
+  entered-entry : Dec (r < 32) → word s (roundAt i) ≡ r → (1 ≤ r → mark (word s (auxSentAt i)) r ≡ true) → r ≤ 32 → b ≤ 1 → Entry i r b s t
+  entered-entry d e v h c =
       record {
         high = h;
         bit = c;
         before = e;
+        voted = v;
         enters = enters d;
         rounds = λ j lo hi ne. word-entered-other u i (r + 1) b (roundAt j) (λ z. ne (omega arith)) (λ z. omega arith) ∙ same .rounds j lo hi;
         ests = λ j lo hi ne. word-entered-other u i (r + 1) b (estSentAt j) (λ z. omega arith) (λ z. ne (omega arith)) ∙ same .ests j lo hi;
@@ -100,28 +102,32 @@ module _ (s : List ℕ) (size : length s ≡ 2048) where
         ests = λ j lo hi. applied-other s a (estSentAt j) (λ e. omega arith) (h j lo hi .1);
       }
 
+  -- a mark that is set in a turn that counts
+  pub counted-mark : (k p : ℕ) → k < 2048 → k ≢ 6 → word (setMark (counted s) k p) k ≡ withMark (word s k) p
+  counted-mark k p l ne =
+      word-setMark-same (counted s) k p (omega (arith, size, length-counted s))
+      ∙ ap (λ (w : ℕ). withMark w p) (word-counted-other s k ne)
+
   pub relay-marks : (i r b : ℕ) → i ≤ 16 → word (applied s (Relay i r b)) (estSentAt i) ≡ withMark (word s (estSentAt i)) (estSentMark r b)
   unfolding applied turn.marked
-  relay-marks i r b high =
-      word-setMark-same (counted s) (estSentAt i) (estSentMark r b) (omega (arith, length-counted s))
-      ∙ ap (λ (w : ℕ). withMark w (estSentMark r b)) (word-counted-other s (estSentAt i) (λ e. omega arith))
+  relay-marks i r b high = counted-mark (estSentAt i) (estSentMark r b) (omega arith) (λ e. omega arith)
 
   module _ (g : Settings) (ruled : Ruled g) where
     pub start-entry : (i b : ℕ) → ActTold g s (Start i b) → Entry i 0 b s (applied s (Start i b))
     unfolding applied turn.marked round
     start-entry i b h =
         let before : word s (roundAt i) ≡ 0 = omega (arith, h .1 .before) in
-        entered-entry s (counted s) (length-counted s ∙ size) counted-still i 0 b (h .0 .low) (omega (arith, h .0 .high, ruled .few)) (yes (omega arith)) before (omega arith) (h .1 .bit)
+        entered-entry s (counted s) (length-counted s ∙ size) counted-still i 0 b (h .0 .low) (omega (arith, h .0 .high, ruled .few)) (yes (omega arith)) before (λ l. absurd (omega arith)) (omega arith) (h .1 .bit)
 
     abbrev pub moveBit : ℕ → ℕ → View → ℕ
     moveBit i r v = estimate (coin (counted s) i r) v
 
     pub move-entry : (i r : ℕ) (v : View) → ActTold g s (Move i r v) → Dec (r < 32) → Entry i r (moveBit i r v) s (applied s (Move i r v))
-    unfolding applied turn.marked moved round
+    unfolding applied turn.marked moved round auxSent marked
     move-entry i r v h d =
         let before : word s (roundAt i) ≡ r = omega (arith, h .1 .current, h .1 .high) in
         entered-entry s (moveDecided (counted s) i r v) (length-decided (counted s) i r v ∙ length-counted s ∙ size) (decided-still i r v)
-        i r (moveBit i r v) (h .0 .low) (omega (arith, h .0 .high, ruled .few)) d before (h .1 .high) (shown-bit g s i r (coin (counted s) i r) v (h .1 .shown))
+        i r (moveBit i r v) (h .0 .low) (omega (arith, h .0 .high, ruled .few)) d before (λ l. h .1 .sent) (h .1 .high) (shown-bit g s i r (coin (counted s) i r) v (h .1 .shown))
 
     -- the rounds and the ESTs after an act
     pub act-change : (a : Act) → ActTold g s a → Change s (applied s a)
@@ -185,7 +191,7 @@ module _ (s : List ℕ) (size : length s ≡ 2048) where
       est-word : (j : ℕ) → 1 ≤ j → MarkWord (estSentAt j)
       est-word j low = record { not-turns = λ e. omega arith; not-round = λ i lo hi e. omega arith }
 
-      pub aux-word : (j : ℕ) → 1 ≤ j → MarkWord (auxSentAt j)
+      aux-word : (j : ℕ) → 1 ≤ j → MarkWord (auxSentAt j)
       aux-word j low = record { not-turns = λ e. omega arith; not-round = λ i lo hi e. omega arith }
 
       act-grows : (a : Act) → ActTold g s a → Grows (g .n) s (applied s a)
@@ -207,4 +213,4 @@ module _ (s : List ℕ) (size : length s ≡ 2048) where
       act-raises a d h = potential-rises (g .n) s (applied s a) (act-grows a h) (act-gain a d h)
 
       pub act-orderly : (a : Act) → ActTold g s a → Orderly (g .n) (applied s a)
-      act-orderly a h = orderly-kept (g .n) (ruled .few) s (applied s a) o (act-change a h)
+      act-orderly a h = orderly-kept (g .n) (ruled .few) s (applied s a) o (act-change a h) (act-grows a h .auxs)

@@ -1,4 +1,4 @@
--- The rounds of the votes and the ESTs sent: how a step may change them, and what every such change keeps.
+-- The rounds of the votes, the ESTs and AUXs sent: how a step may change them, and what every such change keeps.
 use Prim.Native.Nat.{ℕ, _+_, _≤_, _<_}
 use mathlib.Core.Bool.{Bool, true, false}
 use mathlib.Core.List.{List}
@@ -8,8 +8,9 @@ use native.Mathlib.Omega.{arith}
 use native.Mathlib.Decide.{decLt, ℕ-discrete}
 use Rattle.quorum.specs.Marks.{mark, withMark}
 use Rattle.quorum.specs.MarkLaws.{mark-same, mark-came}
-use Rattle.records.specs.Layout.{roundAt, estSentAt, estSentMark}
+use Rattle.records.specs.Layout.{roundAt, estSentAt, estSentMark, auxSentAt}
 use Rattle.records.specs.Words.{word}
+use Rattle.turn.specs.Marks.{Keeps}
 use Rattle.turn_bound.specs.Potential.{PartGain, est, moves-out}
 
 -- no round and no EST changes
@@ -27,11 +28,12 @@ pub record Relayed (i r b : ℕ) (s t : List ℕ) : Type 0 where
   pub ests : (j : ℕ) → 1 ≤ j → j ≤ 16 → j ≢ i → word t (estSentAt j) ≡ word s (estSentAt j)
   pub marks : word t (estSentAt i) ≡ withMark (word s (estSentAt i)) (estSentMark r b)
 
--- vote i enters the round after r with EST b; the round after 32 has no EST
+-- vote i enters the round after r with EST b, its AUX of round r sent; the round after 32 has no EST
 pub record Entry (i r b : ℕ) (s t : List ℕ) : Type 0 where
   pub high : r ≤ 32
   pub bit : b ≤ 1
   pub before : word s (roundAt i) ≡ r
+  pub voted : 1 ≤ r → mark (word s (auxSentAt i)) r ≡ true
   pub enters : word t (roundAt i) ≡ r + 1
   pub rounds : (j : ℕ) → 1 ≤ j → j ≤ 16 → j ≢ i → word t (roundAt j) ≡ word s (roundAt j)
   pub ests : (j : ℕ) → 1 ≤ j → j ≤ 16 → j ≢ i → word t (estSentAt j) ≡ word s (estSentAt j)
@@ -43,10 +45,11 @@ pub data Change (s t : List ℕ) : Type 0 where
   relayed : (i r b : ℕ) → Relayed i r b s t → Change s t
   entry : (i r b : ℕ) → Entry i r b s t → Change s t
 
--- of the votes 1 to n: no round is above 33, and no EST is marked as sent in a round above the current one
+-- of the votes 1 to n: no round is above 33, no EST is marked as sent in a round above the current one, and an AUX in every round that was left
 pub record Orderly (n : ℕ) (s : List ℕ) : Type 0 where
   pub rounds : (j : ℕ) → 1 ≤ j → j ≤ n → word s (roundAt j) ≤ 33
   pub reached : (j r b : ℕ) → 1 ≤ j → j ≤ n → 1 ≤ r → r ≤ 32 → b ≤ 1 → mark (word s (estSentAt j)) (estSentMark r b) ≡ true → r ≤ word s (roundAt j)
+  pub passed : (j r : ℕ) → 1 ≤ j → j ≤ n → 1 ≤ r → r < word s (roundAt j) → mark (word s (auxSentAt j)) r ≡ true
 
 -- a mark of a word that did not change
 mark-before : (v w p : ℕ) → w ≡ v → mark w p ≡ true → mark v p ≡ true
@@ -67,14 +70,33 @@ module _ (n : ℕ) (few : n ≤ 16) (s t : List ℕ) (o : Orderly n s) where
       let k : r ≤ word s (roundAt j) = o .reached j r b low high rl rh bb (mark-before (word s (estSentAt j)) (word t (estSentAt j)) (estSentMark r b) f h) in
       omega arith
 
-  pub orderly-kept : Change s t → Orderly n t
-  orderly-kept (still x) =
+  -- of each round that is left in t the AUX was sent in s
+  left : Change s t → (j r : ℕ) → 1 ≤ j → j ≤ n → 1 ≤ r → r < word t (roundAt j) → mark (word s (auxSentAt j)) r ≡ true
+  left (still x) j r low high l e = o .passed j r low high l (omega (arith, x .rounds j low (omega arith)))
+  left (relayed i q b x) j r low high l e = o .passed j r low high l (omega (arith, x .rounds j low (omega arith)))
+  left (entry i q b x) j r low high l e = at (ℕ-discrete j i) (ℕ-discrete r q)
+    where
+      at : Dec (j ≡ i) → Dec (r ≡ q) → mark (word s (auxSentAt j)) r ≡ true
+      at (no ne) d = o .passed j r low high l (omega (arith, x .rounds j low (omega arith) ne))
+      at (yes z) (yes y) = rw (z, y) (x .voted (omega arith))
+      at (yes z) (no ne) =
+          let before : word s (roundAt j) ≡ q = rw z (x .before) in
+          let enters : word t (roundAt j) ≡ q + 1 = rw z (x .enters) in
+          o .passed j r low high l (omega arith)
+
+  passed-kept : Change s t → ((j : ℕ) → 1 ≤ j → j ≤ n → Keeps (auxSentAt j) s t) → (j r : ℕ) → 1 ≤ j → j ≤ n → 1 ≤ r → r < word t (roundAt j) → mark (word t (auxSentAt j)) r ≡ true
+  passed-kept c auxs j r low high l e = auxs j low high r (left c j r low high l e)
+
+  pub orderly-kept : Change s t → ((j : ℕ) → 1 ≤ j → j ≤ n → Keeps (auxSentAt j) s t) → Orderly n t
+  orderly-kept (still x) auxs =
       record {
+        passed = passed-kept (still x) auxs;
         rounds = λ j low high. omega (arith, x .rounds j low (omega arith), o .rounds j low high);
         reached = λ j r b low high. same-reached j low high (x .rounds j low (omega arith)) (x .ests j low (omega arith)) r b;
       }
-  orderly-kept (relayed i r b x) =
+  orderly-kept (relayed i r b x) auxs =
       record {
+        passed = passed-kept (relayed i r b x) auxs;
         rounds = λ j low high. omega (arith, x .rounds j low (omega arith), o .rounds j low high);
         reached = λ j q c low high ql qh cb h. at j q c low high ql qh cb h (ℕ-discrete j i);
       }
@@ -92,8 +114,9 @@ module _ (n : ℕ) (few : n ≤ 16) (s t : List ℕ) (o : Orderly n s) where
           of : (mark (word s (estSentAt j)) (estSentMark q c) ≡ true) ⊎ (q ≡ r) → q ≤ word t (roundAt j)
           of (inl m) = omega (arith, here, o .reached j q c low high ql qh cb m)
           of (inr m) = omega (arith, here, current)
-  orderly-kept (entry i r b x) =
+  orderly-kept (entry i r b x) auxs =
       record {
+        passed = passed-kept (entry i r b x) auxs;
         rounds = λ j low high. round j low high (ℕ-discrete j i);
         reached = λ j q c low high ql qh cb h. at j q c low high ql qh cb h (ℕ-discrete j i) (decLt r 32);
       }

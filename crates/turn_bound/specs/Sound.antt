@@ -23,7 +23,7 @@ pub record Sound (g : Settings) (s : List ℕ) : Type 0 where
   pub own-high : word s ownAt ≤ g .n
   pub counts : (p : ℕ) → 1 ≤ p → p ≤ g .n → word s (commitCountAt p) ≤ g .n
   pub orderly : Orderly (g .n) s
-  pub turns : word s turnsAt ≤ potential (g .n) s
+  pub turns : word s turnsAt ≡ potential (g .n) s
 
 module _ (g : Settings) (ruled : Ruled g) (s : List ℕ) (h : Sound g s) where
   same-n : word s nAt ≡ g .n

@@ -28,6 +28,7 @@ use Rattle.turn.specs.Laws.{Taken, Way, refused, taken, way}
 use Rattle.turn.specs.declared.Outcome.the-variants as outcome
 use Rattle.turn_bound.specs.TurnBound.{acts}
 use Rattle.turn_bound.specs.Raising.{act-raises, act-orderly}
+use Rattle.turn_bound.specs.ByOne.{act-by-one}
 use Rattle.turn_bound.specs.Sound.{Sound}
 
 -- an outcome acts where an act was due
@@ -77,7 +78,7 @@ module _ (g : Settings) (ruled : Ruled g) (s : List ℕ) (h : Sound g s) where
           own-high = omega (arith, kept ownAt (omega arith), h .own-high);
           counts = λ p low high. omega (arith, applied-kept s a placed (commitCountAt p) (held (omega arith) (omega (arith, ruled .few))), h .counts p low high);
           orderly = act-orderly s (h .size) g ruled (h .orderly) unclosed a told;
-          turns = omega (arith, counted-one d, h .turns, act-raises s (h .size) g ruled (h .orderly) unclosed a d told);
+          turns = omega (arith, counted-one d, h .turns, act-raises s (h .size) g ruled (h .orderly) unclosed a d told, act-by-one s (h .size) g ruled a told);
         }
 
     act-sound : (b : Bool) → isDue a ≡ b → Acted g s (applied s a) b

@@ -1,11 +1,10 @@
--- Each act raises the potential by one at most, so that the count is the potential.
+-- Each act raises the potential by one at most, so that the stored count is the potential.
 use Prim.Native.Nat.{ℕ, _+_, _*_, _≤_, _<_}
-use mathlib.Core.Bool.{Bool, true, false}
 use mathlib.Core.List.{List}
-use mathlib.Core.Logic.{_≢_, _⊎_, inl, inr}
-use mathlib.Core.Path.{_≡_, refl, sym, ap, _∙_}
+use mathlib.Core.Logic.{_≢_}
+use mathlib.Core.Path.{_≡_, ap, _∙_}
 use native.Mathlib.Omega.{arith}
-use native.Mathlib.Decide.{decLt, ℕ-discrete}
+use native.Mathlib.Decide.{decLt}
 use lib.Dec.{eqb}
 use lib.ListN.{length}
 use borrow.Author.Tests.{ne-eqb}
@@ -13,21 +12,19 @@ use Rattle.settings.specs.Laws.{Ruled}
 use Rattle.settings.specs.declared.Settings.{Settings}
 use Rattle.quorum.specs.Marks.{mark, withMark}
 use Rattle.quorum.specs.MarkLaws.{mark-other}
-use Rattle.quorum.specs.Total.{share, total, count, everyone}
-use Rattle.records.specs.Layout.{flagsAt, echoSentAt, readySentAt, roundAt, estSentAt, auxSentAt}
-use Rattle.records.specs.Words.{word, setMark, word-setMark-same}
-use Rattle.acts.specs.Acts.{isDue}
+use Rattle.quorum.specs.Total.{share, count}
+use Rattle.records.specs.Layout.{roundAt, estSentAt, auxSentAt}
+use Rattle.records.specs.Words.{word}
 use Rattle.acts.specs.declared.Act.{Act}
 use Rattle.acts.specs.declared.Act.the-variants.{Idle, InForce, Commit, Send, Echo, Ready, Start, Relay, Aux, Move}
 use Rattle.turn.specs.Told.{ActTold}
-use Rattle.turn.specs.Turn.{counted, applied}
+use Rattle.turn.specs.Turn.{applied}
 use Rattle.turn.specs.Turn as turn
-use Rattle.turn.specs.Frame.{Spared, length-counted, word-counted-other, applied-idle, applied-other}
-use Rattle.turn_bound.specs.Sums.{share-few, sum-grows}
+use Rattle.turn.specs.Frame.{Spared, applied-other}
+use Rattle.turn_bound.specs.Sums.{share-few, sum-grows, marks-add, sum-one}
 use Rattle.turn_bound.specs.Potential.{instancePart, potential}
 use Rattle.turn_bound.specs.Rounds.{Entry}
-use Rattle.turn_bound.specs.Raising.{relay-marks, start-entry, move-entry, moveBit}
-use Rattle.costliest.specs.Sums.{marks-add, sum-one}
+use Rattle.turn_bound.specs.Raising.{counted-mark, relay-marks, start-entry, move-entry, moveBit}
 
 module _ (s t : List ℕ) where
   part-marks : (j : ℕ) → mark (word t 136) j ≡ mark (word s 136) j → mark (word t 137) j ≡ mark (word s 137) j → word t (estSentAt j) ≡ word s (estSentAt j) → word t (auxSentAt j) ≡ word s (auxSentAt j) → word t (roundAt j) ≡ word s (roundAt j) → instancePart t j ≤ instancePart s j
@@ -83,11 +80,6 @@ module _ (s t : List ℕ) where
       at (no l) = out-one i e d (x .leaves (omega arith)) (a i low high)
 
 module _ (s : List ℕ) (size : length s ≡ 2048) (g : Settings) (ruled : Ruled g) where
-  pub set-mark : (k p : ℕ) → k < 2048 → k ≢ 6 → word (setMark (counted s) k p) k ≡ withMark (word s k) p
-  set-mark k p l ne =
-      word-setMark-same (counted s) k p (omega (arith, size, length-counted s))
-      ∙ ap (λ (w : ℕ). withMark w p) (word-counted-other s k ne)
-
   -- the words of a part that an act spares
   spared-part : (a : Act) (j : ℕ) → 1 ≤ j → j ≤ 16 → Spared a 136 → Spared a 137 → Spared a (estSentAt j) → Spared a (auxSentAt j) → Spared a (roundAt j) → instancePart (applied s a) j ≤ instancePart s j
   spared-part a j lo hi e r b x o =
@@ -137,7 +129,7 @@ module _ (s : List ℕ) (size : length s ≡ 2048) (g : Settings) (ruled : Ruled
 
       other : (j : ℕ) → j ≢ i → Votes (Echo i v) j → instancePart t j ≤ instancePart s j
       other j ne x =
-          part-marks s t j (ap (λ (w : ℕ). mark w j) (set-mark 136 i (omega arith) (λ z. omega arith)) ∙ mark-other (word s 136) i j ne)
+          part-marks s t j (ap (λ (w : ℕ). mark w j) (counted-mark s size 136 i (omega arith) (λ z. omega arith)) ∙ mark-other (word s 136) i j ne)
           (ap (λ (w : ℕ). mark w j) ready) (x .est) (x .aux) (x .round)
 
       here : Votes (Echo i v) i → instancePart t i ≤ instancePart s i + 1
@@ -162,28 +154,28 @@ module _ (s : List ℕ) (size : length s ≡ 2048) (g : Settings) (ruled : Ruled
       other : (j : ℕ) → j ≢ i → Votes (Ready i v) j → instancePart t j ≤ instancePart s j
       other j ne x =
           part-marks s t j (ap (λ (w : ℕ). mark w j) echo)
-          (ap (λ (w : ℕ). mark w j) (set-mark 137 i (omega arith) (λ z. omega arith)) ∙ mark-other (word s 137) i j ne)
+          (ap (λ (w : ℕ). mark w j) (counted-mark s size 137 i (omega arith) (λ z. omega arith)) ∙ mark-other (word s 137) i j ne)
           (x .est) (x .aux) (x .round)
 
       here : Votes (Ready i v) i → instancePart t i ≤ instancePart s i + 1
       here x = ready-one s t i echo (x .est) (x .aux) (x .round)
 
-  pub act-one : (a : Act) → ActTold g s a → potential (g .n) (applied s a) ≤ potential (g .n) s + 1
+  pub act-by-one : (a : Act) → ActTold g s a → potential (g .n) (applied s a) ≤ potential (g .n) s + 1
   unfolding applied turn.marked
-  act-one Idle h = omega arith
-  act-one InForce h = flag-one s _ (g .n) 1 (set-mark 7 1 (omega arith) (λ z. omega arith)) (flags-part InForce (λ j z. z))
-  act-one (Commit k) h = flag-one s _ (g .n) 3 (set-mark 7 3 (omega arith) (λ z. omega arith)) (flags-part (Commit k) (λ j z. z))
-  act-one (Send v) h = flag-one s _ (g .n) 2 (set-mark 7 2 (omega arith) (λ z. omega arith)) (flags-part (Send v) (λ j z. z))
-  act-one (Echo i v) h = echo-act i v
-  act-one (Ready i v) h = ready-act i v
-  act-one (Start i b) h =
+  act-by-one Idle h = omega arith
+  act-by-one InForce h = flag-one s _ (g .n) 1 (counted-mark s size 7 1 (omega arith) (λ z. omega arith)) (flags-part InForce (λ j z. z))
+  act-by-one (Commit k) h = flag-one s _ (g .n) 3 (counted-mark s size 7 3 (omega arith) (λ z. omega arith)) (flags-part (Commit k) (λ j z. z))
+  act-by-one (Send v) h = flag-one s _ (g .n) 2 (counted-mark s size 7 2 (omega arith) (λ z. omega arith)) (flags-part (Send v) (λ j z. z))
+  act-by-one (Echo i v) h = echo-act i v
+  act-by-one (Ready i v) h = ready-act i v
+  act-by-one (Start i b) h =
       let a = Start i b in
       entry-one s _ (g .n) i 0 b (ruled .few) (start-entry s size g ruled i b h) (h .0 .low) (h .0 .high)
       (applied-other s a 7 (λ z. omega arith) (λ z. omega arith, λ z. omega arith))
       (applied-other s a 136 (λ z. omega arith) (λ z. omega (arith, h .0 .high, ruled .few), λ z. omega (arith, h .0 .high, ruled .few)))
       (applied-other s a 137 (λ z. omega arith) (λ z. omega (arith, h .0 .high, ruled .few), λ z. omega (arith, h .0 .high, ruled .few)))
       (λ j lo hi. applied-other s a (auxSentAt j) (λ z. omega arith) (λ z. omega (arith, h .0 .high, ruled .few), λ z. omega (arith, h .0 .high, ruled .few)))
-  act-one (Relay i r b) h =
+  act-by-one (Relay i r b) h =
       let few : i ≤ 16 = omega (arith, h .0 .high, ruled .few) in
       let a = Relay i r b in
       let echo = applied-other s a 136 (λ z. omega arith) (λ z. omega (arith, few)) in
@@ -193,7 +185,7 @@ module _ (s : List ℕ) (size : length s ≡ 2048) (g : Settings) (ruled : Ruled
       (λ lo hi. est-one s _ i (32 * b + r) echo ready (relay-marks s size i r b few)
       (applied-other s a (auxSentAt i) (λ z. omega arith) (λ z. omega arith))
       (rw (applied-other s a (roundAt i) (λ z. omega arith) (λ z. omega arith)) (omega arith)))
-  act-one (Aux i r b) h =
+  act-by-one (Aux i r b) h =
       let few : i ≤ 16 = omega (arith, h .0 .high, ruled .few) in
       let a = Aux i r b in
       let echo = applied-other s a 136 (λ z. omega arith) (λ z. omega (arith, few)) in
@@ -202,9 +194,9 @@ module _ (s : List ℕ) (size : length s ≡ 2048) (g : Settings) (ruled : Ruled
       (λ j lo hi ne. spared-part a j lo (omega (arith, ruled .few)) (λ z. omega (arith, few)) (λ z. omega (arith, few)) (λ z. omega (arith, ruled .few, h .0 .low)) (λ z. ne (omega arith)) (λ z. omega (arith, ruled .few, h .0 .low)))
       (λ lo hi. aux-one s _ i r echo ready
       (applied-other s a (estSentAt i) (λ z. omega arith) (λ z. omega arith))
-      (set-mark (auxSentAt i) r (omega arith) (λ z. omega arith))
+      (counted-mark s size (auxSentAt i) r (omega arith) (λ z. omega arith))
       (applied-other s a (roundAt i) (λ z. omega arith) (λ z. omega arith)))
-  act-one (Move i r v) h =
+  act-by-one (Move i r v) h =
       let few : i ≤ 16 = omega (arith, h .0 .high, ruled .few) in
       let low : 1 ≤ i = h .0 .low in
       let a = Move i r v in

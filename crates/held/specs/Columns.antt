@@ -13,7 +13,7 @@ use Rattle.wire.specs.declared.Message as wire-message
 use Rattle.wire.specs.declared.Message.the-variants as wire
 use Rattle.delivery.specs.Delivery.{placeHeld, recorded}
 use Rattle.delivery.specs.Frame.{InLayout, MarkWord, markWordOf, markOf, mark-recorded, Changed, word-recorded}
-use Rattle.agreement.specs.EngineSeen.{Numbered}
+use Rattle.held.specs.Held.{Numbered}
 
 -- the message is `con i` of a value
 pub record Made (con : ℕ → ℕ → wire-message.Message) (i : ℕ) (m : wire-message.Message) : Type 0 where

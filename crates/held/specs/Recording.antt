@@ -16,11 +16,9 @@ use Rattle.wire.specs.declared.Message.the-variants as wire
 use Rattle.delivery.specs.Delivery.{placeHeld, recorded}
 use Rattle.delivery.specs.Frame.{InLayout, markWordOf, markOf, mark-recorded}
 use Rattle.delivery.specs.Kept.{SetAfter, before, now, set-after}
-use Rattle.agreement.specs.Runs.{Message, SEND, ECHO, READY, EST, AUX, COMMIT}
-use Rattle.agreement.specs.EngineSeen.{Numbered, Voting, holds}
-use Rattle.agreement.specs.EngineReading.{meaning}
-use Rattle.agreement.specs.EngineColumns.{After, column-after, sendColumn, echoColumn, readyColumn}
-use Rattle.agreement.specs.EngineColumns as columns
+use Rattle.held.specs.Held.{Message, SEND, ECHO, READY, EST, AUX, COMMIT, meaning, Numbered, Voting, holds}
+use Rattle.held.specs.Columns.{After, column-after, sendColumn, echoColumn, readyColumn}
+use Rattle.held.specs.Columns as columns
 
 -- ---- the marks of votes tell kind, value and sender
 
