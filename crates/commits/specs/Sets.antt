@@ -1,16 +1,16 @@
 -- A set as the list of its values, and when two COMMITs hold the same.
-use Prim.Native.Nat.{ℕ, zero, suc, _+_, _*_, _≤_, _<_}
-use mathlib.Core.Bool.{true, _&&_}
+use Prim.Native.Nat.{ℕ, zero, suc, _+_, _≤_, _<_}
+use mathlib.Core.Bool.{true}
 use mathlib.Core.List.{List, [], _∷_}
 use mathlib.Core.Path.{_≡_, refl, sym, ap, _∙_}
 use native.Mathlib.Omega.{arith}
 use lib.Dec.{eqb}
 use lib.ListN.{length, take, drop}
 use lib.Seq.{drop-cons}
-use borrow.Author.Tests.{eqb-true}
-use Rattle.settings.specs.Bools.{and-left, and-right}
-use Rattle.quorum.specs.Every.{every, every-each}
-use Rattle.records.specs.Layout.{commitCountAt, commitRowAt, commitValueAt}
+use borrow.Author.Tests.{eqb-true, eq-eqb}
+use Rattle.settings.specs.Bools.{and-left, and-right, and-both}
+use Rattle.quorum.specs.Every.{every, every-each, each-every}
+use Rattle.records.specs.Layout.{commitRowAt}
 use Rattle.records.specs.Words.{word}
 use Rattle.records.specs.Records.{commitCount, commitValue, commitSet}
 use Rattle.commits.specs.Commits.{sameSet}
@@ -31,6 +31,19 @@ pub length-listed : (f : ℕ → ℕ) (k : ℕ) → length (listed f k) ≡ k
 unfolding listed
 length-listed f zero = refl
 length-listed f (suc k) = ap suc (length-listed (λ j. f (suc j)) k)
+
+head-same : {x y : ℕ} {xs ys : List ℕ} → x ∷ xs ≡ y ∷ ys → x ≡ y
+head-same e = cc
+
+tail-same : {x y : ℕ} {xs ys : List ℕ} → x ∷ xs ≡ y ∷ ys → xs ≡ ys
+tail-same e = cc
+
+listed-each : (f g : ℕ → ℕ) (k : ℕ) → listed f k ≡ listed g k → (j : ℕ) → 1 ≤ j → j ≤ k → f j ≡ g j
+unfolding listed
+listed-each f g zero e j low high = absurd (omega arith)
+listed-each f g (suc k) e zero low high = absurd (omega arith)
+listed-each f g (suc k) e (suc zero) low high = head-same e
+listed-each f g (suc k) e (suc (suc j)) low high = listed-each (λ i. f (suc i)) (λ i. g (suc i)) k (tail-same e) (suc j) (omega arith) (omega arith)
 
 -- the k words after word a
 pub row-listed : (s : List ℕ) (a k : ℕ) → a + k < length s → take k (drop (a + 1) s) ≡ listed (λ j. word s (a + j)) k
@@ -71,3 +84,12 @@ same-set s p q l hp hq e =
     let values = every (λ k. eqb (commitValue s p k) (commitValue s q k)) (commitCount s p) in
     set-agree s s p q l l hp hq (sym (eqb-true (commitCount s p) (commitCount s q) (and-left counts values e)))
     (λ k low high. sym (eqb-true (commitValue s p k) (commitValue s q k) (every-each (λ k. eqb (commitValue s p k) (commitValue s q k)) (commitCount s p) (and-right counts values e) k low high)))
+
+-- and sets that are the same compare so
+pub set-same : (s : List ℕ) (p q : ℕ) → length s ≡ 2048 → p ≤ 16 → q ≤ 16 → commitSet s q ≡ commitSet s p → sameSet s p q ≡ true
+unfolding sameSet
+set-same s p q l hp hq e =
+    let counts : commitCount s p ≡ commitCount s q = sym (set-length s p l hp) ∙ ap (λ (xs : List ℕ). length xs) (sym e) ∙ set-length s q l hq in
+    let values : listed (commitValue s p) (commitCount s p) ≡ listed (commitValue s q) (commitCount s p) = sym (set-listed s p l hp) ∙ sym e ∙ set-listed s q l hq ∙ ap (listed (commitValue s q)) (sym counts) in
+    and-both _ _ (eq-eqb (commitCount s p) (commitCount s q) counts)
+    (each-every (λ k. eqb (commitValue s p k) (commitValue s q k)) (commitCount s p) (λ k low high. eq-eqb (commitValue s p k) (commitValue s q k) (listed-each (commitValue s p) (commitValue s q) (commitCount s p) values k low high)))

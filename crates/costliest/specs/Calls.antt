@@ -23,9 +23,13 @@ unfoldable pub each : (ℕ → List Step → List Step) → ℕ → List Step �
 each f zero cs = cs
 each f (suc n) cs = f (suc n) (each f n cs)
 
--- the message m of concentrator p over its link; a COMMIT is of {7}
+-- the packs that COMMITs hold, the first of them
+unfoldable pub packs : List ℕ
+packs = 1 ∷ 2 ∷ 3 ∷ 4 ∷ 5 ∷ 6 ∷ 7 ∷ 8 ∷ 9 ∷ 10 ∷ 11 ∷ 12 ∷ 13 ∷ 14 ∷ 15 ∷ 16 ∷ []
+
+-- the message m of concentrator p over its link
 unfoldable pub say : ℕ → Message → List Step → List Step
-say p m cs = delivery p (encode m p 7 (7 ∷ [])) ∷ cs
+say p m cs = delivery p (encode m p 7 packs) ∷ cs
 
 -- k turns, each lent 140 bytes
 unfoldable pub turns : ℕ → List Step → List Step
@@ -46,24 +50,25 @@ ests n = each (λ i. each (λ r cs. say 1 (Est i r 1) (say 1 (Est i r 0) cs)) 32
 unfoldable pub auxs : ℕ → List Step → List Step
 auxs n = each (λ i. each (λ r. each (λ p. say p (Aux i r 0)) n) 32) n
 
-unfoldable pub commit : ℕ → List Step → List Step
-commit p = say p (Commit 1)
+-- a COMMIT of n packs, the longest that there is
+unfoldable pub commit : ℕ → ℕ → List Step → List Step
+commit n p = say p (Commit n)
 
 -- what is held before the first turn
 unfoldable pub heard : ℕ → List Step
-heard n = commit 1 (auxs n (ests n (readies n (sends n []))))
+heard n = commit n 1 (auxs n (ests n (readies n (sends n []))))
 
 -- all turns but the last
 unfoldable pub acted : ℕ → List Step
 acted n = turns (99 * n + 2) (heard n)
 
--- the COMMITs of the others, and a last turn, which puts {7} in force
+-- the COMMITs of the others, and a last turn, which puts their set in force
 unfoldable pub costly : ℕ → List Step
-costly n = turns 1 (each (λ p. commit (p + 1)) (n - 1) (acted n))
+costly n = turns 1 (each (λ p. commit n (p + 1)) (n - 1) (acted n))
 
 -- one concentrator alone, whose turns send SEND, ECHO, READY and COMMIT and put a set in force, with a delivery between any two
 unfoldable pub five : List Step
-five = turns 1 (commit 1 (turns 1 (say 1 (Ready 1 5) (turns 1 (say 1 (Echo 1 5) (turns 1 (say 1 (Send 1 5) (turns 1 []))))))))
+five = turns 1 (commit 1 1 (turns 1 (say 1 (Ready 1 5) (turns 1 (say 1 (Echo 1 5) (turns 1 (say 1 (Send 1 5) (turns 1 []))))))))
 
 -- the costliest session of n concentrators
 unfoldable pub costliestCalls : ℕ → List Step

@@ -1,12 +1,12 @@
 -- The costliest session: for n from 2 to 16 the calls `costly n` after the opening `opens n` bring exactly 99·n+3 turns.
 use Prim.Native.Nat.{ℕ, zero, suc, _+_, _*_, _-_, _≤_}
 use mathlib.Core.Bool.{true, false, _&&_, true≢false}
-use mathlib.Core.List.{List, [], _∷_}
+use mathlib.Core.List.{List}
 use mathlib.Core.Logic.{_≢_, _⊎_, inl, inr}
 use mathlib.Core.Path.{_≡_, refl, sym, ap, subst, _∙_}
 use native.Mathlib.Omega.{arith}
 use native.Mathlib.Decide.{ℕ-discrete}
-use lib.ListN.{length}
+use lib.ListN.{length, take}
 use borrow.Author.Tests.{eq-eqb, ne-eqb, le-leb}
 use Rattle.settings.specs.Bools.{and-both}
 use Rattle.settings.specs.Laws.{rules-valid}
@@ -15,14 +15,13 @@ use Rattle.settings.specs.Settings.{quorum, namedTa}
 use Rattle.quorum.specs.Marks.{mark}
 use Rattle.quorum.specs.MarkLaws.{mark-zero}
 use Rattle.quorum.specs.TotalLaws.{all-count}
-use Rattle.quorum.specs.Every.{every}
 use Rattle.quorum.specs.Lowest.{lowest-none}
 use Rattle.records.specs.Layout.{turnsAt, commitCountAt}
 use Rattle.records.specs.Words.{word, marked}
 use Rattle.records.specs.Fill.{blank}
-use Rattle.records.specs.Records.{closed, sendHeld, echoHeld, readyHeld, estHeld, auxHeld, commitCount, commitValue, commitSet}
+use Rattle.records.specs.Records.{closed, sendHeld, echoHeld, readyHeld, estHeld, auxHeld, commitCount, commitSet}
 use Rattle.commits.specs.Commits.{commitHeld, sameSet, setHolders, setLeads, setLeader}
-use Rattle.commits.specs.Sets.{listed, set-listed, set-length}
+use Rattle.commits.specs.Sets.{set-same}
 use Rattle.acts.specs.Acts.{isDue, orAct}
 use Rattle.acts.specs.declared.Act.the-variants.{InForce}
 use Rattle.session.specs.Session.{numbered}
@@ -36,7 +35,7 @@ use Rattle.turn_bound.specs.Sound.{sound-bound}
 use Rattle.turn_bound.specs.Turning.{turn-sound}
 use Rattle.turn_bound.specs.Count.{turn-count}
 use Rattle.held.specs.Held.{Message, SEND, ECHO, READY, EST, AUX, COMMIT, Numbered, holds}
-use Rattle.costliest.specs.Calls.{coinWords, opens, each, say, turns, commit, heard, acted, costly}
+use Rattle.costliest.specs.Calls.{coinWords, opens, packs, each, say, turns, commit, heard, acted, costly}
 use Rattle.costliest.specs.Saying.{settings, Allowed, Good, ruled}
 use Rattle.costliest.specs.Hearing.{Brings, Prepared, heard-ready, commits-bringing}
 use Rattle.costliest.specs.Idle.{idle-count}
@@ -127,13 +126,13 @@ module _ (n : ℕ) (two : 2 ≤ n) (low : 1 ≤ n) (few : n ≤ 16) (s : List �
   -- ---- the last
 
   abbrev last : List Step
-  last = each (λ p. commit (p + 1)) (n - 1) (acted n)
+  last = each (λ p. commit n (p + 1)) (n - 1) (acted n)
 
   -- COMMITs of all are welcome from here on
   widened : Good n n (after first (acted n))
   widened = of (turning .ready .good)
     where
-      wide : (k : ℕ) (y : Message) → Numbered k → holds (after first (acted n)) k y → Allowed 1 k y → Allowed n k y
+      wide : (k : ℕ) (y : Message) → Numbered k → holds (after first (acted n)) k y → Allowed n 1 k y → Allowed n n k y
       wide k (SEND v) num h a = tt
       wide k (ECHO i v) num h a = tt
       wide k (READY i v) num h a = a
@@ -144,7 +143,7 @@ module _ (n : ℕ) (two : 2 ≤ n) (low : 1 ≤ n) (few : n ≤ 16) (s : List �
       of : Good n 1 (after first (acted n)) → Good n n (after first (acted n))
       of x = record { sound = x .sound; session = x .session; unclosed = x .unclosed; allowed = λ k y num h. wide k y num h (x .allowed k y num h) }
 
-  brings : Brings n low few first n (λ t. (p : ℕ) → 1 ≤ p → p ≤ n - 1 → commitHeld t (p + 1) ≡ true) (each (λ p. commit (p + 1)) (n - 1)) (acted n)
+  brings : Brings n low few first n (λ t. (p : ℕ) → 1 ≤ p → p ≤ n - 1 → commitHeld t (p + 1) ≡ true) (each (λ p. commit n (p + 1)) (n - 1)) (acted n)
   brings = commits-bringing n low few first (acted n) widened
 
   good : Good n n (after first last)
@@ -157,29 +156,9 @@ module _ (n : ℕ) (two : 2 ≤ n) (low : 1 ≤ n) (few : n ≤ 16) (s : List �
       at (yes e) = rw e (brings .keeps .commits 1 (omega arith) (omega arith) (turning .ready .all .committed))
       at (no ne) = let e : p - 1 + 1 ≡ p = omega arith in subst (λ (q : ℕ). commitHeld (after first last) q ≡ true) e (brings .fact (p - 1) (omega arith) (omega arith))
 
-  module _ (t : List ℕ) (tsize : length t ≡ 2048) where
-    record Single (p : ℕ) : Type 0 where
-      one : commitCount t p ≡ 1
-      seven : commitValue t p 1 ≡ 7
-
-    head-is : (a b : ℕ) → a ∷ [] ≡ b ∷ [] → a ≡ b
-    head-is a b e = cc
-
-    single : (p : ℕ) → p ≤ 16 → commitSet t p ≡ 7 ∷ [] → Single p
-    unfolding listed
-    single p hi e =
-        let count : commitCount t p ≡ 1 = sym (set-length t p tsize hi) ∙ ap length e in
-        let all : listed (commitValue t p) 1 ≡ 7 ∷ [] = ap (listed (commitValue t p)) (sym count) ∙ sym (set-listed t p tsize hi) ∙ e in
-        record { one = count; seven = head-is (commitValue t p 1) 7 all }
-
-    same-single : (p q : ℕ) → Single p → Single q → sameSet t p q ≡ true
-    unfolding sameSet every
-    same-single p q x y = rw (x .one, y .one, x .seven, y .seven)
-
-  seven-of : (p : ℕ) → 1 ≤ p → p ≤ n → Single (after first last) (good .sound .size) p
-  seven-of p lo hi =
-      single (after first last) (good .sound .size) p (omega arith)
-      (good .allowed p (COMMIT (commitSet (after first last) p)) (record { low = lo; high = omega arith }) (record { there = all-committed p lo hi; same = refl }) .0)
+  set-of : (p : ℕ) → 1 ≤ p → p ≤ n → commitSet (after first last) p ≡ take n packs
+  set-of p lo hi =
+      good .allowed p (COMMIT (commitSet (after first last) p)) (record { low = lo; high = omega arith }) (record { there = all-committed p lo hi; same = refl }) .0
 
   leads : setLeads (after first last) n n 1 ≡ true
   unfolding setLeads setHolders
@@ -189,7 +168,7 @@ module _ (n : ℕ) (two : 2 ≤ n) (low : 1 ≤ n) (few : n ≤ 16) (s : List �
         arith,
         all-count (λ q. commitHeld (after first last) q && sameSet (after first last) 1 q) n
             (λ q lo hi. and-both (commitHeld (after first last) q) (sameSet (after first last) 1 q) (all-committed q lo hi)
-            (same-single (after first last) (good .sound .size) 1 q (seven-of 1 (omega arith) low) (seven-of q lo hi))),
+            (set-same (after first last) 1 q (good .sound .size) (omega arith) (omega arith) (set-of q lo hi ∙ sym (set-of 1 (omega arith) low)))),
       )))
 
   quorum-all : quorum (settings n) ≡ n
@@ -209,7 +188,7 @@ module _ (n : ℕ) (two : 2 ≤ n) (low : 1 ≤ n) (few : n ≤ 16) (s : List �
   in-force = rw rule
 
   -- deliveries are no turns
-  same-acting : (k : ℕ) (cs : List Step) → acting first (each (λ p. commit (p + 1)) k cs) ≡ acting first cs
+  same-acting : (k : ℕ) (cs : List Step) → acting first (each (λ p. commit n (p + 1)) k cs) ≡ acting first cs
   unfolding each commit say acting
   same-acting zero cs = refl
   same-acting (suc k) cs = same-acting k cs

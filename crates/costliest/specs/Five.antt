@@ -9,7 +9,7 @@ use Rattle.opening.specs.Opening.{openWords, opened}
 use Rattle.turn_bound.specs.TurnBound.{answer, openedBy, after, acting, TurnCount}
 use Rattle.turn_bound.specs.Count.{turn-count}
 use Rattle.turn_bound.specs.Computing.{calls}
-use Rattle.costliest.specs.Calls.{coinWords, opens, each, say, turns, commit, five}
+use Rattle.costliest.specs.Calls.{coinWords, opens, each, say, turns, commit, packs, five}
 
 pub record TakesFive (s : List ℕ) : Type 0 where
   pub is-opened : answer s (opens 1) ≡ 0
@@ -19,7 +19,7 @@ unfoldable pub Five : Type 0
 Five = (s : List ℕ) → length s ≡ 2048 → TakesFive s
 
 computed : word (after (openWords 1 0 0 1 7 5 (0 ∷ [])) five) turnsAt ≡ 5
-unfolding calls five turns each commit say after
+unfolding calls five turns each commit say packs after
 computed = refl
 
 accepted : (s : List ℕ) → length s ≡ 2048 → answer s (opens 1) ≡ 0

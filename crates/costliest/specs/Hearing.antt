@@ -1,7 +1,7 @@
 -- After the calls `heard n` every message of the session is held.
 use Prim.Native.Nat.{ℕ, zero, suc, _+_, _-_, _≤_}
 use mathlib.Core.Bool.{true}
-use mathlib.Core.List.{List, [], _∷_}
+use mathlib.Core.List.{List, []}
 use mathlib.Core.Logic.{inl, inr}
 use mathlib.Core.Path.{_≡_, refl, subst}
 use native.Mathlib.Omega.{arith}
@@ -19,7 +19,7 @@ use Rattle.delivery.specs.Held.{NotCommit}
 use Rattle.turn_bound.specs.TurnBound.{Step, after}
 use Rattle.held.specs.Held.{meaning}
 use Rattle.held.specs.Staying.{Stays, stays-same, stays-then}
-use Rattle.costliest.specs.Calls.{each, say, sends, readies, ests, auxs, commit, heard}
+use Rattle.costliest.specs.Calls.{each, packs, say, sends, readies, ests, auxs, commit, heard}
 use Rattle.costliest.specs.Saying.{Allowed, Good, Said, say-mark, say-commit, commit-proper}
 
 module _ (n : ℕ) (low : 1 ≤ n) (few : n ≤ 16) (first : List ℕ) where
@@ -75,18 +75,18 @@ module _ (n : ℕ) (low : 1 ≤ n) (few : n ≤ 16) (first : List ℕ) where
   marked-stable : (k q : ℕ) → MarkWord k → Stable (Marked k q)
   marked-stable k q w s t y e = y .marks k w q e
 
-  say-bringing : (c p : ℕ) → 1 ≤ p → p ≤ n → (m : wire-message.Message) → Proper n p m (7 ∷ []) → NotCommit m → Allowed c p (meaning m (7 ∷ [])) → Allowed c p (meaning m (valuesOf m (7 ∷ []))) → Bringing c (Marked (markWordOf p m) (markOf p m)) (say p m)
+  say-bringing : (c p : ℕ) → 1 ≤ p → p ≤ n → (m : wire-message.Message) → Proper n p m packs → NotCommit m → Allowed n c p (meaning m packs) → Allowed n c p (meaning m (valuesOf m packs)) → Bringing c (Marked (markWordOf p m) (markOf p m)) (say p m)
   unfolding say after
   say-bringing c p lo hi m proper k a may cs x = of (say-mark n c low few (after first cs) x p lo hi m proper k a may)
     where
       of : Said n c low few (after first cs) x p lo hi m proper (λ t. marked t (markWordOf p m) (markOf p m) ≡ true) → Brings c (Marked (markWordOf p m) (markOf p m)) (say p m) cs
       of y = record { good = y .good; keeps = y .keeps; fact = y .fact }
 
-  commit-bringing : (c p : ℕ) → 1 ≤ p → p ≤ n → p ≤ c → Bringing c (λ s. commitHeld s p ≡ true) (commit p)
+  commit-bringing : (c p : ℕ) → 1 ≤ p → p ≤ n → p ≤ c → Bringing c (λ s. commitHeld s p ≡ true) (commit n p)
   unfolding commit say after
   commit-bringing c p lo hi l cs x = of (say-commit n c low few (after first cs) x p lo hi l)
     where
-      of : Said n c low few (after first cs) x p lo hi (wire.Commit 1) (commit-proper n c low few (after first cs) x p lo hi) (λ t. commitHeld t p ≡ true) → Brings c (λ s. commitHeld s p ≡ true) (commit p) cs
+      of : Said n c low few (after first cs) x p lo hi (wire.Commit n) (commit-proper n c low few (after first cs) x p lo hi) (λ t. commitHeld t p ≡ true) → Brings c (λ s. commitHeld s p ≡ true) (commit n p) cs
       of y = record { good = y .good; keeps = y .keeps; fact = y .fact }
 
   -- ---- the messages of the session
@@ -201,7 +201,7 @@ module _ (n : ℕ) (low : 1 ≤ n) (few : n ≤ 16) (first : List ℕ) where
                   d : Brings 1 AuxsHeld (auxs n) (ests n (readies n (sends n []))) → Prepared (after first (heard n))
                   d y4 = e (commit-bringing 1 1 (omega arith) low (omega arith) (auxs n (ests n (readies n (sends n [])))) (y4 .good))
                     where
-                      e : Brings 1 (λ s. commitHeld s 1 ≡ true) (commit 1) (auxs n (ests n (readies n (sends n [])))) → Prepared (after first (heard n))
+                      e : Brings 1 (λ s. commitHeld s 1 ≡ true) (commit n 1) (auxs n (ests n (readies n (sends n [])))) → Prepared (after first (heard n))
                       e y5 =
                           let k4 = y5 .keeps in
                           let k3 = stays-then (y4 .keeps) k4 in
@@ -219,8 +219,8 @@ module _ (n : ℕ) (low : 1 ≤ n) (few : n ≤ 16) (first : List ℕ) where
                                 };
                           }
 
-  pub commits-bringing : Bringing n (λ s. (p : ℕ) → 1 ≤ p → p ≤ n - 1 → commitHeld s (p + 1) ≡ true) (each (λ p. commit (p + 1)) (n - 1))
+  pub commits-bringing : Bringing n (λ s. (p : ℕ) → 1 ≤ p → p ≤ n - 1 → commitHeld s (p + 1) ≡ true) (each (λ p. commit n (p + 1)) (n - 1))
   commits-bringing =
-      each-bringing n (λ p s. commitHeld s (p + 1) ≡ true) (λ p. commit (p + 1)) (n - 1)
+      each-bringing n (λ p s. commitHeld s (p + 1) ≡ true) (λ p. commit n (p + 1)) (n - 1)
       (λ p lo hi s t y e. y .commits (p + 1) (omega arith) (omega arith) e)
       (λ p lo hi. commit-bringing n (p + 1) (omega arith) (omega arith) (omega arith))

@@ -16,10 +16,9 @@ use Rattle.quorum.specs.Marks.{mark}
 use Rattle.quorum.specs.Total.{total, count, everyone}
 use Rattle.quorum.specs.TotalLaws.{member-total, all-count, count-all, count-le}
 use Rattle.quorum.specs.Lowest.{lowest-none}
-use Rattle.quorum.specs.Every.{each-every}
 use Rattle.records.specs.Layout.{roundAt, estSentAt, auxSentAt, voteAt, estMark}
 use Rattle.records.specs.Words.{word, marked}
-use Rattle.records.specs.Records.{sendSent, commitSent, echoSent, readySent, sendHeld, sendValue, readyHeld, readyValue, echoHeld, echoValue, estHeld, auxHeld, round, estSent, auxSent, commitCount, commitValue, commitSet, decidedZero, decidedOne}
+use Rattle.records.specs.Records.{sendSent, commitSent, echoSent, readySent, sendHeld, sendValue, readyHeld, readyValue, echoHeld, echoValue, estHeld, auxHeld, round, estSent, auxSent, commitCount, commitSet, decidedZero, decidedOne}
 use Rattle.acts.specs.Acts.{isDue, orAct}
 use Rattle.acts.specs.Choices.{or-idle, first-idle, passed-test}
 use Rattle.acts.specs.declared.Act.the-variants.{Idle, Commit, Send, Echo, Ready, Start, Relay, Aux}
@@ -29,7 +28,7 @@ use Rattle.broadcasts.specs.Laws.{leading-some, output-unique}
 use Rattle.broadcasts.specs.declared.Output.{Output}
 use Rattle.broadcasts.specs.declared.Output.the-variants.{Value, Nothing}
 use Rattle.commits.specs.Commits.{commitHeld, sameSet, setHolders, setLeads, setLeader, setOf, leadingSet}
-use Rattle.commits.specs.Sets.{set-length}
+use Rattle.commits.specs.Sets.{set-length, set-same}
 use Rattle.votes.specs.Votes.{estCount, accepted, votesDecidedOne, startAct, relayValue, relayRound, relayAct, running, auxValue, auxAct, carries, carriers, moveValue, moveAct, roundAct, voteAct}
 use Rattle.exits.specs.Exits.{Exit, withOutput, hasValue, everyBroadcast, noExit}
 use Rattle.exits.specs.Stated.{singleExit, outputsExit}
@@ -190,17 +189,11 @@ module _ (n : ℕ) (two : 2 ≤ n) (few : n ≤ 16) (low : 1 ≤ n) (begin : Lis
 
   -- ---- COMMIT
 
-  same-self : (p : ℕ) → sameSet s p p ≡ true
-  unfolding sameSet
-  same-self p =
-      and-both _ _ (eq-eqb (commitCount s p) (commitCount s p) refl)
-      (each-every (λ k. eqb (commitValue s p k) (commitValue s p k)) (commitCount s p) (λ k a b. eq-eqb (commitValue s p k) (commitValue s p k) refl))
-
   leads-one : setLeads s n 1 1 ≡ true
   unfolding setLeads setHolders
   leads-one =
       and-both (commitHeld s 1) _ (h .committed)
-      (le-leb 1 (setHolders s n 1) (member-total (λ q. 1) (λ q. commitHeld s q && sameSet s 1 q) n 1 (omega arith) low (and-both (commitHeld s 1) (sameSet s 1 1) (h .committed) (same-self 1))))
+      (le-leb 1 (setHolders s n 1) (member-total (λ q. 1) (λ q. commitHeld s q && sameSet s 1 q) n 1 (omega arith) low (and-both (commitHeld s 1) (sameSet s 1 1) (h .committed) (set-same s 1 1 size (omega arith) (omega arith) refl))))
 
   leader-there : setLeader s n 1 ≢ 0
   unfolding setLeader

@@ -1,4 +1,5 @@
 pub mod Calls
+pub mod Packs
 pub mod One
 pub mod Saying
 pub mod Hearing

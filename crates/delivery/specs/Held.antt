@@ -1,11 +1,12 @@
 -- What recording a message adds: all that was held is held still, and so is the message.
-use Prim.Native.Nat.{ℕ, _≤_}
+use Prim.Native.Nat.{ℕ, _≤_, min}
 use mathlib.Core.Bool.{true, false, true≢false}
 use mathlib.Core.List.{List}
 use mathlib.Core.Logic.{inl, inr}
 use mathlib.Core.Path.{_≡_, refl, sym, ap, subst, _∙_}
 use native.Mathlib.Omega.{arith}
 use lib.ListN.{length}
+use borrow.Author.Tests.{lt-ltb}
 use Rattle.quorum.specs.Marks.{mark}
 use Rattle.records.specs.Layout.{sendMarksAt, sendValueAt, echoMarksAt, echoValueAt, readyMarksAt, readyValueAt, voteAt, estMark, auxMark, commitCountAt, commitRowAt}
 use Rattle.records.specs.Words.{put, marked, length-put, word-put-same, marked-new, marked-kept}
@@ -57,10 +58,11 @@ module _ (s v : List ℕ) (size : length s ≡ 2048) (p : ℕ) where
   new-recorded (Aux i r b) h c = marked-new s (voteAt i r) (auxMark b p) (omega arith) (omega arith) (omega arith)
   new-recorded (Commit k) h c = absurd c
 
-  pub commit-recorded : p ≤ 16 → commitHeld (recorded s p (Commit 1) v) p ≡ true
+  pub commit-recorded : (c : ℕ) → 1 ≤ c → p ≤ 16 → commitHeld (recorded s p (Commit c) v) p ≡ true
   unfolding recorded commitHeld commitCount
-  commit-recorded hi =
-      rw (word-put-same (storeOf (valueAt v) (commitRowAt p) s 1) (commitCountAt p) 1 (omega (arith, size, length-storeOf (valueAt v) (commitRowAt p) s 1)))
+  commit-recorded c some hi =
+      rw (word-put-same (storeOf (valueAt v) (commitRowAt p) s c) (commitCountAt p) c (omega (arith, size, length-storeOf (valueAt v) (commitRowAt p) s c)))
+      (lt-ltb 0 (min c 16) (omega arith))
 
   pub commits-recorded : (m : Message) → InLayout p m → placeHeld s p m ≡ false → (k : ℕ) → 1 ≤ k → k ≤ 16 → commitHeld s k ≡ true → commitHeld (recorded s p m v) k ≡ true
   unfolding placeHeld
