@@ -15,6 +15,7 @@ pub mod message;
 pub mod packing;
 pub mod records;
 mod refusal;
+pub mod replay;
 mod report;
 mod session;
 mod settings;
