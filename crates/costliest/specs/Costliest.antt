@@ -1,4 +1,4 @@
--- The costliest session: for n from 2 to 16 the calls `costly n` after the opening `opens n` bring exactly 99·n+3 turns.
+-- For n from 2 to 16 the costliest session takes exactly 99·n+3 turns.
 use Prim.Native.Nat.{ℕ, zero, suc, _+_, _*_, _-_, _≤_}
 use mathlib.Core.Bool.{true, false, _&&_, true≢false}
 use mathlib.Core.List.{List}
@@ -35,19 +35,12 @@ use Rattle.turn_bound.specs.Sound.{sound-bound}
 use Rattle.turn_bound.specs.Turning.{turn-sound}
 use Rattle.turn_bound.specs.Count.{turn-count}
 use Rattle.held.specs.Held.{Message, SEND, ECHO, READY, EST, AUX, COMMIT, Numbered, holds}
-use Rattle.costliest.specs.Calls.{coinWords, opens, packs, each, say, turns, commit, heard, acted, costly}
+use Rattle.costliest.specs.Calls.{coinWords, opens, packs, each, say, turns, commit, heard, acted, costly, costliestCalls}
+use Rattle.costliest.specs.Statement.{Costliest}
 use Rattle.costliest.specs.Saying.{settings, Allowed, Good, ruled}
 use Rattle.costliest.specs.Hearing.{Brings, Prepared, heard-ready, commits-bringing}
 use Rattle.costliest.specs.Idle.{idle-count}
 use Rattle.costliest.specs.Acting.{turn-words, turn-acts, Turning, turns-turning}
-
--- "settings and calls with which one concentrator takes exactly 99·n+3 turns", in any buffer of 2,048 words
-pub record Costs (n : ℕ) (s : List ℕ) : Type 0 where
-  pub is-opened : answer s (opens n) ≡ 0
-  pub exactly : acting (openedBy s (opens n)) (costly n) ≡ 99 * n + 3
-
-unfoldable pub Costliest : Type 0
-Costliest = (n : ℕ) → 2 ≤ n → n ≤ 16 → (s : List ℕ) → length s ≡ 2048 → Costs n s
 
 -- ---- the opening
 
@@ -208,5 +201,9 @@ module _ (n : ℕ) (two : 2 ≤ n) (low : 1 ≤ n) (few : n ≤ 16) (s : List �
       omega (arith, counts (costly n), counts last, counts (acted n), enough, final, most, turn-bound-sum (settings n))
 
 pub costliest : Costliest
-unfolding Costliest
-costliest n two few s size = record { is-opened = accepted n two (omega arith) few s size; exactly = exactly n two (omega arith) few s size }
+unfolding Costliest costliestCalls
+costliest n two few s size =
+    record {
+      is-opened = accepted n two (omega arith) few s size;
+      exactly = rw (ne-eqb n 1 (λ e. omega arith)) (exactly n two (omega arith) few s size);
+    }

@@ -6,17 +6,11 @@ use lib.ListN.{length}
 use Rattle.records.specs.Layout.{turnsAt}
 use Rattle.records.specs.Words.{word}
 use Rattle.opening.specs.Opening.{openWords, opened}
-use Rattle.turn_bound.specs.TurnBound.{answer, openedBy, after, acting, TurnCount}
+use Rattle.turn_bound.specs.TurnBound.{answer, openedBy, after, TurnCount}
 use Rattle.turn_bound.specs.Count.{turn-count}
 use Rattle.turn_bound.specs.Computing.{calls}
-use Rattle.costliest.specs.Calls.{coinWords, opens, each, say, turns, commit, packs, five}
-
-pub record TakesFive (s : List ℕ) : Type 0 where
-  pub is-opened : answer s (opens 1) ≡ 0
-  pub exactly : acting (openedBy s (opens 1)) five ≡ 5
-
-unfoldable pub Five : Type 0
-Five = (s : List ℕ) → length s ≡ 2048 → TakesFive s
+use Rattle.costliest.specs.Calls.{coinWords, opens, each, say, turns, commit, packs, five, costliestCalls}
+use Rattle.costliest.specs.Statement.{FiveTurns}
 
 computed : word (after (openWords 1 0 0 1 7 5 (0 ∷ [])) five) turnsAt ≡ 5
 unfolding calls five turns each commit say packs after
@@ -30,9 +24,9 @@ first-is : (s : List ℕ) → length s ≡ 2048 → openedBy s (opens 1) ≡ ope
 unfolding opened opens coinWords
 first-is s e = rw (accepted s e)
 
-pub takes-five : Five
-unfolding Five TurnCount
-takes-five s e =
+pub five-turns : FiveTurns
+unfolding FiveTurns TurnCount costliestCalls
+five-turns s e =
     record {
       is-opened = accepted s e;
       exactly = sym (turn-count s (opens 1) (accepted s e) five .stored) ∙ ap (λ (w : List ℕ). word (after w five) turnsAt) (first-is s e) ∙ computed;

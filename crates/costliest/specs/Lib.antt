@@ -1,4 +1,5 @@
 pub mod Calls
+pub mod Statement
 pub mod Packs
 pub mod One
 pub mod Saying

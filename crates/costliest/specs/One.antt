@@ -47,6 +47,7 @@ use Rattle.turn_bound.specs.Sound.{Sound}
 use Rattle.turn_bound.specs.Delivering.{Delivered, delivery-sound}
 use Rattle.turn_bound.specs.Opened.{opened-ruled}
 use Rattle.turn_bound.specs.Count.{going, opening-going, refused-words}
+use Rattle.costliest.specs.Statement.{AtMostFive}
 
 -- the vote has not begun
 record Quiet (s : List ℕ) : Type 0 where
@@ -198,13 +199,6 @@ opening-quiet w o e =
     let z = first-zero (o .n) (o .ta) (o .ts) (o .own) (o .session) (o .input) (o .coins) few in
     rw (eq-eqb (answer w o) 0 e)
     (record { round = z 24 (omega arith); ests = z 40 (omega arith); auxs = z 56 (omega arith); ones = z 139 (omega arith) })
-
--- for every accepted opening and every list of calls after it, further openings among them: where the last accepted opening has n = 1,
--- at most five turns since then acted
-unfoldable pub AtMostFive : Type 0
-AtMostFive =
-    (s : List ℕ) (o : Arguments) → answer s o ≡ 0 →
-    (cs : List Step) → current (settingsBy o) (openedBy s o) cs .n ≡ 1 → acting (openedBy s o) cs ≤ 5
 
 module _ (s : List ℕ) (o : Arguments) (e : answer s o ≡ 0) where
   abbrev first : List ℕ

@@ -1,10 +1,10 @@
 -- `five_turns` states the theorem of specs/Five.antt.
-use Rattle.costliest.specs.Five.{takes-five}
+use Rattle.costliest.specs.Five.{five-turns}
 use Rattle.costliest.proofs.five_turns.Statement.{statement}
 use Rattle.costliest.proofs.five_turns.Tie as tie
 
 returns : tie.Need-returns
-returns c = takes-five
+returns c = five-turns
 
 pub five-turns-spec : {M : Type 1} → statement M
 five-turns-spec = tie.close (tie.spec returns)

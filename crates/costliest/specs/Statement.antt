@@ -1,0 +1,27 @@
+-- Request N13, the costliest session, as claims about lists of calls at one concentrator.
+use Prim.Native.Nat.{ℕ, _+_, _*_, _≤_}
+use mathlib.Core.List.{List}
+use mathlib.Core.Path.{_≡_}
+use lib.ListN.{length}
+use Rattle.turn_bound.specs.TurnBound.{Arguments, answer, openedBy, settingsBy, Step, acting, current}
+use Rattle.costliest.specs.Calls.{opens, costliestCalls}
+
+-- the words s take the opening, and of the calls after it exactly k are turns that act
+pub record Takes (n k : ℕ) (s : List ℕ) : Type 0 where
+  pub is-opened : answer s (opens n) ≡ 0
+  pub exactly : acting (openedBy s (opens n)) (costliestCalls n) ≡ k
+
+-- for n from 2 to 16 the session takes 99·n+3 turns, whatever its buffer held; that no calls bring more is the bound on turns, `TurnCount`
+unfoldable pub Costliest : Type 0
+Costliest = (n : ℕ) → 2 ≤ n → n ≤ 16 → (s : List ℕ) → length s ≡ 2048 → Takes n (99 * n + 3) s
+
+-- for n = 1 it takes 5
+unfoldable pub FiveTurns : Type 0
+FiveTurns = (s : List ℕ) → length s ≡ 2048 → Takes 1 5 s
+
+-- and there no calls bring more: after every accepted opening and every list of calls, further openings among them, at most 5 turns have
+-- acted since the last accepted one, where that has n = 1
+unfoldable pub AtMostFive : Type 0
+AtMostFive =
+    (s : List ℕ) (o : Arguments) → answer s o ≡ 0 →
+    (cs : List Step) → current (settingsBy o) (openedBy s o) cs .n ≡ 1 → acting (openedBy s o) cs ≤ 5
