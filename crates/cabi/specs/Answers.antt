@@ -8,14 +8,6 @@ use Rattle.report.specs.declared.Figures.{Figures}
 use Rattle.report.specs.declared.Answer.{Answer}
 use Rattle.report.specs.declared.Answer.the-variants as report
 
--- the length of the message in bytes, 0 unless one is sent
-abbrev pub sentLength : Outcome → ℕ
-sentLength (turn.Refused k) = 0
-sentLength turn.Idle = 0
-sentLength (turn.Sent m) = lengthOf m
-sentLength turn.MovedOut = 0
-sentLength turn.InForce = 0
-
 -- bits 8 to 15: the outcome, 0 idle, 1 sent, 2 moved out of round 32, 3 in force; 16 to 31: the length of the message
 abbrev pub outcomeNumber : Outcome → ℕ
 outcomeNumber (turn.Refused k) = k

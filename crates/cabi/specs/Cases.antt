@@ -16,7 +16,7 @@ use Rattle.wire.specs.Message.{lengthOf}
 use Rattle.wire.specs.declared.Message.{Message}
 use Rattle.wire.specs.declared.Message.the-variants as message
 use Rattle.turn.specs.Due.{due}
-use Rattle.turn.specs.Turn.{moveOutcome, outcomeOf, admits, outcomeFor, turnOutcome}
+use Rattle.turn.specs.Turn.{sentLength, moveOutcome, outcomeOf, admits, outcomeFor, turnOutcome}
 use Rattle.turn.specs.Told.{ActTold}
 use Rattle.turn.specs.DueLaws.{due-told}
 use Rattle.turn.specs.Admitting.{admitting, admitted-ruled}
@@ -29,7 +29,7 @@ use Rattle.report.specs.Laws.{reported, turns-few}
 use Rattle.report.specs.declared.Figures.{Figures}
 use Rattle.report.specs.declared.Answer.{Answer}
 use Rattle.report.specs.declared.Answer.the-variants as report
-use Rattle.cabi.specs.Answers.{sentLength, outcomeNumber, figuresNumber, reportNumber}
+use Rattle.cabi.specs.Answers.{outcomeNumber, figuresNumber, reportNumber}
 
 -- a message that is sent has at most 16 values
 act-few : (own : ℕ) (g : Settings) (s : List ℕ) (a : Act) → ActTold g s a → sentLength (outcomeOf own s a) ≤ 140

@@ -8,8 +8,8 @@ ghost use lib.ListN.{length};
 ghost use Rattle.opening.specs.Opening.{openAnswer, opened};
 ghost use Rattle.delivery.specs.Delivery.{deliverAnswer, delivered};
 ghost use Rattle.report.specs.Report.{reportAnswer, reportNamed, reportInForce};
-ghost use Rattle.turn.specs.Turn.{turnOutcome, turnWords, turnBytes};
-ghost use Rattle.cabi.specs.Answers.{sentLength, outcomeNumber, figuresNumber, reportNumber};
+ghost use Rattle.turn.specs.Turn.{sentLength, turnOutcome, turnWords, turnBytes};
+ghost use Rattle.cabi.specs.Answers.{outcomeNumber, figuresNumber, reportNumber};
 
 // Opens a session in the lent words.
 #[no_mangle]

@@ -8,3 +8,4 @@ pub mod Idle
 pub mod Acting
 pub mod Costliest
 pub mod Five
+pub mod Sent

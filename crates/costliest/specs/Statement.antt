@@ -1,9 +1,14 @@
 -- Request N13, the costliest session, as claims about lists of calls at one concentrator.
 use Prim.Native.Nat.{ℕ, _+_, _*_, _≤_}
-use mathlib.Core.List.{List}
+use mathlib.Core.Bool.{cond}
+use mathlib.Core.List.{List, [], _∷_}
 use mathlib.Core.Path.{_≡_}
+use lib.Dec.{eqb}
 use lib.ListN.{length}
-use Rattle.turn_bound.specs.TurnBound.{Arguments, answer, openedBy, settingsBy, Step, acting, current}
+use Rattle.turn.specs.Turn.{sentLength, turnOutcome}
+use Rattle.turn.specs.declared.Outcome.{Outcome}
+use Rattle.turn.specs.declared.Outcome.the-variants.{Refused, Idle, Sent, MovedOut, InForce}
+use Rattle.turn_bound.specs.TurnBound.{Arguments, answer, openedBy, settingsBy, Step, opening, delivery, turn, report, after, acting, current}
 use Rattle.costliest.specs.Calls.{opens, costliestCalls}
 
 -- the words s take the opening, and of the calls after it exactly k are turns that act
@@ -25,3 +30,30 @@ unfoldable pub AtMostFive : Type 0
 AtMostFive =
     (s : List ℕ) (o : Arguments) → answer s o ≡ 0 →
     (cs : List Step) → current (settingsBy o) (openedBy s o) cs .n ≡ 1 → acting (openedBy s o) cs ≤ 5
+
+-- a turn that answers "sent"
+abbrev pub sentOne : Outcome → ℕ
+sentOne (Refused k) = 0
+sentOne Idle = 0
+sentOne (Sent m) = 1
+sentOne MovedOut = 0
+sentOne InForce = 0
+
+-- what f makes of the turns since the last accepted opening, summed up
+unfoldable pub summed : (Outcome → ℕ) → List ℕ → List Step → ℕ
+summed f s [] = 0
+summed f s (opening o ∷ cs) = cond (eqb (answer (after s cs) o) 0) 0 (summed f s cs)
+summed f s (delivery link b ∷ cs) = summed f s cs
+summed f s (turn out ∷ cs) = f (turnOutcome (after s cs) (length out)) + summed f s cs
+summed f s (report ∷ cs) = summed f s cs
+
+-- messages, and bytes, of a session of n
+pub record Sends (n : ℕ) (s : List ℕ) (cs : List Step) : Type 0 where
+  pub messages : summed sentOne s cs ≤ 98 * n + 2
+  pub bytes : summed sentLength s cs ≤ 1968 * n + 32
+
+-- no calls make a concentrator send more
+unfoldable pub AtMostSent : Type 0
+AtMostSent =
+    (s : List ℕ) (o : Arguments) → answer s o ≡ 0 →
+    (cs : List Step) → Sends (current (settingsBy o) (openedBy s o) cs .n) (openedBy s o) cs

@@ -18,7 +18,7 @@ use Rattle.session.specs.Session.{stored}
 use Rattle.session.specs.declared.Session.{Session}
 use Rattle.session.specs.declared.Stored.{Stored}
 use Rattle.session.specs.declared.Stored.the-variants.{NoState, Held}
-use Rattle.wire.specs.Message.{encode, atFront}
+use Rattle.wire.specs.Message.{lengthOf, encode, atFront}
 use Rattle.wire.specs.declared.Message.the-variants as message
 use Rattle.turn.specs.Due.{due, commitDue}
 use Rattle.turn.specs.declared.Admitted.{Admitted}
@@ -43,6 +43,14 @@ outcomeOf own s (Start i b) = outcome.Sent (message.Est i 1 b)
 outcomeOf own s (Relay i r b) = outcome.Sent (message.Est i r b)
 outcomeOf own s (Aux i r b) = outcome.Sent (message.Aux i r b)
 outcomeOf own s (Move i r v) = moveOutcome s i r v
+
+-- the length of the message that is sent, in bytes; 0 where none is
+abbrev pub sentLength : Outcome → ℕ
+sentLength (outcome.Refused k) = 0
+sentLength outcome.Idle = 0
+sentLength (outcome.Sent m) = lengthOf m
+sentLength outcome.MovedOut = 0
+sentLength outcome.InForce = 0
 
 -- "The count stored and reported is the number of turns since opening that did not answer idle"
 unfoldable pub counted : List ℕ → List ℕ

@@ -1,0 +1,10 @@
+-- `at_most_sent` states the theorem of specs/Sent.antt.
+use Rattle.costliest.specs.Sent.{at-most-sent}
+use Rattle.costliest.proofs.at_most_sent.Statement.{statement}
+use Rattle.costliest.proofs.at_most_sent.Tie as tie
+
+returns : tie.Need-returns
+returns c = at-most-sent
+
+pub at-most-sent-spec : {M : Type 1} → statement M
+at-most-sent-spec = tie.close (tie.spec returns)
