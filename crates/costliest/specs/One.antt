@@ -41,7 +41,7 @@ use Rattle.turn.specs.Admitting.{admitted-settings}
 use Rattle.turn.specs.Laws.{Way, refused, taken, way}
 use Rattle.delivery.specs.Delivery.{delivered}
 use Rattle.turn_bound.specs.TurnBound.{Arguments, answer, openedBy, settingsBy, Step, opening, delivery, turn, report, after, acting, current}
-use Rattle.turn_bound.specs.Sums.{share-few}
+use Rattle.turn_bound.specs.Sums.{share-few, zero-count}
 use Rattle.turn_bound.specs.Potential.{instancePart, potential}
 use Rattle.turn_bound.specs.Sound.{Sound}
 use Rattle.turn_bound.specs.Delivering.{Delivered, delivery-sound}
@@ -152,14 +152,11 @@ only-alone g r e = same e (omega (arith, r .margin)) (omega (arith, r .margin))
     same a b c = λ i. record { n = a i; ta = b i; ts = c i }
 
 module _ (s : List ℕ) (q : Quiet s) where
-  no-marks : (k m : ℕ) → word s k ≡ 0 → count (mark (word s k)) m ≡ 0
-  no-marks k m e = total-none (λ p. 1) (mark (word s k)) m (λ p a b. ap (λ (w : ℕ). mark w p) e ∙ mark-zero p)
-
   part-few : instancePart s 1 ≤ 2
   unfolding instancePart
   part-few =
       let out : share (eqb (word s 24) 33) 1 ≡ 0 = rw (q .round) in
-      omega (arith, share-few (mark (word s 136) 1), share-few (mark (word s 137) 1), no-marks 40 64 (q .ests), no-marks 56 32 (q .auxs), out)
+      omega (arith, share-few (mark (word s 136) 1), share-few (mark (word s 137) 1), zero-count (word s 40) 64 (q .ests), zero-count (word s 56) 32 (q .auxs), out)
 
   quiet-potential : potential 1 s ≤ 5
   unfolding potential total

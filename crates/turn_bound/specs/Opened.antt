@@ -13,14 +13,14 @@ use Rattle.settings.specs.Laws.{Ruled, valid-rules}
 use Rattle.settings.specs.declared.Settings.{Settings}
 use Rattle.quorum.specs.Marks.{mark}
 use Rattle.quorum.specs.MarkLaws.{mark-zero}
-use Rattle.quorum.specs.Total.{total, count, everyone}
-use Rattle.quorum.specs.TotalLaws.{total-none}
+use Rattle.quorum.specs.Total.{total, everyone}
 use Rattle.records.specs.Layout.{turnsAt, flagsAt, roundAt, estSentAt, estSentMark, auxSentAt, commitCountAt}
 use Rattle.records.specs.Words.{word}
 use Rattle.session.specs.Session.{numbered, settingsOf}
 use Rattle.opening.specs.Opening.{openAnswer, openWords, opened}
 use Rattle.opening.specs.Cases.{Accepted, accepted}
 use Rattle.opening.specs.Laws.{length-first, first-n, first-ta, first-ts, first-own, first-turns, first-flags, first-zero}
+use Rattle.turn_bound.specs.Sums.{zero-count}
 use Rattle.turn_bound.specs.Potential.{instancePart, potential}
 use Rattle.turn_bound.specs.Sound.{Sound}
 
@@ -39,9 +39,6 @@ module _ (n ta ts own session input : ℕ) (coins : List ℕ) (few : n ≤ 16) w
   no-est : (j p : ℕ) → 1 ≤ j → j ≤ n → mark (word new (estSentAt j)) p ≡ true → ⊥
   no-est j p lo hi e = false≢true (sym (mark-zero p) ∙ ap (λ (x : ℕ). mark x p) (sym (new-zero (estSentAt j) (omega arith))) ∙ e)
 
-  no-marks : (k m : ℕ) → word new k ≡ 0 → count (mark (word new k)) m ≡ 0
-  no-marks k m e = total-none (λ p. 1) (mark (word new k)) m (λ p a b. ap (λ (w : ℕ). mark w p) e ∙ mark-zero p)
-
   part-zero : (i : ℕ) → 1 ≤ i → instancePart new i ≡ 0
   unfolding instancePart
   part-zero i lo =
@@ -49,8 +46,8 @@ module _ (n ta ts own session input : ℕ) (coins : List ℕ) (few : n ≤ 16) w
         new-zero 136 (omega arith),
         new-zero 137 (omega arith),
         mark-zero i,
-        no-marks (estSentAt i) 64 (new-zero (estSentAt i) (omega arith)),
-        no-marks (auxSentAt i) 32 (new-zero (auxSentAt i) (omega arith)),
+        zero-count (word new (estSentAt i)) 64 (new-zero (estSentAt i) (omega arith)),
+        zero-count (word new (auxSentAt i)) 32 (new-zero (auxSentAt i) (omega arith)),
         new-zero (roundAt i) (omega arith),
       )
 
@@ -61,7 +58,7 @@ module _ (n ta ts own session input : ℕ) (coins : List ℕ) (few : n ≤ 16) w
 
   new-potential : potential n new ≡ 0
   unfolding potential
-  new-potential = omega (arith, no-marks flagsAt 3 (first-flags n ta ts own session input coins), parts-zero n)
+  new-potential = omega (arith, zero-count (word new flagsAt) 3 (first-flags n ta ts own session input coins), parts-zero n)
 
   new-sound : 1 ≤ own → own ≤ n → Sound (record { n = n; ta = namedTa ta; ts = ts }) new
   new-sound low high =

@@ -9,7 +9,7 @@ use Rattle.settings.specs.Settings.{turnBound}
 use Rattle.settings.specs.Laws.{Ruled}
 use Rattle.settings.specs.Thresholds.{turn-bound-sum}
 use Rattle.settings.specs.declared.Settings.{Settings}
-use Rattle.records.specs.Layout.{nAt, taAt, tsAt, ownAt, turnsAt, roundAt, commitCountAt}
+use Rattle.records.specs.Layout.{nAt, ownAt, turnsAt, commitCountAt}
 use Rattle.records.specs.Words.{word}
 use Rattle.session.specs.Session.{settingsOf, isState}
 use Rattle.session.specs.Laws.{State, state-is}

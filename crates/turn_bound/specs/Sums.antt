@@ -8,7 +8,7 @@ use native.Mathlib.Decide.{ℕ-discrete}
 use lib.Dec.{eqb}
 use borrow.Author.Tests.{eqb-true, eq-eqb, ne-eqb}
 use Rattle.quorum.specs.Marks.{mark, withMark}
-use Rattle.quorum.specs.MarkLaws.{mark-came}
+use Rattle.quorum.specs.MarkLaws.{mark-zero, mark-came}
 use Rattle.quorum.specs.Total.{share, total, count, everyone}
 use Rattle.quorum.specs.TotalLaws.{Within, total-none}
 
@@ -59,6 +59,10 @@ pub count-rises : (M K : ℕ → Bool) (k p : ℕ) → 1 ≤ p → p ≤ k → W
 count-rises M K k p low high h e f =
     rw (count-sum M k, count-sum K k)
     (sum-rises (λ q. share (M q) 1) (λ q. share (K q) 1) k p low high (λ q a b. share-grows (M q) (K q) (h q a b)) (share-rises (M p) (K p) e f))
+
+-- a word of 0 has no mark
+pub zero-count : (w m : ℕ) → w ≡ 0 → count (mark w) m ≡ 0
+zero-count w m e = total-none (λ p. 1) (mark w) m (λ p a b. ap (λ (x : ℕ). mark x p) e ∙ mark-zero p)
 
 -- ---- by one
 
