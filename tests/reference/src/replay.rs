@@ -20,7 +20,8 @@ pub enum Mismatch {
     Answer(String),
 }
 
-/// The number of calls that gave the answers of their lines, or the first line, from 1, that did not.
+/// The number of calls that gave the answers of their lines, or the first line, from 1, that did not. A text without a
+/// call has none that did: its line 1 is missing.
 pub fn replay(text: &str) -> Result<u64, (u64, Mismatch)> {
     let mut session = None;
     let mut calls = 0;
@@ -44,6 +45,9 @@ pub fn replay(text: &str) -> Result<u64, (u64, Mismatch)> {
             Some(answer) if answer != given => return Err((calls, Mismatch::Answer(answer))),
             Some(_) => {}
         }
+    }
+    if calls == 0 {
+        return Err((1, Mismatch::Form));
     }
     Ok(calls)
 }
