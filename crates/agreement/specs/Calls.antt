@@ -8,6 +8,7 @@ use mathlib.Core.Path.{_≡_}
 use lib.Dec.{eqb}
 use lib.ListN.{length, take}
 use Rattle.settings.specs.Settings.{namedTa}
+use Rattle.quorum.specs.Whole.{wholeOf}
 use Rattle.settings.specs.declared.Settings.{Settings}
 use Rattle.quorum.specs.Marks.{mark}
 use Rattle.records.specs.Words.{word}
@@ -179,10 +180,12 @@ pub record Arguments : Type 0 where
   pub n : ℕ
   pub ta : ℕ
   pub ts : ℕ
+  pub weights : ℕ
   pub own : ℕ
   pub session : ℕ
   pub input : ℕ
   pub coins : List ℕ
+  pub weights-fit : weights < 2 ^ 64
   pub session-fits : session < 2 ^ 32
   pub input-fits : input < 2 ^ 64
   pub coins-fit : (i : ℕ) → word coins i < 2 ^ 32
@@ -195,7 +198,7 @@ pub record Agreed : Type 0 where
 
 abbrev pub agreed : Arguments → Agreed
 agreed o =
-    record { settings = record { n = o .n; ta = namedTa (o .ta); ts = o .ts }; number = o .session; coins = o .coins }
+    record { settings = record { n = o .n; ta = namedTa (o .ta); ts = o .ts; whole = wholeOf (o .weights) (o .n); weights = o .weights }; number = o .session; coins = o .coins }
 
 pub record Bytes : Type 0 where
   pub list : List ℕ
@@ -237,8 +240,8 @@ engine =
       session = agreed;
       settings = λ S. S .settings;
       coin = λ S i r. mark (coinWord (S .coins) i) r;
-      opens = λ w o. eqb (openAnswer (length w) (o .n) (o .ta) (o .ts) (o .own) (length (o .coins))) 0;
-      opened = λ w o. opening-words.opened w (o .n) (o .ta) (o .ts) (o .own) (o .session) (o .input) (o .coins);
+      opens = λ w o. eqb (openAnswer (length w) (o .n) (o .ta) (o .ts) (o .weights) (o .own) (length (o .coins))) 0;
+      opened = λ w o. opening-words.opened w (o .n) (o .ta) (o .ts) (o .weights) (o .own) (o .session) (o .input) (o .coins);
       Bytes = Bytes;
       accepts = λ w m b. eqb (deliverAnswer w m (b .list)) 0;
       delivered = λ w m b. delivery-words.delivered w m (b .list);

@@ -8,7 +8,7 @@ use lib.ListN.{length, drop}
 use Rattle.settings.specs.Laws.{Ruled}
 use Rattle.settings.specs.Settings.{namedTa}
 use Rattle.settings.specs.declared.Settings.{Settings}
-use Rattle.records.specs.Layout.{nAt, taAt, tsAt, ownAt, sessionAt, inputAt, coinAt}
+use Rattle.records.specs.Layout.{nAt, taAt, tsAt, ownAt, sessionAt, inputAt, weightsAt, coinAt}
 use Rattle.records.specs.Words.{word}
 use Rattle.records.specs.Records.{commitCount, commitSet}
 use Rattle.acts.specs.declared.Act as acts
@@ -39,6 +39,7 @@ pub record Belongs (o : Arguments) (w : List ℕ) : Type 0 where
   pub is-n : word w nAt ≡ o .n
   pub is-ta : word w taAt ≡ namedTa (o .ta)
   pub is-ts : word w tsAt ≡ o .ts
+  pub is-weights : word w weightsAt ≡ o .weights
   pub is-own : word w ownAt ≡ o .own
   pub is-session : word w sessionAt ≡ o .session
   pub is-input : word w inputAt ≡ o .input

@@ -10,10 +10,10 @@ use lib.Dec.{leb, eqb}
 use borrow.Author.Tests.{ne-eqb, lt-leb}
 use Rattle.settings.specs.Settings.{quorum, copy}
 use Rattle.settings.specs.declared.Settings.{Settings}
-use Rattle.settings.specs.Bools.{and-left}
+use Rattle.quorum.specs.Bools.{and-left}
 use Rattle.quorum.specs.Marks.{mark}
 use Rattle.quorum.specs.MarkLaws.{mark-digit}
-use Rattle.quorum.specs.Total.{count}
+use Rattle.quorum.specs.Weights.{weightOf, weigh}
 use Rattle.quorum.specs.TotalLaws.{total-mono, total-agree}
 use Rattle.quorum.specs.Lowest.{lowest, none-lowest, Passed, passed-found, passed-missing}
 use Rattle.records.specs.Words.{word, marked}
@@ -40,46 +40,46 @@ mark-left s k a v p left b e f =
 
 pub ruleset shifting = (marks-all, marks-next, mark-left)
 
-module _ (held : ℕ → Bool) (value : ℕ → ℕ) (n q : ℕ) where
-  pub leads-held : (p w c : ℕ) (b : Bool) → b ≡ held p → b ≡ true → w ≡ value p → c ≡ holders held value w n → leb q c ≡ leads held value n q p
+module _ (w : ℕ) (held : ℕ → Bool) (value : ℕ → ℕ) (n q : ℕ) where
+  pub leads-held : (p u c : ℕ) (b : Bool) → b ≡ held p → b ≡ true → u ≡ value p → c ≡ holders w held value u n → leb q c ≡ leads w held value n q p
   unfolding leads
-  leads-held p w c b e t s h = rw (← e, t, h, s)
+  leads-held p u c b e t s h = rw (← e, t, h, s)
 
-  pub leads-missing : (p : ℕ) (b : Bool) → b ≡ held p → b ≡ false → false ≡ leads held value n q p
+  pub leads-missing : (p : ℕ) (b : Bool) → b ≡ held p → b ≡ false → false ≡ leads w held value n q p
   unfolding leads
   leads-missing p b e t = rw (← e, t)
 
   -- the loop of `leading`
-  pub leading-found : (k w : ℕ) (b : Bool) → Passed (leads held value n q) n k → k < n → b ≡ leads held value n q (k + 1) → b ≡ true → w ≡ value (k + 1) → Value w ≡ leading held value n q
+  pub leading-found : (k u : ℕ) (b : Bool) → Passed (leads w held value n q) n k → k < n → b ≡ leads w held value n q (k + 1) → b ≡ true → u ≡ value (k + 1) → Value u ≡ leading w held value n q
   unfolding leading valueOf
-  leading-found k w b i l e t s =
-      let p : k + 1 ≡ lowest (leads held value n q) n = passed-found (leads held value n q) n k b i l e t in
+  leading-found k u b i l e t s =
+      let p : k + 1 ≡ lowest (leads w held value n q) n = passed-found (leads w held value n q) n k b i l e t in
       rw (← p, ne-eqb (k + 1) 0 (λ z. omega arith), s)
 
-  pub leading-missing : (k : ℕ) → Passed (leads held value n q) n k → n ≤ k → Nothing ≡ leading held value n q
+  pub leading-missing : (k : ℕ) → Passed (leads w held value n q) n k → n ≤ k → Nothing ≡ leading w held value n q
   unfolding leading valueOf
   leading-missing k i l =
-      let p : 0 ≡ lowest (leads held value n q) n = passed-missing (leads held value n q) n k i l in
+      let p : 0 ≡ lowest (leads w held value n q) n = passed-missing (leads w held value n q) n k i l in
       rw (← p)
 
   -- fewer than q hold anything
-  pub leading-few : (c : ℕ) → c ≡ count held n → c < q → Nothing ≡ leading held value n q
+  pub leading-few : (c : ℕ) → c ≡ weigh w held n → c < q → Nothing ≡ leading w held value n q
   unfolding leading valueOf leads holders
-  leading-few c e l = rw (none-lowest (leads held value n q) n none)
+  leading-few c e l = rw (none-lowest (leads w held value n q) n none)
     where
-      fewer : (v : ℕ) → count (λ p. held p && eqb (value p) v) n ≤ count held n
-      fewer v = total-mono (λ p. 1) (λ p. held p && eqb (value p) v) held n (λ p a b h. and-left (held p) (eqb (value p) v) h)
+      fewer : (v : ℕ) → weigh w (λ p. held p && eqb (value p) v) n ≤ weigh w held n
+      fewer v = total-mono (weightOf w) (λ p. held p && eqb (value p) v) held n (λ p a b h. and-left (held p) (eqb (value p) v) h)
 
-      none : (p : ℕ) → 1 ≤ p → p ≤ n → leads held value n q p ≡ false
-      none p a b = rw (lt-leb q (count (λ k. held k && eqb (value k) (value p)) n) (omega (arith, fewer (value p)))) (and-false (held p))
+      none : (p : ℕ) → 1 ≤ p → p ≤ n → leads w held value n q p ≡ false
+      none p a b = rw (lt-leb q (weigh w (λ k. held k && eqb (value k) (value p)) n) (omega (arith, fewer (value p)))) (and-false (held p))
 
 pub ruleset leaders = (leads-held, leads-missing)
 
 pub ruleset leading-ends = (leading-found, leading-missing)
 
-pub held-counted : (s : List ℕ) (k n w c : ℕ) → w ≡ word s k → c ≡ count (λ p. mark w (0 + p)) n → c ≡ heldCount s k n
+pub held-counted : (s : List ℕ) (k n x w c : ℕ) → x ≡ word s k → c ≡ weigh w (λ p. mark x (0 + p)) n → c ≡ heldCount w s k n
 unfolding heldCount marked
-held-counted s k n w c e f = f ∙ total-agree (λ p. 1) (λ p. mark w (0 + p)) (λ p. mark (word s k) p) n (λ p a b. rw (e, zero-add))
+held-counted s k n x w c e f = f ∙ total-agree (weightOf w) (λ p. mark x (0 + p)) (λ p. mark (word s k) p) n (λ p a b. rw (e, zero-add))
 
 module _ (s : List ℕ) (i : ℕ) where
   pub echo-was-sent : (a : Bool) → a ≡ echoSent s i → a ≡ true → Idle ≡ echoAct s i
@@ -97,11 +97,11 @@ module _ (s : List ℕ) (i : ℕ) where
 pub ruleset echo-cases = (echo-was-sent, echo-due, echo-not-due)
 
 module _ (g : Settings) (s : List ℕ) (i : ℕ) where
-  pub due-by-echoes : (o : Output) (q v : ℕ) → q ≡ quorum g → o ≡ leading (echoHeld s i) (echoValue s i) (g .n) q → o ≡ Value v → Value v ≡ readyDue g s i
+  pub due-by-echoes : (o : Output) (q v : ℕ) → q ≡ quorum g → o ≡ leading (g .weights) (echoHeld s i) (echoValue s i) (g .n) q → o ≡ Value v → Value v ≡ readyDue g s i
   unfolding readyDue
   due-by-echoes o q v e f h = rw (← e, ← f, h)
 
-  pub due-by-readies : (o r : Output) (q k : ℕ) → q ≡ quorum g → o ≡ leading (echoHeld s i) (echoValue s i) (g .n) q → o ≡ Nothing → k ≡ copy g → r ≡ leading (readyHeld s i) (readyValue s i) (g .n) k → r ≡ readyDue g s i
+  pub due-by-readies : (o r : Output) (q k : ℕ) → q ≡ quorum g → o ≡ leading (g .weights) (echoHeld s i) (echoValue s i) (g .n) q → o ≡ Nothing → k ≡ copy g → r ≡ leading (g .weights) (readyHeld s i) (readyValue s i) (g .n) k → r ≡ readyDue g s i
   unfolding readyDue
   due-by-readies o r q k e f h u w = rw (← e, ← f, h, ← u, ← w)
 

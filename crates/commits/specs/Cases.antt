@@ -6,8 +6,8 @@ use mathlib.Core.Path.{_≡_, sym, ap, _∙_}
 use native.Mathlib.Omega.{arith}
 use lib.Dec.{eqb, leb}
 use borrow.Author.Tests.{eq-eqb, ne-eqb, not-true, not-false, lt-leb}
-use Rattle.settings.specs.Bools.{and-left}
-use Rattle.quorum.specs.Total.{count}
+use Rattle.quorum.specs.Bools.{and-left}
+use Rattle.quorum.specs.Weights.{weightOf, weigh}
 use Rattle.quorum.specs.TotalLaws.{total-mono}
 use Rattle.quorum.specs.Lowest.{lowest, none-lowest}
 use Rattle.quorum.specs.Every.{every}
@@ -29,36 +29,36 @@ module _ (s : List ℕ) (p q : ℕ) where
   pub set-missing : (b : Bool) → b ≡ commitHeld s q → b ≡ false → false ≡ (commitHeld s q && sameSet s p q)
   set-missing b e t = rw (← e, t)
 
-pub holders-counted : (s : List ℕ) (n p c : ℕ) → c ≡ count (λ q. commitHeld s q && sameSet s p q) n → c ≡ setHolders s n p
+pub holders-counted : (w : ℕ) (s : List ℕ) (n p c : ℕ) → c ≡ weigh w (λ q. commitHeld s q && sameSet s p q) n → c ≡ setHolders w s n p
 unfolding setHolders
-holders-counted s n p c e = e
+holders-counted w s n p c e = e
 
-module _ (s : List ℕ) (n k p : ℕ) where
-  pub leads-compared : (b : Bool) (c : ℕ) → b ≡ commitHeld s p → b ≡ true → c ≡ setHolders s n p → leb k c ≡ setLeads s n k p
+module _ (w : ℕ) (s : List ℕ) (n k p : ℕ) where
+  pub leads-compared : (b : Bool) (c : ℕ) → b ≡ commitHeld s p → b ≡ true → c ≡ setHolders w s n p → leb k c ≡ setLeads w s n k p
   unfolding setLeads
   leads-compared b c e t f = rw (← e, t, ← f)
 
-  pub leads-missing : (b : Bool) → b ≡ commitHeld s p → b ≡ false → false ≡ setLeads s n k p
+  pub leads-missing : (b : Bool) → b ≡ commitHeld s p → b ≡ false → false ≡ setLeads w s n k p
   unfolding setLeads
   leads-missing b e t = rw (← e, t)
 
-pub leader-found : (s : List ℕ) (n k p : ℕ) → p ≡ lowest (λ q. setLeads s n k q) n → p ≡ setLeader s n k
+pub leader-found : (w : ℕ) (s : List ℕ) (n k p : ℕ) → p ≡ lowest (λ q. setLeads w s n k q) n → p ≡ setLeader w s n k
 unfolding setLeader
-leader-found s n k p e = e
+leader-found w s n k p e = e
 
-pub commits-counted : (s : List ℕ) (n c : ℕ) → c ≡ count (λ p. commitHeld s p) n → c ≡ commitsHeld s n
+pub commits-counted : (w : ℕ) (s : List ℕ) (n c : ℕ) → c ≡ weigh w (λ p. commitHeld s p) n → c ≡ commitsHeld w s n
 unfolding commitsHeld
-commits-counted s n c e = e
+commits-counted w s n c e = e
 
 -- fewer than k COMMITs are held
-pub leader-none : (s : List ℕ) (n k c : ℕ) → c ≡ commitsHeld s n → c < k → 0 ≡ setLeader s n k
+pub leader-none : (w : ℕ) (s : List ℕ) (n k c : ℕ) → c ≡ commitsHeld w s n → c < k → 0 ≡ setLeader w s n k
 unfolding commitsHeld setLeader setLeads setHolders
-leader-none s n k c e l = sym (none-lowest (setLeads s n k) n none)
+leader-none w s n k c e l = sym (none-lowest (setLeads w s n k) n none)
   where
-    fewer : (p : ℕ) → count (λ q. commitHeld s q && sameSet s p q) n ≤ count (λ q. commitHeld s q) n
-    fewer p = total-mono (λ q. 1) (λ q. commitHeld s q && sameSet s p q) (λ q. commitHeld s q) n (λ q a b h. and-left (commitHeld s q) (sameSet s p q) h)
+    fewer : (p : ℕ) → weigh w (λ q. commitHeld s q && sameSet s p q) n ≤ weigh w (λ q. commitHeld s q) n
+    fewer p = total-mono (weightOf w) (λ q. commitHeld s q && sameSet s p q) (λ q. commitHeld s q) n (λ q a b h. and-left (commitHeld s q) (sameSet s p q) h)
 
-    none : (p : ℕ) → 1 ≤ p → p ≤ n → setLeads s n k p ≡ false
-    none p a b = rw (lt-leb k (count (λ q. commitHeld s q && sameSet s p q) n) (omega (arith, fewer p))) (and-false (commitHeld s p))
+    none : (p : ℕ) → 1 ≤ p → p ≤ n → setLeads w s n k p ≡ false
+    none p a b = rw (lt-leb k (weigh w (λ q. commitHeld s q && sameSet s p q) n) (omega (arith, fewer p))) (and-false (commitHeld s p))
 
 pub ruleset commit-cases = (counts-differ, sets-compared, set-compared, set-missing, holders-counted, leads-compared, leads-missing, leader-found, commits-counted, leader-none)

@@ -49,50 +49,56 @@ fn holds_set(s: &[u64], p: u8, q: u8) -> bool
 }
 
 // How many of the senders 1 to n hold the set of sender p.
-fn set_holders(s: &[u64], n: u8, p: u8) -> u64
-    ensures { λ r. ⌜ r ≡ setHolders (now (s .entry)) n p ⌝ }
+fn set_holders(s: &[u64], weights: u64, n: u8, p: u8) -> u64
+    ensures { λ r. ⌜ r ≡ setHolders weights (now (s .entry)) n p ⌝ }
 {
     let mut c: u64 = 0;
     let mut q: u8 = 0;
     while q < n {
         q += 1;
-        c += holds_set(s, p, q) as u64;
+        let there = holds_set(s, p, q);
+        let x = quorum::weight_of(weights, q);
+        let y = quorum::share(there, x);
+        c += y;
     }
     c
 }
 
 // Whether sender p holds a set that k of the senders 1 to n hold.
-fn set_leads(s: &[u64], n: u8, k: u64, p: u8) -> bool
-    ensures { λ r. ⌜ r ≡ setLeads (now (s .entry)) n k p ⌝ }
+fn set_leads(s: &[u64], weights: u64, n: u8, k: u64, p: u8) -> bool
+    ensures { λ r. ⌜ r ≡ setLeads weights (now (s .entry)) n k p ⌝ }
 {
     if commit_held(s, p) {
-        k <= set_holders(s, n, p)
+        k <= set_holders(s, weights, n, p)
     } else {
         false
     }
 }
 
 // How many of the senders 1 to n have a COMMIT held.
-fn commits_held(s: &[u64], n: u8) -> u64
-    ensures { λ r. ⌜ r ≡ commitsHeld (now (s .entry)) n ⌝ }
+fn commits_held(s: &[u64], weights: u64, n: u8) -> u64
+    ensures { λ r. ⌜ r ≡ commitsHeld weights (now (s .entry)) n ⌝ }
 {
     let mut c: u64 = 0;
     let mut p: u8 = 0;
     while p < n {
         p += 1;
-        c += commit_held(s, p) as u64;
+        let there = commit_held(s, p);
+        let x = quorum::weight_of(weights, p);
+        let y = quorum::share(there, x);
+        c += y;
     }
     c
 }
 
 // The lowest sender with a set that k of the senders 1 to n hold, and 0 if there is none. The senders are looked at one by one.
-fn leader_of(s: &[u64], n: u8, k: u64) -> u8
-    ensures { λ r. ⌜ r ≡ setLeader (now (s .entry)) n k ⌝ }
+fn leader_of(s: &[u64], weights: u64, n: u8, k: u64) -> u8
+    ensures { λ r. ⌜ r ≡ setLeader weights (now (s .entry)) n k ⌝ }
 {
     let mut p: u8 = 0;
     while p < n {
         p += 1;
-        if set_leads(s, n, k, p) {
+        if set_leads(s, weights, n, k, p) {
             return p;
         }
     }
@@ -100,11 +106,11 @@ fn leader_of(s: &[u64], n: u8, k: u64) -> u8
 }
 
 // The same; where fewer than k COMMITs are held, no set is looked at.
-pub fn set_leader(s: &[u64], n: u8, k: u64) -> u8
-    ensures { λ r. ⌜ r ≡ setLeader (now (s .entry)) n k ⌝ }
+pub fn set_leader(s: &[u64], weights: u64, n: u8, k: u64) -> u8
+    ensures { λ r. ⌜ r ≡ setLeader weights (now (s .entry)) n k ⌝ }
 {
-    if commits_held(s, n) < k {
+    if commits_held(s, weights, n) < k {
         return 0;
     }
-    leader_of(s, n, k)
+    leader_of(s, weights, n, k)
 }

@@ -1,5 +1,5 @@
 -- The settings and calls of the costliest session of n concentrators (request N13). The newest call stands first.
-use Prim.Native.Nat.{ℕ, zero, suc, _+_, _*_, _-_}
+use Prim.Native.Nat.{ℕ, zero, suc, _+_, _*_, _-_, _^_}
 use mathlib.Core.Bool.{cond}
 use mathlib.Core.List.{List, [], _∷_}
 use lib.Dec.{eqb}
@@ -16,7 +16,7 @@ coinWords (suc n) = 0 ∷ coinWords n
 
 -- the opening: ta = ts = 0, own number 1
 unfoldable pub opens : ℕ → Arguments
-opens n = record { n = n; ta = 0; ts = 0; own = 1; session = 7; input = 5; coins = coinWords n }
+opens n = record { n = n; ta = 0; ts = 0; weights = 2 ^ n - 1; own = 1; session = 7; input = 5; coins = coinWords n }
 
 -- f 1 to f n, one after another, after the calls cs
 unfoldable pub each : (ℕ → List Step → List Step) → ℕ → List Step → List Step

@@ -9,7 +9,7 @@ use lib.ListN.{length, take, drop}
 use lib.Seq.{getD-take, getD-drop, length-take-le}
 use lib.Dec.{eqb, leb, ltb}
 use borrow.Author.Tests.{le-leb, leb-true, eq-eqb, eqb-true}
-use Rattle.settings.specs.Bools.{and-left, and-right}
+use Rattle.quorum.specs.Bools.{and-left, and-right}
 use Rattle.settings.specs.Settings.{namedTa}
 use Rattle.quorum.specs.Marks.{mark}
 use Rattle.records.specs.Layout.{nAt, turnsAt}

@@ -5,6 +5,8 @@ use mathlib.Core.List.{List, [], _∷_}
 use mathlib.Core.Path.{_≡_, refl}
 use Rattle.settings.specs.Settings.{quorum, voteQuorum}
 use Rattle.quorum.specs.Total.{total}
+use Rattle.quorum.specs.Marks.{mark}
+use Rattle.quorum.specs.Weights.{weightOf}
 use Rattle.quorum.specs.Lowest.{lowest}
 use Rattle.quorum.specs.Every.{every}
 use Rattle.broadcasts.specs.declared.Output.{Output}
@@ -39,7 +41,7 @@ pub record Row : Type 0 where
 answers : List Row → List Exit
 answers [] = []
 answers (r ∷ rs) =
-    exitOf (record { n = 4; ta = 1; ts = 1 }) (at Nothing (r .broadcasts)) (λ i. is0 (at undecided (r .votes) i)) (λ i. is1 (at undecided (r .votes) i))
+    exitOf (record { n = 4; ta = 1; ts = 1; whole = 4; weights = 15 }) (at Nothing (r .broadcasts)) (λ i. is0 (at undecided (r .votes) i)) (λ i. is1 (at undecided (r .votes) i))
     ∷ answers rs
 
 row : Output → Output → Output → Output → Decision → Decision → Decision → Decision → Row
@@ -79,5 +81,5 @@ table-holds :
     ∷ exit 0 []
     ∷ exit 3 (5 ∷ 6 ∷ [])
     ∷ []
-unfolding answers row table v no exit at is0 is1 exitOf withOutput sizeS exit1At votesDone exit2At exit3Full insert insertOutput outputsOfS noExit exit3 naming lowest every total quorum voteQuorum
+unfolding answers row table v no exit at is0 is1 exitOf withOutput sizeS exit1At votesDone exit2At exit3Full insert insertOutput outputsOfS noExit exit3 naming lowest every total weightOf mark quorum voteQuorum
 table-holds = refl

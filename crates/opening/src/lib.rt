@@ -11,10 +11,10 @@ ghost use Rattle.records.specs.Fill.{blank};
 ghost use Rattle.opening.specs.Opening.{openAnswer, coinWord, withSettings, withCoins, opened};
 
 // Whether the three numbers are settings of a session.
-fn settings_valid(n: u64, ta: u64, ts: u64) -> bool
-    ensures { λ r. ⌜ r ≡ validSettings n ta ts ⌝ }
+fn settings_valid(n: u64, ta: u64, ts: u64, weights: u64) -> bool
+    ensures { λ r. ⌜ r ≡ validSettings n ta ts weights ⌝ }
 {
-    let c = Settings::check(n, ta, ts);
+    let c = Settings::check(n, ta, ts, weights);
     match c {
         Checked::Valid(_) => true,
         Checked::Invalid => false,
@@ -22,13 +22,13 @@ fn settings_valid(n: u64, ta: u64, ts: u64) -> bool
 }
 
 // The answer: 0, or the number of the refusal.
-fn open_answer(words: usize, n: u64, ta: u64, ts: u64, own: u64, coins: usize) -> u64
-    ensures { λ r. ⌜ r ≡ openAnswer words n ta ts own coins ⌝ }
+fn open_answer(words: usize, n: u64, ta: u64, ts: u64, weights: u64, own: u64, coins: usize) -> u64
+    ensures { λ r. ⌜ r ≡ openAnswer words n ta ts weights own coins ⌝ }
 {
     if words != layout::STATE_WORDS {
         return refusal::NO_STATE;
     }
-    if !settings_valid(n, Settings::named_ta(ta), ts) {
+    if !settings_valid(n, Settings::named_ta(ta), ts, weights) {
         return refusal::SETTINGS;
     }
     if !session::numbered(n, own) {
@@ -51,8 +51,8 @@ fn clear(s: &mut [u64])
     }
 }
 
-fn put_settings(s: &mut [u64], n: u64, ta: u64, ts: u64, own: u64, session: u32, input: u64)
-    ensures { λ _. ⌜ now (s .exit) ≡ withSettings (now (s .entry)) n ta ts own session input ⌝ }
+fn put_settings(s: &mut [u64], n: u64, ta: u64, ts: u64, weights: u64, own: u64, session: u32, input: u64)
+    ensures { λ _. ⌜ now (s .exit) ≡ withSettings (now (s .entry)) n ta ts weights own session input ⌝ }
 {
     records::put(s, layout::N, n);
     records::put(s, layout::TA, ta);
@@ -60,6 +60,7 @@ fn put_settings(s: &mut [u64], n: u64, ta: u64, ts: u64, own: u64, session: u32,
     records::put(s, layout::OWN, own);
     records::put(s, layout::SESSION, session as u64);
     records::put(s, layout::INPUT, input);
+    records::put(s, layout::WEIGHTS, weights);
 }
 
 fn wide(x: u32) -> u64
@@ -95,18 +96,19 @@ pub fn open(
     n: u64,
     ta: u64,
     ts: u64,
+    weights: u64,
     own: u64,
     session: u32,
     input: u64,
     coins: &[u32],
 ) -> u64
-    ensures answer { λ r. ⌜ r ≡ openAnswer (length (now (state .entry))) n ta ts own (length (now (coins .entry))) ⌝ }
-    ensures words { λ _. ⌜ now (state .exit) ≡ opened (now (state .entry)) n ta ts own session input (now (coins .entry)) ⌝ }
+    ensures answer { λ r. ⌜ r ≡ openAnswer (length (now (state .entry))) n ta ts weights own (length (now (coins .entry))) ⌝ }
+    ensures words { λ _. ⌜ now (state .exit) ≡ opened (now (state .entry)) n ta ts weights own session input (now (coins .entry)) ⌝ }
 {
-    let answer = open_answer(state.len(), n, ta, ts, own, coins.len());
+    let answer = open_answer(state.len(), n, ta, ts, weights, own, coins.len());
     if answer == 0 {
         clear(state);
-        put_settings(state, n, Settings::named_ta(ta), ts, own, session, input);
+        put_settings(state, n, Settings::named_ta(ta), ts, weights, own, session, input);
         put_coins(state, coins, n as u8);
     }
     answer

@@ -1,3 +1,4 @@
+pub mod Bools
 pub mod Marks
 pub mod MarkLaws
 pub mod Total
@@ -6,3 +7,6 @@ pub mod Counting
 pub mod Lowest
 pub mod Every
 pub mod Ones
+pub mod Weights
+pub mod Whole
+pub mod Packed

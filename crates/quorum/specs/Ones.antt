@@ -22,12 +22,12 @@ share-digit (suc zero) h = refl
 share-digit (suc (suc d)) h = absurd (omega arith)
 
 -- one digit more
-ones-more : (x n : ℕ) → ones (x % 2 ^ suc n) ≡ ones (x / 2 ^ n % 2) + ones (x % 2 ^ n)
+pub ones-more : (x n : ℕ) → ones (x % 2 ^ suc n) ≡ ones (x / 2 ^ n % 2) + ones (x % 2 ^ n)
 ones-more x n =
     rw (pow-succ' 2 n, mod-mul x {m = 2} {c = 2 ^ n} (omega arith) (pow-pos n))
     (ones-cat n (x / 2 ^ n % 2) (x % 2 ^ n) (mod-lt x (pow-pos n)))
 
-mark-part : (w base n : ℕ) → mark w (base + suc n) ≡ eqb (w / 2 ^ base / 2 ^ n % 2) 1
+pub mark-part : (w base n : ℕ) → mark w (base + suc n) ≡ eqb (w / 2 ^ base / 2 ^ n % 2) 1
 mark-part w base n =
     let e : base + suc n - 1 ≡ base + n = omega arith in
     mark-digit w (base + suc n) (omega arith) ∙ rw (e, shr-shr w base n)
@@ -42,7 +42,7 @@ count-ones w base (suc n) =
     ∙ sym (ones-more (w / 2 ^ base) n)
 
 -- the paths of `count_marks`, for n up to 63
-machine-power : (n : ℕ) → n ≤ 63 → (1 * 2 ^ n) % 2 ^ 64 ≡ 2 ^ n
+pub machine-power : (n : ℕ) → n ≤ 63 → (1 * 2 ^ n) % 2 ^ 64 ≡ 2 ^ n
 machine-power n h = let l : n < 64 = omega arith in rw (one-mul, mod-eq-of-lt (pow-lt l))
 
 pub divisor-some : (n : ℕ) → n ≤ 63 → 0 < (1 * 2 ^ n) % 2 ^ 64

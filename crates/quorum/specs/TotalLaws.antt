@@ -1,6 +1,6 @@
 -- Weighted sets of the numbers 1 to k, and where they meet. Thresholds are sums: "a weight of at least N − s" is N ≤ weight + s.
 use Prim.Native.Nat.{ℕ, zero, suc, _+_, _≤_, _<_}
-use mathlib.Core.Path.{_≡_, refl, sym}
+use mathlib.Core.Path.{_≡_, refl, sym, ap}
 use mathlib.Core.Bool.{Bool, true, false, not, _&&_, false≢true}
 use native.Mathlib.Omega.{arith}
 use native.Mathlib.Decide.{decLe}
@@ -8,7 +8,7 @@ use mathlib.Core.Logic.{_≢_}
 use native.Mathlib.Numerals.{add-one}
 use lib.Dec.{eqb}
 use borrow.Author.Tests.{eqb-true, eqb-false}
-use Rattle.settings.specs.Bools.{and-left, and-right}
+use Rattle.quorum.specs.Bools.{and-left, and-right}
 use Rattle.quorum.specs.Total.{share, total, count, everyone}
 
 -- a number of 1 to k that is in M
@@ -219,3 +219,17 @@ count-all M k p e a b = go (M p) refl
 
 pub all-count : (M : ℕ → Bool) (k : ℕ) → ((p : ℕ) → 1 ≤ p → p ≤ k → M p ≡ true) → count M k ≡ k
 all-count M k f = omega (arith, total-agree (λ p. 1) M everyone k f, count-everyone k)
+
+-- a set with no member among 1 to k weighs no more than those above k
+pub total-above : (w : ℕ → ℕ) (M : ℕ → Bool) (k n : ℕ) → k ≤ n → ((p : ℕ) → 1 ≤ p → p ≤ k → M p ≡ false) → total w M n + total w everyone k ≤ total w everyone n
+unfolding total
+total-above w M k zero h f = let e : k ≡ 0 = omega arith in rw e (omega arith)
+total-above w M k (suc n) h f = go (decLe k n) (λ l. total-above w M k n l f)
+  where
+    share-whole : (b : Bool) (x : ℕ) → share b x ≤ x
+    share-whole true x = omega arith
+    share-whole false x = omega arith
+
+    go : Dec (k ≤ n) → (k ≤ n → total w M n + total w everyone k ≤ total w everyone n) → total w M (suc n) + total w everyone k ≤ total w everyone (suc n)
+    go (yes l) r = omega (arith, r l, share-whole (M (suc n)) (w (suc n)))
+    go (no l) r = let e : k ≡ suc n = omega arith in omega (arith, total-none w M (suc n) (λ p a b. f p a (omega arith)), ap (total w everyone) e)

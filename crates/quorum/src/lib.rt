@@ -2,7 +2,9 @@
 ghost use mathlib.Core.Path.{_≡_};
 ghost use Prim.Native.Nat.{_+_};
 ghost use Rattle.quorum.specs.Marks.{mark, withMark};
-ghost use Rattle.quorum.specs.Total.{count};
+ghost use Rattle.quorum.specs.Total.{share, count};
+ghost use Rattle.quorum.specs.Weights.{weightOf, weigh};
+ghost use Rattle.quorum.specs.Whole.{wholeOf, weightRight, weightsRight};
 
 // Whether mark p of a word is set.
 pub fn mark(w: u64, p: u64) -> bool
@@ -61,4 +63,86 @@ pub fn count_marks(w: u64, base: u16, n: u8) -> u64
         return part;
     }
     u64::count_ones(part) as u64
+}
+
+// x where b, else 0.
+pub fn share(b: bool, x: u64) -> u64
+    ensures { λ r. ⌜ r ≡ share b x ⌝ }
+{
+    if b { x } else { 0 }
+}
+
+// The weight of p.
+pub fn weight_of(weights: u64, p: u8) -> u64
+    ensures { λ r. ⌜ r ≡ weightOf weights p ⌝ }
+{
+    let one = mark(weights, p as u64);
+    let two = mark(weights, 16 + p as u64);
+    let four = mark(weights, 32 + p as u64);
+    one as u64 + 2 * two as u64 + 4 * four as u64
+}
+
+// The weight of the senders 1 to n that have the mark `base` above their number, one by one.
+fn weigh_each(w: u64, base: u16, n: u8, weights: u64) -> u64
+    ensures { λ r. ⌜ r ≡ weigh weights (λ p. mark w (base + p)) n ⌝ }
+{
+    let mut c: u64 = 0;
+    let mut p: u8 = 0;
+    while p < n {
+        p += 1;
+        let there = mark(w, base as u64 + p as u64);
+        let x = weight_of(weights, p);
+        let y = share(there, x);
+        c += y;
+    }
+    c
+}
+
+// The weight of the senders 1 to n that have the mark `base` above their number.
+pub fn weigh_marks(w: u64, base: u16, n: u8, weights: u64) -> u64
+    ensures { λ r. ⌜ r ≡ weigh weights (λ p. mark w (base + p)) n ⌝ }
+{
+    if 63 < base {
+        return weigh_each(w, base, n, weights);
+    }
+    if 63 < n {
+        return weigh_each(w, base, n, weights);
+    }
+    let part = (w >> base) % (1 << n);
+    let ones = u64::count_ones(part & weights) as u64;
+    let twos = u64::count_ones(part & (weights >> 16)) as u64;
+    let fours = u64::count_ones(part & (weights >> 32)) as u64;
+    ones + 2 * twos + 4 * fours
+}
+
+// The weight of 1 to n.
+pub fn whole(weights: u64, n: u8) -> u64
+    ensures { λ r. ⌜ r ≡ wholeOf weights n ⌝ }
+{
+    let ones = count_marks(weights, 0, n);
+    let twos = count_marks(weights, 16, n);
+    let fours = count_marks(weights, 32, n);
+    ones + 2 * twos + 4 * fours
+}
+
+// Whether p weighs 1 to 4.
+fn weight_right(weights: u64, p: u8) -> bool
+    ensures { λ r. ⌜ r ≡ weightRight weights p ⌝ }
+{
+    let x = weight_of(weights, p);
+    (1 <= x) & (x <= 4)
+}
+
+// Whether each of 1 to n weighs 1 to 4.
+pub fn weights_right(weights: u64, n: u8) -> bool
+    ensures { λ r. ⌜ r ≡ weightsRight weights n ⌝ }
+{
+    let mut p: u8 = 0;
+    while p < n {
+        p += 1;
+        if !weight_right(weights, p) {
+            return false;
+        }
+    }
+    true
 }

@@ -98,6 +98,7 @@ pub fn state_of(s: &[u64]) -> Stored
         records::word(s, layout::N),
         records::word(s, layout::TA),
         records::word(s, layout::TS),
+        records::word(s, layout::WEIGHTS),
     );
     match c {
         Checked::Invalid => Stored::NoState,

@@ -11,6 +11,8 @@ pub struct Settings {
     pub n: u8,
     pub ta: u8,
     pub ts: u8,
+    pub whole: u8,
+    pub weights: u64,
 }
 
 pub enum Checked {
@@ -39,8 +41,8 @@ impl Settings {
     }
 
     // The settings of any three numbers, ta already read by `named_ta`.
-    pub fn check(n: u64, ta: u64, ts: u64) -> Checked
-        ensures { λ r. ⌜ r ≡ checkSettings n ta ts ⌝ }
+    pub fn check(n: u64, ta: u64, ts: u64, weights: u64) -> Checked
+        ensures { λ r. ⌜ r ≡ checkSettings n ta ts weights ⌝ }
     {
         if n < 1 {
             return Checked::Invalid;
@@ -48,20 +50,27 @@ impl Settings {
         if 16 < n {
             return Checked::Invalid;
         }
+        let m = n as u8;
+        if !quorum::weights_right(weights, m) {
+            return Checked::Invalid;
+        }
         if ts < ta {
             return Checked::Invalid;
         }
+        let w = quorum::whole(weights, m);
         // Follows from the last test, which could wrap without it.
-        if n <= ts {
+        if w <= ts {
             return Checked::Invalid;
         }
-        if n <= 2 * ts + ta {
+        if w <= 2 * ts + ta {
             return Checked::Invalid;
         }
         Checked::Valid(Settings {
-            n: n as u8,
+            n: m,
             ta: ta as u8,
             ts: ts as u8,
+            whole: w as u8,
+            weights,
         })
     }
 
@@ -69,7 +78,7 @@ impl Settings {
     pub fn quorum(self) -> u64
         ensures { λ r. ⌜ r ≡ quorum self ⌝ }
     {
-        difference(self.n, self.ts)
+        difference(self.whole, self.ts)
     }
 
     // ts + 1: a READY or a COMMIT that is repeated.
@@ -83,7 +92,7 @@ impl Settings {
     pub fn vote_quorum(self) -> u64
         ensures { λ r. ⌜ r ≡ voteQuorum self ⌝ }
     {
-        difference(self.n, self.ta)
+        difference(self.whole, self.ta)
     }
 
     // ta + 1: an EST that is relayed.

@@ -17,7 +17,7 @@ ghost use Rattle.turn.specs.Choosing.{Readable, Chosen, lastRules, later
 fn in_force_rule(s: &[u64], g: Settings) -> Act
     ensures { λ r. ⌜ r ≡ inForceRule g (now (s .entry)) ⌝ }
 {
-    if commits::set_leader(s, g.n, g.quorum()) == 0 {
+    if commits::set_leader(s, g.weights, g.n, g.quorum()) == 0 {
         return Act::Idle;
     }
     Act::InForce
@@ -26,9 +26,9 @@ fn in_force_rule(s: &[u64], g: Settings) -> Act
 // The COMMIT of a set that ts + 1 senders hold, with the set beside it.
 fn repeated_commit(s: &[u64], g: Settings, set: &mut [u64; 16]) -> Act
     requires { ⌜ Readable g (now s) (now set) ⌝ }
-    ensures { λ r. ⌜ Chosen (commitOf (leadingSet (now (s .entry)) (g .n) (copy g))) (leadingSet (now (s .entry)) (g .n) (copy g)) r (now (set .exit)) ⌝ }
+    ensures { λ r. ⌜ Chosen (commitOf (leadingSet (g .weights) (now (s .entry)) (g .n) (copy g))) (leadingSet (g .weights) (now (s .entry)) (g .n) (copy g)) r (now (set .exit)) ⌝ }
 {
-    let p = commits::set_leader(s, g.n, g.copy());
+    let p = commits::set_leader(s, g.weights, g.n, g.copy());
     if p == 0 {
         return Act::Idle;
     }

@@ -9,7 +9,7 @@ use borrow.Author.Tests.{le-leb, lt-leb, eq-eqb, ne-eqb}
 use Rattle.settings.specs.Settings.{voteQuorum, relay, roundLimit}
 use Rattle.settings.specs.declared.Settings.{Settings}
 use Rattle.quorum.specs.Marks.{mark}
-use Rattle.quorum.specs.Total.{count}
+use Rattle.quorum.specs.Weights.{weightOf, weigh}
 use Rattle.quorum.specs.TotalLaws.{total-agree, total-none}
 use Rattle.records.specs.Layout.{voteAt, decidedOneAt}
 use Rattle.records.specs.Words.{word, marked}
@@ -23,23 +23,23 @@ use Rattle.votes.specs.Votes.{estCount, auxCount, votesDecidedOne, start
 use Rattle.votes.specs.Votes.{carries, carriers, view, moveValue, moveAct, roundAct, voteAct, coinValue, decides}
 
 -- the marks counted of a word that was read
-read-counted : (w v base n c : ℕ) → w ≡ v → c ≡ count (λ p. mark w (base + p)) n → c ≡ count (λ p. mark v (base + p)) n
-read-counted w v base n c e h = h ∙ ap (λ (x : ℕ). count (λ p. mark x (base + p)) n) e
+read-counted : (w v base n c ws : ℕ) → w ≡ v → c ≡ weigh ws (λ p. mark w (base + p)) n → c ≡ weigh ws (λ p. mark v (base + p)) n
+read-counted w v base n c ws e h = h ∙ ap (λ (x : ℕ). weigh ws (λ p. mark x (base + p)) n) e
 
 module _ (g : Settings) (s : List ℕ) where
   module _ (i r b w c : ℕ) (e : w ≡ word s (voteAt i r)) where
-    pub est-counted : c ≡ count (λ p. mark w (16 * b + p)) (g .n) → c ≡ estCount g s i r b
+    pub est-counted : c ≡ weigh (g .weights) (λ p. mark w (16 * b + p)) (g .n) → c ≡ estCount g s i r b
     unfolding estCount estHeld marked
-    est-counted h = read-counted w (word s (voteAt i r)) (16 * b) (g .n) c e h
+    est-counted h = read-counted w (word s (voteAt i r)) (16 * b) (g .n) c (g .weights) e h
 
-    pub aux-counted : c ≡ count (λ p. mark w (32 + 16 * b + p)) (g .n) → c ≡ auxCount g s i r b
+    pub aux-counted : c ≡ weigh (g .weights) (λ p. mark w (32 + 16 * b + p)) (g .n) → c ≡ auxCount g s i r b
     unfolding auxCount auxHeld marked
-    aux-counted h = read-counted w (word s (voteAt i r)) (32 + 16 * b) (g .n) c e h
+    aux-counted h = read-counted w (word s (voteAt i r)) (32 + 16 * b) (g .n) c (g .weights) e h
 
-  pub ones-counted : (w c : ℕ) → w ≡ word s decidedOneAt → c ≡ count (λ p. mark w (0 + p)) (g .n) → c ≡ votesDecidedOne g s
+  pub ones-counted : (w c : ℕ) → w ≡ word s decidedOneAt → c ≡ weigh (g .weights) (λ p. mark w (0 + p)) (g .n) → c ≡ votesDecidedOne g s
   unfolding votesDecidedOne decidedOne marked
   ones-counted w c e h =
-      h ∙ total-agree (λ p. 1) (λ p. mark w (0 + p)) (decidedOne s) (g .n) (λ p a b. let z : 0 + p ≡ p = omega arith in rw (e, z))
+      h ∙ total-agree (weightOf (g .weights)) (λ p. mark w (0 + p)) (decidedOne s) (g .n) (λ p a b. let z : 0 + p ≡ p = omega arith in rw (e, z))
 
 -- a first act that is due, and a second after a first that is not
 pub due-first : (a b x : Act) (t : Bool) → x ≡ a → t ≡ isDue x → t ≡ true → x ≡ orAct a b
@@ -140,7 +140,7 @@ carries-read s i r p w a0 a1 m0 m1 e z o = rw (z, o, e)
 module _ (g : Settings) (s : List ℕ) (i r : ℕ) (a0 a1 : Bool) where
   pub only-zero : (c : ℕ) → a0 && a1 ≡ false → a0 ≡ true → c ≡ auxCount g s i r 0 → c ≡ carriers g s i r a0 a1
   unfolding carriers carries auxCount
-  only-zero c e t h = rw (t, none a0 a1 e t) (h ∙ total-agree (λ p. 1) (auxHeld s i r 0) (λ p. auxHeld s i r 0 p || false) (g .n) (λ p a b. sym (or-false (auxHeld s i r 0 p))))
+  only-zero c e t h = rw (t, none a0 a1 e t) (h ∙ total-agree (weightOf (g .weights)) (auxHeld s i r 0) (λ p. auxHeld s i r 0 p || false) (g .n) (λ p a b. sym (or-false (auxHeld s i r 0 p))))
     where
       none : (x y : Bool) → x && y ≡ false → x ≡ true → y ≡ false
       none true y f t = f
@@ -152,7 +152,7 @@ module _ (g : Settings) (s : List ℕ) (i r : ℕ) (a0 a1 : Bool) where
 
   pub none-accepted : a0 ≡ false → a1 ≡ false → 0 ≡ carriers g s i r a0 a1
   unfolding carriers carries
-  none-accepted e f = rw (e, f) (sym (total-none (λ p. 1) (λ p. false) (g .n) (λ p a b. refl)))
+  none-accepted e f = rw (e, f) (sym (total-none (weightOf (g .weights)) (λ p. false) (g .n) (λ p a b. refl)))
 
 pub ruleset carried = (only-zero, only-one, none-accepted)
 

@@ -6,7 +6,7 @@ use lib.Dec.{eqb, leb, ltb}
 use Rattle.settings.specs.Settings.{voteQuorum, relay, accept, roundLimit}
 use Rattle.settings.specs.declared.Settings.{Settings}
 use Rattle.quorum.specs.Marks.{mark}
-use Rattle.quorum.specs.Total.{count}
+use Rattle.quorum.specs.Weights.{weigh}
 use Rattle.records.specs.Records.{estHeld, auxHeld, round, estSent, auxSent, decidedOne}
 use Rattle.acts.specs.Acts.{orAct, firstAct}
 use Rattle.acts.specs.declared.Act.{Act}
@@ -16,7 +16,7 @@ use Rattle.acts.specs.declared.View.the-variants.{Only, Both}
 
 -- how many senders' ESTs of b are held in round r of vote i
 unfoldable pub estCount : Settings → List ℕ → ℕ → ℕ → ℕ → ℕ
-estCount g s i r b = count (estHeld s i r b) (g .n)
+estCount g s i r b = weigh (g .weights) (estHeld s i r b) (g .n)
 
 -- "A value is accepted in a round when 2·ta+1 senders' ESTs hold it."
 unfoldable pub accepted : Settings → List ℕ → ℕ → ℕ → ℕ → Bool
@@ -24,7 +24,7 @@ accepted g s i r b = leb (accept g) (estCount g s i r b)
 
 -- "s counts votes decided 1"
 unfoldable pub votesDecidedOne : Settings → List ℕ → ℕ
-votesDecidedOne g s = count (decidedOne s) (g .n)
+votesDecidedOne g s = weigh (g .weights) (decidedOne s) (g .n)
 
 -- "Vote i starts with 1 if broadcast i has output, else with 0 once s ≥ n−ta"; its round is 0 before
 unfoldable pub startAct : Settings → List ℕ → Bool → ℕ → ℕ → Act
@@ -63,11 +63,11 @@ carries s i r a0 a1 p = (a0 && auxHeld s i r 0 p) || (a1 && auxHeld s i r 1 p)
 
 -- how many held AUXs carry accepted values
 unfoldable pub carriers : Settings → List ℕ → ℕ → ℕ → Bool → Bool → ℕ
-carriers g s i r a0 a1 = count (carries s i r a0 a1) (g .n)
+carriers g s i r a0 a1 = weigh (g .weights) (carries s i r a0 a1) (g .n)
 
 -- how many held AUXs carry b
 unfoldable pub auxCount : Settings → List ℕ → ℕ → ℕ → ℕ → ℕ
-auxCount g s i r b = count (auxHeld s i r b) (g .n)
+auxCount g s i r b = weigh (g .weights) (auxHeld s i r b) (g .n)
 
 -- "If those carry just one value b .. If they carry both": z and o tell whether 0 and 1 are carried
 abbrev pub viewOf : Bool → Bool → View

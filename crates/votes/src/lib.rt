@@ -20,14 +20,14 @@ const GROUP: u16 = 16;
 fn est_count(s: &[u64], g: Settings, i: u8, r: u8, b: u8) -> u64
     ensures { λ c. ⌜ c ≡ estCount g (now (s .entry)) i r b ⌝ }
 {
-    quorum::count_marks(records::votes(s, i, r), GROUP * b as u16, g.n)
+    quorum::weigh_marks(records::votes(s, i, r), GROUP * b as u16, g.n, g.weights)
 }
 
 // How many held AUXs carry b.
 fn aux_count(s: &[u64], g: Settings, i: u8, r: u8, b: u8) -> u64
     ensures { λ c. ⌜ c ≡ auxCount g (now (s .entry)) i r b ⌝ }
 {
-    quorum::count_marks(records::votes(s, i, r), AUX_ZERO + GROUP * b as u16, g.n)
+    quorum::weigh_marks(records::votes(s, i, r), AUX_ZERO + GROUP * b as u16, g.n, g.weights)
 }
 
 // Whether 2·ta + 1 senders' ESTs hold b in round r of vote i.
@@ -41,7 +41,7 @@ pub fn accepted(s: &[u64], g: Settings, i: u8, r: u8, b: u8) -> bool
 pub fn votes_decided_one(s: &[u64], g: Settings) -> u64
     ensures { λ c. ⌜ c ≡ votesDecidedOne g (now (s .entry)) ⌝ }
 {
-    quorum::count_marks(records::word(s, layout::DECIDED_ONE), 0, g.n)
+    quorum::weigh_marks(records::word(s, layout::DECIDED_ONE), 0, g.n, g.weights)
 }
 
 // The start of vote i, where it is due: `output` tells whether broadcast i has output, `ones` counts the votes decided 1.
@@ -150,11 +150,15 @@ fn carriers_each(s: &[u64], g: Settings, i: u8, r: u8, a0: bool, a1: bool) -> u6
     ensures { λ c. ⌜ c ≡ carriers g (now (s .entry)) i r a0 a1 ⌝ }
 {
     let n = g.n;
+    let weights = g.weights;
     let mut c: u64 = 0;
     let mut p: u8 = 0;
     while p < n {
         p += 1;
-        c += carries(s, i, r, a0, a1, p) as u64;
+        let there = carries(s, i, r, a0, a1, p);
+        let x = quorum::weight_of(weights, p);
+        let y = quorum::share(there, x);
+        c += y;
     }
     c
 }

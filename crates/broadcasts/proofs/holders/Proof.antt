@@ -3,7 +3,7 @@ use Prim.Native.Nat.{_+_, _-_, _/_, _^_}
 use mathlib.Core.Bool.{_&&_}
 use mathlib.Core.Path.{_≡_}
 use lib.Dec.{eqb}
-use Rattle.quorum.specs.Counting.{Counting, counting}
+use Rattle.quorum.specs.Weights.{Weighing, weighing}
 use Rattle.records.specs.Words.{word, marked}
 use Rattle.broadcasts.specs.Leading.{holders}
 use Rattle.broadcasts.specs.Cases.{shifting}
@@ -12,16 +12,16 @@ use Rattle.broadcasts.proofs.holders.Statement.{statement}
 use Rattle.broadcasts.proofs.holders.Tie as tie
 
 abbrev Inv-loop : tie.InvT-loop
-Inv-loop s marks values v n left₀ c₀ p₀ left c p = Counting (λ q. marked s marks q && eqb (word s (values + q)) v) n p c × (left ≡ word s marks / 2 ^ p)
+Inv-loop s marks values v n weights left₀ c₀ p₀ left c p = Weighing weights (λ q. marked s marks q && eqb (word s (values + q)) v) n p c × (left ≡ word s marks / 2 ^ p)
 
 abbrev μ-loop : tie.MeasureT-loop
-μ-loop s marks values v n left₀ c₀ p₀ left c p = n - p
+μ-loop s marks values v n weights left₀ c₀ p₀ left c p = n - p
 
 word-requires : tie.Need-word-requires Inv-loop μ-loop
 word-requires c κs = search needs
 
 loop-holds : tie.Need-loop-holds Inv-loop μ-loop
-loop-holds c = (search counting, search shifting)
+loop-holds c = (search weighing, search shifting)
 
 add-p : tie.Need-add-p Inv-loop μ-loop
 add-p c = search needs
@@ -35,21 +35,24 @@ add-holds c = search needs
 holds-requires : tie.Need-holds-requires Inv-loop μ-loop
 holds-requires c κs = search needs
 
-cast-c : tie.Need-cast-c Inv-loop μ-loop
-cast-c c = search needs
+weight-of-requires : tie.Need-weight-of-requires Inv-loop μ-loop
+weight-of-requires c κs = search needs
+
+share-requires : tie.Need-share-requires Inv-loop μ-loop
+share-requires c κs = search needs
 
 add-c : tie.Need-add-c Inv-loop μ-loop
-add-c c = search counting
+add-c c = search weighing
 
 loop-less : tie.Need-loop-less Inv-loop μ-loop
 loop-less c = search needs
 
 loop-again : tie.Need-loop-again Inv-loop μ-loop
-loop-again c = (search (counting, shifting), search shifting)
+loop-again c = (search (weighing, shifting), search shifting)
 
 returns : tie.Need-returns Inv-loop μ-loop
 unfolding holders
-returns c = search counting
+returns c = search weighing
 
 pub holders-spec : {M : Type 1} → statement M
 holders-spec =
@@ -63,7 +66,8 @@ holders-spec =
     cast-holds
     add-holds
     holds-requires
-    cast-c
+    weight-of-requires
+    share-requires
     add-c
     loop-less
     loop-again
