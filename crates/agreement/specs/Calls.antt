@@ -15,7 +15,8 @@ use Rattle.records.specs.Words.{word}
 use Rattle.wire.specs.Message.{lengthOf}
 use Rattle.wire.specs.declared.Message as wire
 use Rattle.wire_laws.specs.Proper.{AllBytes}
-use Rattle.opening.specs.Opening.{openAnswer, coinWord}
+use Rattle.opening.specs.Opening.{openAnswer}
+use Rattle.opening.specs.Given.{item}
 use Rattle.opening.specs.Opening as opening-words
 use Rattle.delivery.specs.Delivery.{deliverAnswer}
 use Rattle.delivery.specs.Delivery as delivery-words
@@ -239,7 +240,7 @@ engine =
       Session = Agreed;
       session = agreed;
       settings = λ S. S .settings;
-      coin = λ S i r. mark (coinWord (S .coins) i) r;
+      coin = λ S i r. mark (item (S .coins) i) r;
       opens = λ w o. eqb (openAnswer (length w) (o .n) (o .ta) (o .ts) (o .weights) (o .own) (length (o .coins))) 0;
       opened = λ w o. opening-words.opened w (o .n) (o .ta) (o .ts) (o .weights) (o .own) (o .session) (o .input) (o .coins);
       Bytes = Bytes;

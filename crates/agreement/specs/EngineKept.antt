@@ -20,7 +20,7 @@ use Rattle.votes.specs.Votes.{estimate}
 use Rattle.turn.specs.Turn.{counted, entered, decidedAs, newDecision, moveDecided, moved, applied}
 use Rattle.turn.specs.Turn as turn
 use Rattle.turn.specs.Told.{ActTold}
-use Rattle.turn.specs.Frame.{Placed, told-placed, setting, coins, length-applied, applied-kept}
+use Rattle.turn.specs.Frame.{Placed, told-placed, setting, coins, beyond, length-applied, applied-kept}
 use Rattle.agreement.specs.Calls.{Arguments}
 use Rattle.agreement.specs.EngineReading.{Belongs}
 

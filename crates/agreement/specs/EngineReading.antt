@@ -19,7 +19,7 @@ use Rattle.wire.specs.Reading.{readMessage}
 use Rattle.wire.specs.declared.Message as wire
 use Rattle.wire.specs.declared.Message.the-variants as message
 use Rattle.wire.specs.declared.Parsed.the-variants.{Taken}
-use Rattle.opening.specs.Opening.{coinWord}
+use Rattle.opening.specs.Given.{item}
 use Rattle.turn.specs.Due.{due, commitDue}
 use Rattle.turn.specs.Turn.{admits}
 use Rattle.turn.specs.declared.Admitted.{Admitted}
@@ -43,7 +43,7 @@ pub record Belongs (o : Arguments) (w : List ℕ) : Type 0 where
   pub is-own : word w ownAt ≡ o .own
   pub is-session : word w sessionAt ≡ o .session
   pub is-input : word w inputAt ≡ o .input
-  pub is-coin : (i : ℕ) → 1 ≤ i → i ≤ o .n → word w (coinAt i) ≡ coinWord (o .coins) i
+  pub is-coin : (i : ℕ) → 1 ≤ i → i ≤ o .n → word w (coinAt i) ≡ item (o .coins) i
   pub fits : (j : ℕ) → word w j < 2 ^ 64
 
 -- the COMMITs that are held are as messages have them

@@ -8,7 +8,8 @@ use lib.ListN.{length, drop}
 use Rattle.records.specs.Layout.{stateWords, coinAt}
 use Rattle.records.specs.Words.{length-put}
 use Rattle.records.specs.Fill.{length-blank, length-storeOf}
-use Rattle.opening.specs.Opening.{openAnswer, openWords, opened, withSettings, withCoins, coinWord}
+use Rattle.opening.specs.Opening.{openAnswer, openWords, opened, withSettings, withCoins}
+use Rattle.opening.specs.Given.{item}
 use Rattle.delivery.specs.Delivery.{verdict, wordsAfter, delivered}
 use Rattle.delivery.specs.Frame.{length-recorded}
 use Rattle.delivery.specs.declared.Verdict.{Verdict}
@@ -23,7 +24,7 @@ use Rattle.agreement.specs.Calls.{Call, opening, delivery, turn, report, engine
 length-openWords : (n ta ts own session input : ℕ) (coins : List ℕ) → length (openWords n ta ts own session input coins) ≡ stateWords
 unfolding openWords withCoins withSettings
 length-openWords n ta ts own session input coins =
-    length-storeOf (coinWord coins) (coinAt 0) _ n ∙ simp (length-put, length-blank)
+    length-storeOf (item coins) (coinAt 0) _ n ∙ simp (length-put, length-blank)
 
 length-opened : (s : List ℕ) (n ta ts own session input : ℕ) (coins : List ℕ) → length s ≡ stateWords → length (opened s n ta ts own session input coins) ≡ stateWords
 unfolding opened

@@ -16,7 +16,8 @@ use Rattle.records.specs.Layout.{nAt, turnsAt}
 use Rattle.records.specs.Words.{word, length-put, word-put-same, word-put-other}
 use Rattle.records.specs.Fill.{blank, length-blank, word-blank, length-storeOf, store-other}
 use Rattle.session.specs.Session.{numbered}
-use Rattle.opening.specs.Opening.{openAnswer, coinWord, withSettings, withCoins, openWords, opened}
+use Rattle.opening.specs.Opening.{openAnswer, withSettings, withCoins, openWords, opened}
+use Rattle.opening.specs.Given.{item}
 use Rattle.opening.specs.Cases.{accepted}
 use Rattle.drill_lines.specs.Automaton as lines
 use Rattle.drill_lines.specs.declared.Line.{Line}
@@ -50,7 +51,7 @@ module _ (n ta ts own session input : ℕ) (coins : List ℕ) where
 
   new-word : (k : ℕ) → k ≤ 6 → word (openWords n ta ts own session input coins) k ≡ word (withSettings (blank 2048) n (namedTa ta) ts own session input) k
   unfolding openWords withCoins
-  new-word k l = store-other (coinWord coins) 7 (withSettings (blank 2048) n (namedTa ta) ts own session input) n k (λ j lo hi e. omega arith)
+  new-word k l = store-other (item coins) 7 (withSettings (blank 2048) n (namedTa ta) ts own session input) n k (λ j lo hi e. omega arith)
 
   new-n : word (openWords n ta ts own session input coins) nAt ≡ n
   unfolding withSettings

@@ -18,7 +18,8 @@ use Rattle.settings.specs.declared.Checked.the-variants.{Valid, Invalid}
 use Rattle.records.specs.Words.{word, put, word-within, word-past-end}
 use Rattle.records.specs.Fill.{blank, storeOf}
 use Rattle.session.specs.Session.{numbered}
-use Rattle.opening.specs.Opening.{openAnswer, coinWord, withSettings, withCoins, openWords, opened}
+use Rattle.opening.specs.Opening.{openAnswer, withSettings, withCoins, openWords, opened}
+use Rattle.opening.specs.Given.{item, weightsWord}
 
 pub is-valid : (n ta ts w : ℕ) (c : Checked) (g : Settings) → c ≡ checkSettings n ta ts w → c ≡ Valid g → true ≡ validSettings n ta ts w
 is-valid n ta ts w c g e f = sym (check-taken n ta ts w g (sym e ∙ f) .valid)
@@ -75,20 +76,20 @@ accepted-few words n ta ts w own coins a e z =
     let k = valid-rules n (namedTa ta) ts w (accepted words n ta ts w own coins (sym e ∙ z) .valid) in
     record { fits = omega (arith, k .few) }
 
-pub coin-none : (coins : List ℕ) (i : ℕ) → i < 1 → 0 ≡ coinWord coins i
-unfolding coinWord
+pub coin-none : (coins : List ℕ) (i : ℕ) → i < 1 → 0 ≡ item coins i
+unfolding item
 coin-none coins i h = rw (eq-eqb i 0 (omega arith))
 
 module _ (coins : List ℕ) (i : ℕ) (lo : 1 ≤ i) where
-  pub coin-within : (w : ℕ) → w ≡ getD coins (i - 1) 0 → w ≡ coinWord coins i
-  unfolding coinWord
+  pub coin-within : (w : ℕ) → w ≡ getD coins (i - 1) 0 → w ≡ item coins i
+  unfolding item
   coin-within w e = rw (ne-eqb i 0 (λ z. omega arith)) (e ∙ word-within coins (i - 1))
 
-  pub coin-past-end : length coins ≤ i - 1 → 0 ≡ coinWord coins i
-  unfolding coinWord
+  pub coin-past-end : length coins ≤ i - 1 → 0 ≡ item coins i
+  unfolding item
   coin-past-end h = rw (ne-eqb i 0 (λ z. omega arith)) (word-past-end coins (i - 1) h)
 
-pub coins-stored : (s t coins : List ℕ) (n : ℕ) → t ≡ storeOf (λ i. coinWord coins i) 7 s n → t ≡ withCoins s coins n
+pub coins-stored : (s t coins : List ℕ) (n : ℕ) → t ≡ storeOf (λ i. item coins i) 7 s n → t ≡ withCoins s coins n
 unfolding withCoins
 coins-stored s t coins n e = e
 
@@ -102,4 +103,11 @@ module _ (s coins : List ℕ) (n ta ts w own session input a : ℕ) (e : a ≡ o
   unfolding opened
   open-refused z = rw (← e, ne-eqb a 0 z)
 
-pub ruleset open-cases = (is-valid, is-invalid, answer-words, answer-settings, answer-own, answer-coins, answer-accepted, accepted-few, coin-none, coin-within, coin-past-end, coins-stored, open-done, open-refused)
+-- the word of the weights that are given, in place of the word
+pub given-answer : (words n ta ts w own coins a : ℕ) (ws : List ℕ) → w ≡ weightsWord n ws → a ≡ openAnswer words n ta ts w own coins → a ≡ openAnswer words n ta ts (weightsWord n ws) own coins
+given-answer words n ta ts w own coins a ws e f = f ∙ ap (λ (x : ℕ). openAnswer words n ta ts x own coins) e
+
+pub given-words : (s t coins : List ℕ) (n ta ts w own session input : ℕ) (ws : List ℕ) → w ≡ weightsWord n ws → t ≡ opened s n ta ts w own session input coins → t ≡ opened s n ta ts (weightsWord n ws) own session input coins
+given-words s t coins n ta ts w own session input ws e f = f ∙ ap (λ (x : ℕ). opened s n ta ts x own session input coins) e
+
+pub ruleset open-cases = (is-valid, is-invalid, answer-words, answer-settings, answer-own, answer-coins, answer-accepted, accepted-few, coin-none, coin-within, coin-past-end, coins-stored, open-done, open-refused, given-answer, given-words)

@@ -12,7 +12,8 @@ use Rattle.records.specs.Bounds.{Fit, fit-put, fit-storeOf, fit-blank}
 use Rattle.records.specs.Fill.{blank, length-blank, word-blank, length-storeOf, store-other, store-same}
 use Rattle.records.specs.Layout.{stateWords, nAt, taAt, tsAt, ownAt, sessionAt, inputAt, weightsAt, turnsAt, flagsAt, coinAt}
 use Rattle.records.specs.Words.{word, length-put, word-put-same, word-put-other, word-past-end}
-use Rattle.opening.specs.Opening.{coinWord, withSettings, withCoins, openWords}
+use Rattle.opening.specs.Opening.{withSettings, withCoins, openWords}
+use Rattle.opening.specs.Given.{item}
 
 module _ (s : List ℕ) (n ta ts w own session input : ℕ) where
   abbrev settled : List ℕ
@@ -89,8 +90,8 @@ module _ (s : List ℕ) (n ta ts w own session input : ℕ) where
     settled-input = word-put-other _ weightsAt w inputAt (λ z. omega arith) ∙ word-put-same _ inputAt input (simp length-put (omega arith))
 
 -- coin words of 32 bits
-pub coin-below : (coins : List ℕ) (i : ℕ) → ((j : ℕ) → word coins j < 2 ^ 32) → coinWord coins i < 2 ^ 64
-unfolding coinWord
+pub coin-below : (coins : List ℕ) (i : ℕ) → ((j : ℕ) → word coins j < 2 ^ 32) → item coins i < 2 ^ 64
+unfolding item
 coin-below coins i h = go (eqb i 0) (word coins (i - 1)) (h (i - 1))
   where
     go : (b : Bool) (x : ℕ) → x < 2 ^ 32 → cond b 0 x < 2 ^ 64
@@ -110,12 +111,12 @@ module _ (n ta ts w own session input : ℕ) (coins : List ℕ) where
 
   pub length-first : length first ≡ 2048
   unfolding openWords withCoins
-  length-first = length-storeOf (coinWord coins) (coinAt 0) base n ∙ length-settled (blank stateWords) n (namedTa ta) ts w own session input ∙ length-blank stateWords
+  length-first = length-storeOf (item coins) (coinAt 0) base n ∙ length-settled (blank stateWords) n (namedTa ta) ts w own session input ∙ length-blank stateWords
 
   -- no coin word stands at a
   first-base : (a : ℕ) → ((j : ℕ) → 1 ≤ j → j ≤ n → a ≡ coinAt 0 + j → ⊥) → word first a ≡ word base a
   unfolding openWords withCoins
-  first-base a h = store-other (coinWord coins) (coinAt 0) base n a h
+  first-base a h = store-other (item coins) (coinAt 0) base n a h
 
   pub first-n : word first nAt ≡ n
   first-n = first-base nAt (λ j lo hi z. omega arith) ∙ settled-n (blank stateWords) n (namedTa ta) ts w own session input room
@@ -148,10 +149,10 @@ module _ (n ta ts w own session input : ℕ) (coins : List ℕ) where
       ∙ word-blank stateWords flagsAt (omega arith)
 
   module _ (few : n ≤ 16) where
-    pub first-coin : (i : ℕ) → 1 ≤ i → i ≤ n → word first (coinAt i) ≡ coinWord coins i
+    pub first-coin : (i : ℕ) → 1 ≤ i → i ≤ n → word first (coinAt i) ≡ item coins i
     unfolding openWords withCoins
     first-coin i lo hi =
-        store-same (coinWord coins) (coinAt 0) base n i lo hi
+        store-same (item coins) (coinAt 0) base n i lo hi
         (omega (arith, length-settled (blank stateWords) n (namedTa ta) ts w own session input, length-blank stateWords))
 
     pub first-weights : word first weightsAt ≡ w
@@ -166,9 +167,9 @@ module _ (n ta ts w own session input : ℕ) (coins : List ℕ) where
         empty (yes l) = word-blank stateWords a l
         empty (no l) = sym (word-past-end (blank stateWords) a (rw length-blank (omega arith)))
 
-  pub fit-first : n < 2 ^ 64 → namedTa ta < 2 ^ 64 → ts < 2 ^ 64 → own < 2 ^ 64 → session < 2 ^ 64 → input < 2 ^ 64 → w < 2 ^ 64 → ((i : ℕ) → coinWord coins i < 2 ^ 64) → Fit first
+  pub fit-first : n < 2 ^ 64 → namedTa ta < 2 ^ 64 → ts < 2 ^ 64 → own < 2 ^ 64 → session < 2 ^ 64 → input < 2 ^ 64 → w < 2 ^ 64 → ((i : ℕ) → item coins i < 2 ^ 64) → Fit first
   unfolding openWords withCoins
   fit-first a b c d e g v h =
-      fit-storeOf (coinWord coins) (coinAt 0) base n
+      fit-storeOf (item coins) (coinAt 0) base n
       (fit-settled (blank stateWords) n (namedTa ta) ts w own session input (fit-blank stateWords) a b c d e g v)
       (λ k lo hi. h k)

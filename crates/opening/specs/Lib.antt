@@ -1,3 +1,5 @@
+pub mod Given
 pub mod Opening
+pub mod GivenCases
 pub mod Cases
 pub mod Laws

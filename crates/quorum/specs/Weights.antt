@@ -83,7 +83,6 @@ weigh-ones x w i n =
     let at : (j : ℕ) → count (λ p. mark x (i + p) && mark w (j + p)) n ≡ ones (bitAnd (x / 2 ^ i % 2 ^ n) (w / 2 ^ j)) = λ j. count-and x w i j n ∙ sym (ap ones (and-low (x / 2 ^ i) (w / 2 ^ j) n)) in
     omega (arith, weigh-counts w (λ p. mark x (i + p)) n, at 0, at 16, at 32)
 
-
 -- ---- the code
 
 pub weight-le : (w p : ℕ) → weightOf w p ≤ 7

@@ -73,7 +73,7 @@ module _ (n ta ts w own session input : ℕ) (coins : List ℕ) (few : n ≤ 16)
             record {
               rounds = λ j lo hi. omega (arith, new-zero (roundAt j) (omega arith) (λ z. omega arith));
               reached = λ j r b lo hi rl rh bb e. absurd (no-est j (estSentMark r b) lo hi e);
-              passed = λ j r lo hi l e. absurd (omega (arith, new-zero (roundAt j) (omega arith)));
+              passed = λ j r lo hi l e. absurd (omega (arith, new-zero (roundAt j) (omega arith) (λ z. omega arith)));
             };
         turns = first-turns n ta ts w own session input coins ∙ sym new-potential;
       }

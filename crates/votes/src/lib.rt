@@ -27,7 +27,12 @@ fn est_count(s: &[u64], g: Settings, i: u8, r: u8, b: u8) -> u64
 fn aux_count(s: &[u64], g: Settings, i: u8, r: u8, b: u8) -> u64
     ensures { λ c. ⌜ c ≡ auxCount g (now (s .entry)) i r b ⌝ }
 {
-    quorum::weigh_marks(records::votes(s, i, r), AUX_ZERO + GROUP * b as u16, g.n, g.weights)
+    quorum::weigh_marks(
+        records::votes(s, i, r),
+        AUX_ZERO + GROUP * b as u16,
+        g.n,
+        g.weights,
+    )
 }
 
 // Whether 2·ta + 1 senders' ESTs hold b in round r of vote i.
