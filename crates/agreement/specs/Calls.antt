@@ -16,7 +16,7 @@ use Rattle.wire.specs.Message.{lengthOf}
 use Rattle.wire.specs.declared.Message as wire
 use Rattle.wire_laws.specs.Proper.{AllBytes}
 use Rattle.opening.specs.Opening.{openAnswer}
-use Rattle.opening.specs.Given.{item}
+use Rattle.opening.specs.Given.{item, weightsWord}
 use Rattle.opening.specs.Opening as opening-words
 use Rattle.delivery.specs.Delivery.{deliverAnswer}
 use Rattle.delivery.specs.Delivery as delivery-words
@@ -181,17 +181,20 @@ pub record Arguments : Type 0 where
   pub n : ℕ
   pub ta : ℕ
   pub ts : ℕ
-  pub weights : ℕ
   pub own : ℕ
   pub session : ℕ
   pub input : ℕ
   pub coins : List ℕ
-  pub weights-fit : weights < 2 ^ 64
+  pub weights : List ℕ
   pub session-fits : session < 2 ^ 32
   pub input-fits : input < 2 ^ 64
   pub coins-fit : (i : ℕ) → word coins i < 2 ^ 32
 
--- "All these openings agree in n, ts, session number, coin words, and ta once 255 is read."
+-- the weights as one word
+abbrev pub weightsOf : Arguments → ℕ
+weightsOf o = weightsWord (o .n) (o .weights)
+
+-- "All these openings agree in n, ts, session number, coin words, and ta once 255 is read"; the weights are "compared like them" (N11)
 pub record Agreed : Type 0 where
   pub settings : Settings
   pub number : ℕ
@@ -199,7 +202,11 @@ pub record Agreed : Type 0 where
 
 abbrev pub agreed : Arguments → Agreed
 agreed o =
-    record { settings = record { n = o .n; ta = namedTa (o .ta); ts = o .ts; whole = wholeOf (o .weights) (o .n); weights = o .weights }; number = o .session; coins = o .coins }
+    record {
+      settings = record { n = o .n; ta = namedTa (o .ta); ts = o .ts; whole = wholeOf (weightsOf o) (o .n); weights = weightsOf o };
+      number = o .session;
+      coins = o .coins;
+    }
 
 pub record Bytes : Type 0 where
   pub list : List ℕ
@@ -241,8 +248,8 @@ engine =
       session = agreed;
       settings = λ S. S .settings;
       coin = λ S i r. mark (item (S .coins) i) r;
-      opens = λ w o. eqb (openAnswer (length w) (o .n) (o .ta) (o .ts) (o .weights) (o .own) (length (o .coins))) 0;
-      opened = λ w o. opening-words.opened w (o .n) (o .ta) (o .ts) (o .weights) (o .own) (o .session) (o .input) (o .coins);
+      opens = λ w o. eqb (openAnswer (length w) (o .n) (o .ta) (o .ts) (weightsOf o) (o .own) (length (o .coins))) 0;
+      opened = λ w o. opening-words.opened w (o .n) (o .ta) (o .ts) (weightsOf o) (o .own) (o .session) (o .input) (o .coins);
       Bytes = Bytes;
       accepts = λ w m b. eqb (deliverAnswer w m (b .list)) 0;
       delivered = λ w m b. delivery-words.delivered w m (b .list);

@@ -20,25 +20,26 @@ use Rattle.commits.specs.Commits.{commitHeld}
 use Rattle.session.specs.Session.{numbered}
 use Rattle.wire.specs.Bytes.{rises}
 use Rattle.opening.specs.Cases.{Accepted, accepted}
+use Rattle.opening.specs.GivenLaws.{weights-fit}
 use Rattle.opening.specs.Laws.{coin-below, length-first, first-n, first-ta, first-ts, first-own, first-session, first-input, first-coin, first-weights, first-zero, fit-first}
 use Rattle.opening.specs.Opening.{openWords, opened}
 use Rattle.agreement.specs.History.{Decision, zero, one}
 use Rattle.held.specs.Held.{Message, SEND, ECHO, READY, EST, AUX, COMMIT, holds}
 use Rattle.agreement.specs.Runs.{Blank}
-use Rattle.agreement.specs.Calls.{Arguments, agreed, engine}
+use Rattle.agreement.specs.Calls.{Arguments, weightsOf, agreed, engine}
 use Rattle.agreement.specs.Laws.{at}
 use Rattle.agreement.specs.EngineSeen.{engineSeen}
 use Rattle.agreement.specs.EngineReading.{Belongs, Sets, Belonging, engineReading}
 
 -- the words after an accepted opening
 abbrev first : Arguments → List ℕ
-first o = openWords (o .n) (o .ta) (o .ts) (o .weights) (o .own) (o .session) (o .input) (o .coins)
+first o = openWords (o .n) (o .ta) (o .ts) (weightsOf o) (o .own) (o .session) (o .input) (o .coins)
 
 -- ---- what an accepted opening tells
 
 module _ (w : List ℕ) (o : Arguments) (e : engine .opens w o ≡ true) where
-  told : Accepted (length w) (o .n) (o .ta) (o .ts) (o .weights) (o .own) (length (o .coins))
-  told = accepted (length w) (o .n) (o .ta) (o .ts) (o .weights) (o .own) (length (o .coins)) (eqb-true _ 0 e)
+  told : Accepted (length w) (o .n) (o .ta) (o .ts) (weightsOf o) (o .own) (length (o .coins))
+  told = accepted (length w) (o .n) (o .ta) (o .ts) (weightsOf o) (o .own) (length (o .coins)) (eqb-true _ 0 e)
 
   own-within : (1 ≤ o .own) × (o .own ≤ o .n)
   unfolding numbered
@@ -52,7 +53,7 @@ module _ (w : List ℕ) (o : Arguments) (e : engine .opens w o ≡ true) where
   opened-first = rw e
 
   pub open-ruled : Ruled (agreed o .settings)
-  open-ruled = valid-rules (o .n) (namedTa (o .ta)) (o .ts) (o .weights) (told .valid)
+  open-ruled = valid-rules (o .n) (namedTa (o .ta)) (o .ts) (weightsOf o) (told .valid)
 
 -- ---- the words of a new state
 
@@ -62,30 +63,30 @@ first-belongs o r lo hi =
       ruled = r;
       own-low = lo;
       own-high = hi;
-      size = length-first (o .n) (o .ta) (o .ts) (o .weights) (o .own) (o .session) (o .input) (o .coins);
-      is-n = first-n (o .n) (o .ta) (o .ts) (o .weights) (o .own) (o .session) (o .input) (o .coins);
-      is-ta = first-ta (o .n) (o .ta) (o .ts) (o .weights) (o .own) (o .session) (o .input) (o .coins);
-      is-ts = first-ts (o .n) (o .ta) (o .ts) (o .weights) (o .own) (o .session) (o .input) (o .coins);
-      is-weights = first-weights (o .n) (o .ta) (o .ts) (o .weights) (o .own) (o .session) (o .input) (o .coins) (r .few);
-      is-own = first-own (o .n) (o .ta) (o .ts) (o .weights) (o .own) (o .session) (o .input) (o .coins);
-      is-session = first-session (o .n) (o .ta) (o .ts) (o .weights) (o .own) (o .session) (o .input) (o .coins);
-      is-input = first-input (o .n) (o .ta) (o .ts) (o .weights) (o .own) (o .session) (o .input) (o .coins);
-      is-coin = first-coin (o .n) (o .ta) (o .ts) (o .weights) (o .own) (o .session) (o .input) (o .coins) (r .few);
+      size = length-first (o .n) (o .ta) (o .ts) (weightsOf o) (o .own) (o .session) (o .input) (o .coins);
+      is-n = first-n (o .n) (o .ta) (o .ts) (weightsOf o) (o .own) (o .session) (o .input) (o .coins);
+      is-ta = first-ta (o .n) (o .ta) (o .ts) (weightsOf o) (o .own) (o .session) (o .input) (o .coins);
+      is-ts = first-ts (o .n) (o .ta) (o .ts) (weightsOf o) (o .own) (o .session) (o .input) (o .coins);
+      is-weights = first-weights (o .n) (o .ta) (o .ts) (weightsOf o) (o .own) (o .session) (o .input) (o .coins) (r .few);
+      is-own = first-own (o .n) (o .ta) (o .ts) (weightsOf o) (o .own) (o .session) (o .input) (o .coins);
+      is-session = first-session (o .n) (o .ta) (o .ts) (weightsOf o) (o .own) (o .session) (o .input) (o .coins);
+      is-input = first-input (o .n) (o .ta) (o .ts) (weightsOf o) (o .own) (o .session) (o .input) (o .coins);
+      is-coin = first-coin (o .n) (o .ta) (o .ts) (weightsOf o) (o .own) (o .session) (o .input) (o .coins) (r .few);
       fits =
-          fit-first (o .n) (o .ta) (o .ts) (o .weights) (o .own) (o .session) (o .input) (o .coins)
+          fit-first (o .n) (o .ta) (o .ts) (weightsOf o) (o .own) (o .session) (o .input) (o .coins)
           (omega (arith, r .few))
           (omega (arith, r .few, r .ordered, r .margin, whole-few (agreed o .settings) r))
           (omega (arith, r .few, r .margin, whole-few (agreed o .settings) r))
           (omega (arith, r .few))
           (omega (arith, o .session-fits))
           (o .input-fits)
-          (o .weights-fit)
+          (weights-fit (o .n) (o .weights))
           (λ i. coin-below (o .coins) i (o .coins-fit));
     }
 
 module _ (o : Arguments) (few : o .n ≤ 16) where
   zero-at : (a : ℕ) → 24 ≤ a → (a ≡ 141 → ⊥) → word (first o) a ≡ 0
-  zero-at = first-zero (o .n) (o .ta) (o .ts) (o .weights) (o .own) (o .session) (o .input) (o .coins) few
+  zero-at = first-zero (o .n) (o .ta) (o .ts) (weightsOf o) (o .own) (o .session) (o .input) (o .coins) few
 
   no-mark : (a j : ℕ) → 24 ≤ a → (a ≡ 141 → ⊥) → marked (first o) a j ≡ true → ⊥
   unfolding marked

@@ -26,7 +26,7 @@ use Rattle.turn.specs.declared.Admitted.{Admitted}
 use Rattle.turn.specs.declared.Admitted.the-variants as admitted
 use Rattle.held.specs.Held.{Message, meaning}
 use Rattle.agreement.specs.History.{Act, send, echo, ready, start, relay, aux, move, commit}
-use Rattle.agreement.specs.Calls.{Arguments, Agreed, agreed, Bytes, engine}
+use Rattle.agreement.specs.Calls.{Arguments, weightsOf, Agreed, agreed, Bytes, engine}
 use Rattle.agreement.specs.Laws.{Reading}
 use Rattle.agreement.specs.EngineSeen.{engineSeen}
 
@@ -39,7 +39,7 @@ pub record Belongs (o : Arguments) (w : List ℕ) : Type 0 where
   pub is-n : word w nAt ≡ o .n
   pub is-ta : word w taAt ≡ namedTa (o .ta)
   pub is-ts : word w tsAt ≡ o .ts
-  pub is-weights : word w weightsAt ≡ o .weights
+  pub is-weights : word w weightsAt ≡ weightsOf o
   pub is-own : word w ownAt ≡ o .own
   pub is-session : word w sessionAt ≡ o .session
   pub is-input : word w inputAt ≡ o .input

@@ -197,8 +197,8 @@ module _ (g : Settings) (ruled : Ruled g) (s : List ℕ) (h : Sound g s) (one : 
 opening-quiet : (w : List ℕ) (o : Arguments) → answer w o ≡ 0 → Quiet (openedBy w o)
 unfolding opened
 opening-quiet w o e =
-    let few = opened-ruled w (o .coins) (o .n) (o .ta) (o .ts) (o .weights) (o .own) (o .session) (o .input) e .few in
-    let z = first-zero (o .n) (o .ta) (o .ts) (o .weights) (o .own) (o .session) (o .input) (o .coins) few in
+    let few = opened-ruled w (o .coins) (o .n) (o .ta) (o .ts) (weightsBy o) (o .own) (o .session) (o .input) e .few in
+    let z = first-zero (o .n) (o .ta) (o .ts) (weightsBy o) (o .own) (o .session) (o .input) (o .coins) few in
     rw (eq-eqb (answer w o) 0 e)
     (record { round = z 24 (omega arith) (λ e. omega arith); ests = z 40 (omega arith) (λ e. omega arith); auxs = z 56 (omega arith) (λ e. omega arith); ones = z 139 (omega arith) (λ e. omega arith) })
 

@@ -3,3 +3,4 @@ pub mod Opening
 pub mod GivenCases
 pub mod Cases
 pub mod Laws
+pub mod GivenLaws
