@@ -36,6 +36,7 @@ use Rattle.turn_bound.specs.Sound.{sound-bound}
 use Rattle.turn_bound.specs.Turning.{turn-sound}
 use Rattle.turn_bound.specs.Count.{turn-count}
 use Rattle.held.specs.Held.{Message, SEND, ECHO, READY, EST, AUX, COMMIT, Numbered, holds}
+use Rattle.opening.specs.Ones.{ones-word}
 use Rattle.costliest.specs.Calls.{coinWords, opens, packs, each, say, turns, commit, heard, acted, costly, costliestCalls}
 use Rattle.costliest.specs.Statement.{Costliest}
 use Rattle.costliest.specs.Saying.{settings, Allowed, Good, ruled}
@@ -51,9 +52,9 @@ length-coins zero = refl
 length-coins (suc n) = ap suc (length-coins n)
 
 module _ (n : ℕ) (two : 2 ≤ n) (low : 1 ≤ n) (few : n ≤ 16) (s : List ℕ) (size : length s ≡ 2048) where
-  accepted : answer s (opens n) ≡ 0
-  unfolding opens openAnswer namedTa numbered
-  accepted =
+  accepted-word : openAnswer (length s) n 0 0 (2 ^ n - 1) 1 (length (coinWords n)) ≡ 0
+  unfolding openAnswer namedTa numbered
+  accepted-word =
       rw (
         size,
         rules-valid n 0 0 (2 ^ n - 1) (ruled n 1 low few),
@@ -62,12 +63,20 @@ module _ (n : ℕ) (two : 2 ≤ n) (low : 1 ≤ n) (few : n ≤ 16) (s : List �
         eq-eqb n n refl,
       )
 
+  accepted : answer s (opens n) ≡ 0
+  unfolding opens
+  accepted = rw (ones-word n low few) accepted-word
+
   abbrev first : List ℕ
   first = openedBy s (opens n)
 
+  first-opened : first ≡ opened s n 0 0 (2 ^ n - 1) 1 7 5 (coinWords n)
+  unfolding opens
+  first-opened = ap (λ (w : ℕ). opened s n 0 0 w 1 7 5 (coinWords n)) (ones-word n low few)
+
   first-is : first ≡ openWords n 0 0 (2 ^ n - 1) 1 7 5 (coinWords n)
-  unfolding opens opened
-  first-is = rw (eq-eqb (answer s (opens n)) 0 accepted)
+  unfolding opened
+  first-is = first-opened ∙ rw (eq-eqb (openAnswer (length s) n 0 0 (2 ^ n - 1) 1 (length (coinWords n))) 0 accepted-word)
 
   zero-at : (k : ℕ) → 24 ≤ k → (k ≡ 141 → ⊥) → word first k ≡ 0
   zero-at k l ne = rw first-is (first-zero n 0 0 (2 ^ n - 1) 1 7 5 (coinWords n) few k l ne)
@@ -90,10 +99,10 @@ module _ (n : ℕ) (two : 2 ≤ n) (low : 1 ≤ n) (few : n ≤ 16) (s : List �
   none-held k (COMMIT X) hi h = no-set k hi (h .there)
 
   first-good : Good n 1 first
-  unfolding opens closed marked namedTa
+  unfolding closed marked namedTa
   first-good =
       record {
-        sound = opened-sound s (coinWords n) n 0 0 (2 ^ n - 1) 1 7 5 accepted;
+        sound = rw first-opened (opened-sound s (coinWords n) n 0 0 (2 ^ n - 1) 1 7 5 accepted-word);
         session = rw first-is (first-session n 0 0 (2 ^ n - 1) 1 7 5 (coinWords n));
         unclosed = rw first-is (ap (λ (w : ℕ). mark w 1) (first-flags n 0 0 (2 ^ n - 1) 1 7 5 (coinWords n)) ∙ mark-zero 1);
         allowed = λ k y num h. absurd (none-held k y (num .high) h);

@@ -42,7 +42,7 @@ use Rattle.turn.specs.Frame.{applied-other}
 use Rattle.turn.specs.Admitting.{admitted-settings}
 use Rattle.turn.specs.Laws.{Way, refused, taken, way}
 use Rattle.delivery.specs.Delivery.{delivered}
-use Rattle.turn_bound.specs.TurnBound.{Arguments, answer, openedBy, settingsBy, Step, opening, delivery, turn, report, after, acting, current}
+use Rattle.turn_bound.specs.TurnBound.{weightsBy, Arguments, answer, openedBy, settingsBy, Step, opening, delivery, turn, report, after, acting, current}
 use Rattle.turn_bound.specs.Sums.{share-few, zero-count}
 use Rattle.turn_bound.specs.Potential.{instancePart, potential}
 use Rattle.turn_bound.specs.Sound.{Sound}

@@ -1,5 +1,5 @@
 -- A message that is delivered in the costliest session is held after it, and all that was held stays.
-use Prim.Native.Nat.{ℕ, _≤_, _%_, _^_}
+use Prim.Native.Nat.{ℕ, _-_, _≤_, _%_, _^_}
 use mathlib.Core.Bool.{Bool, true, false, _||_, cond, false≢true}
 use mathlib.Core.List.{List}
 use mathlib.Core.Logic.{_⊎_, inl, inr}

@@ -4,3 +4,4 @@ pub mod GivenCases
 pub mod Cases
 pub mod Laws
 pub mod GivenLaws
+pub mod Ones
