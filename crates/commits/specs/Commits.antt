@@ -1,4 +1,4 @@
--- The sets that COMMITs hold: rules 1 and 2 of the turn order.
+-- The sets that COMMITs hold: rules 1 and 2 of the turn order. Senders count by their weights w (request N11).
 use Prim.Native.Nat.{ℕ}
 use mathlib.Core.Bool.{Bool, _&&_, not, cond}
 use mathlib.Core.List.{List, []}
@@ -12,7 +12,7 @@ use Rattle.records.specs.Records.{commitCount, commitValue, commitSet}
 unfoldable pub commitHeld : List ℕ → ℕ → Bool
 commitHeld s p = ltb 0 (commitCount s p)
 
--- how many of the senders 1 to n have a COMMIT held
+-- the weight of the senders 1 to n of whom a COMMIT is held
 unfoldable pub commitsHeld : ℕ → List ℕ → ℕ → ℕ
 commitsHeld w s n = weigh w (λ p. commitHeld s p) n
 
@@ -22,15 +22,15 @@ sameSet s p q =
     eqb (commitCount s p) (commitCount s q)
     && every (λ k. eqb (commitValue s p k) (commitValue s q k)) (commitCount s p)
 
--- how many of the senders 1 to n hold the set of sender p
+-- the weight of the senders 1 to n that hold the set of sender p
 unfoldable pub setHolders : ℕ → List ℕ → ℕ → ℕ → ℕ
 setHolders w s n p = weigh w (λ q. commitHeld s q && sameSet s p q) n
 
--- sender p holds a set that k senders hold
+-- sender p holds a set that senders of weight k hold
 unfoldable pub setLeads : ℕ → List ℕ → ℕ → ℕ → ℕ → Bool
 setLeads w s n k p = commitHeld s p && leb k (setHolders w s n p)
 
--- the lowest sender with a set that k of the senders 1 to n hold, and 0 if there is none
+-- the lowest sender with a set that senders of weight k hold, and 0 if there is none
 unfoldable pub setLeader : ℕ → List ℕ → ℕ → ℕ → ℕ
 setLeader w s n k = lowest (setLeads w s n k) n
 

@@ -1,4 +1,5 @@
--- The rules on a session's settings, and the thresholds worked out from them.
+-- The rules on a session's settings, and the thresholds worked out from them. With weights (request N11) n in a threshold is the sum of
+-- all weights, and what is compared with it a sum of weights; n itself stays the number of concentrators. w are the weights as one word.
 use Prim.Native.Nat.{ℕ, _+_, _*_, _-_}
 use mathlib.Core.Bool.{Bool, _&&_, cond}
 use lib.Dec.{eqb, ltb, leb}
@@ -7,7 +8,7 @@ use Rattle.settings.specs.declared.Settings.{Settings}
 use Rattle.settings.specs.declared.Checked.{Checked}
 use Rattle.settings.specs.declared.Checked.the-variants.{Valid, Invalid}
 
--- "n from 1 to 16, with ta ≤ ts and 2·ts + ta < n", where n "becomes the sum of all weights"; "0, over 4 .. is refused as 1"
+-- "n from 1 to 16, with ta ≤ ts and 2·ts + ta < n", the last n being the sum of the weights; a weight of 0 or over 4 is against the rules
 unfoldable pub validSettings : ℕ → ℕ → ℕ → ℕ → Bool
 validSettings n ta ts w = leb 1 n && leb n 16 && weightsRight w n && leb ta ts && ltb (2 * ts + ta) (wholeOf w n)
 
@@ -15,7 +16,7 @@ validSettings n ta ts w = leb 1 n && leb n 16 && weightsRight w n && leb ta ts &
 unfoldable pub namedTa : ℕ → ℕ
 namedTa ta = cond (eqb ta 255) 0 ta
 
--- the settings of three numbers within the rules
+-- the settings of numbers and weights within the rules
 unfoldable pub checkSettings : ℕ → ℕ → ℕ → ℕ → Checked
 checkSettings n ta ts w = cond (validSettings n ta ts w) (Valid (record { n = n; ta = ta; ts = ts; whole = wholeOf w n; weights = w })) Invalid
 

@@ -6,7 +6,7 @@ ghost use Prim.Native.Nat.{_-_};
 ghost use Rattle.settings.specs.Settings.{namedTa, checkSettings};
 ghost use Rattle.settings.specs.Settings.{quorum, copy, voteQuorum, relay, accept, turnBound};
 
-// u8 fields: no threshold can wrap, so none has a `requires`.
+// u8 fields: no threshold can wrap, so none has a `requires`. `whole` is the sum of the weights, which are one word.
 pub struct Settings {
     pub n: u8,
     pub ta: u8,
@@ -40,7 +40,7 @@ impl Settings {
         if ta == Settings::UNNAMED { 0 } else { ta }
     }
 
-    // The settings of any three numbers, ta already read by `named_ta`.
+    // The settings of any numbers and weights, ta already read by `named_ta`.
     pub fn check(n: u64, ta: u64, ts: u64, weights: u64) -> Checked
         ensures { λ r. ⌜ r ≡ checkSettings n ta ts weights ⌝ }
     {
@@ -74,7 +74,7 @@ impl Settings {
         })
     }
 
-    // n − ts: broadcasts and commits.
+    // n − ts, n being the sum of the weights: broadcasts and commits.
     pub fn quorum(self) -> u64
         ensures { λ r. ⌜ r ≡ quorum self ⌝ }
     {
@@ -88,7 +88,7 @@ impl Settings {
         self.ts as u64 + 1
     }
 
-    // n − ta: a move, and the votes decided 1 that a start with 0 and exits 2 and 3 ask for.
+    // n − ta, n being the sum of the weights: a move, and the votes decided 1 that a start with 0 and exits 2 and 3 ask for.
     pub fn vote_quorum(self) -> u64
         ensures { λ r. ⌜ r ≡ voteQuorum self ⌝ }
     {

@@ -1,4 +1,4 @@
--- Rule 6 of the turn order: what is due in a vote. Votes use ta.
+-- Rule 6 of the turn order: what is due in a vote. Votes use ta. Senders and votes count by their weights (request N11).
 use Prim.Native.Nat.{ℕ, min}
 use mathlib.Core.Bool.{Bool, true, false, _&&_, _||_, cond}
 use mathlib.Core.List.{List}
@@ -14,7 +14,7 @@ use Rattle.acts.specs.declared.Act.the-variants.{Idle, Start, Relay, Aux, Move}
 use Rattle.acts.specs.declared.View.{View}
 use Rattle.acts.specs.declared.View.the-variants.{Only, Both}
 
--- how many senders' ESTs of b are held in round r of vote i
+-- the weight of the senders whose ESTs of b are held in round r of vote i
 unfoldable pub estCount : Settings → List ℕ → ℕ → ℕ → ℕ → ℕ
 estCount g s i r b = weigh (g .weights) (estHeld s i r b) (g .n)
 
@@ -22,7 +22,7 @@ estCount g s i r b = weigh (g .weights) (estHeld s i r b) (g .n)
 unfoldable pub accepted : Settings → List ℕ → ℕ → ℕ → ℕ → Bool
 accepted g s i r b = leb (accept g) (estCount g s i r b)
 
--- "s counts votes decided 1"
+-- "s counts votes decided 1", each by its weight
 unfoldable pub votesDecidedOne : Settings → List ℕ → ℕ
 votesDecidedOne g s = weigh (g .weights) (decidedOne s) (g .n)
 
@@ -61,11 +61,11 @@ auxAct g s i = cond (auxSent s i (round s i)) Idle (auxValue g s i (round s i))
 unfoldable pub carries : List ℕ → ℕ → ℕ → Bool → Bool → ℕ → Bool
 carries s i r a0 a1 p = (a0 && auxHeld s i r 0 p) || (a1 && auxHeld s i r 1 p)
 
--- how many held AUXs carry accepted values
+-- the weight of the senders whose held AUXs carry accepted values
 unfoldable pub carriers : Settings → List ℕ → ℕ → ℕ → Bool → Bool → ℕ
 carriers g s i r a0 a1 = weigh (g .weights) (carries s i r a0 a1) (g .n)
 
--- how many held AUXs carry b
+-- the weight of the senders whose held AUXs carry b
 unfoldable pub auxCount : Settings → List ℕ → ℕ → ℕ → ℕ → ℕ
 auxCount g s i r b = weigh (g .weights) (auxHeld s i r b) (g .n)
 
