@@ -36,6 +36,12 @@ pub not-refused : (b : Bool) → not b ≡ true → b ≡ false
 not-refused true e = sym e
 not-refused false e = refl
 
+-- tests that pass in the same cases
+pub same-tests : (a b : Bool) → (a ≡ true → b ≡ true) → (b ≡ true → a ≡ true) → a ≡ b
+same-tests true b f g = sym (f refl)
+same-tests false true f g = g refl
+same-tests false false f g = refl
+
 -- a chain of refusals answers 0 only where each test is false
 pub refusal-passed : (b : Bool) (k x : ℕ) → (k ≡ 0 → ⊥) → cond b k x ≡ 0 → (b ≡ false) × (x ≡ 0)
 refusal-passed true k x h e = absurd (h e)

@@ -6,7 +6,10 @@ pub mod TotalLaws
 pub mod Counting
 pub mod Lowest
 pub mod Every
+pub mod MarkMasks
 pub mod Ones
 pub mod Weights
 pub mod Whole
 pub mod Packed
+pub mod RightMasks
+pub mod Marking

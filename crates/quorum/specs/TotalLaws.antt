@@ -54,6 +54,12 @@ module _ (w : ℕ → ℕ) where
   total-mono M K (suc k) f =
       omega (arith, total-mono M K k (λ p a b. f p a (omega arith)), share-mono (M (suc k)) (K (suc k)) (w (suc k)) (f (suc k) (omega arith) (omega arith)))
 
+  -- tests that agree on those of 1 to k that weigh anything
+  pub total-shares : (M K : ℕ → Bool) (k : ℕ) → ((p : ℕ) → 1 ≤ p → p ≤ k → share (M p) (w p) ≡ share (K p) (w p)) → total w M k ≡ total w K k
+  unfolding total
+  total-shares M K zero f = refl
+  total-shares M K (suc k) f = omega (arith, total-shares M K k (λ p a b. f p a (omega arith)), f (suc k) (omega arith) (omega arith))
+
   -- tests that agree on 1 to k
   pub total-agree : (M K : ℕ → Bool) (k : ℕ) → ((p : ℕ) → 1 ≤ p → p ≤ k → M p ≡ K p) → total w M k ≡ total w K k
   unfolding total

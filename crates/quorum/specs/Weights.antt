@@ -6,13 +6,14 @@ use mir.Val.{Fits, boolByte}
 use mir.Syntax.{w64}
 use Rattle.quorum.specs.TotalLaws.{total-next}
 use native.Mathlib.Omega.{arith}
-use native.Mathlib.Nat.{pow-succ', mod-lt, mod-eq-of-lt, div-one}
-use lib.Arith.{mod-mul, lt-one}
-use lib.Bits.{bitAnd, and-block, and-lt, and-mod, and-le-l}
+use native.Mathlib.Nat.{mod-lt, mod-eq-of-lt, div-one}
+use lib.Arith.{lt-one}
+use lib.Bits.{bitAnd, and-block, and-lt, and-mod, and-le-l, and-zero-r}
 use lib.Count.{ones, onesIn, ones-cat, ones-le}
 use lib.Dec.{eqb}
 use lib.Pow.{pow-pos, pow-lt, shr-shr}
 use Rattle.quorum.specs.Marks.{mark}
+use Rattle.quorum.specs.MarkMasks.{digits}
 use Rattle.quorum.specs.Ones.{mark-part, machine-power, divisor-some}
 use Rattle.quorum.specs.Total.{share, total, count}
 
@@ -51,9 +52,6 @@ and-digit (suc zero) zero a b = refl
 and-digit (suc zero) (suc zero) a b = refl
 and-digit (suc zero) (suc (suc y)) a b = absurd (omega arith)
 and-digit (suc (suc x)) y a b = absurd (omega arith)
-
-digits : (x n : ℕ) → x % 2 ^ suc n ≡ x / 2 ^ n % 2 * 2 ^ n + x % 2 ^ n
-digits x n = rw (pow-succ' 2 n) (mod-mul x {m = 2} {c = 2 ^ n} (omega arith) (pow-pos n))
 
 and-more : (x y n : ℕ) → ones (bitAnd (x % 2 ^ suc n) (y % 2 ^ suc n)) ≡ ones (bitAnd (x / 2 ^ n % 2) (y / 2 ^ n % 2)) + ones (bitAnd (x % 2 ^ n) (y % 2 ^ n))
 and-more x y n =
@@ -201,4 +199,16 @@ part-weighed v w i n h =
     let first : ones (bitAnd (v / 2 ^ i % 2 ^ n) (w / 2 ^ 0)) ≡ ones (bitAnd (v / 2 ^ i % 2 ^ n) w) = ap (λ (y : ℕ). ones (bitAnd (v / 2 ^ i % 2 ^ n) y)) z in
     omega (arith, part-is (v / 2 ^ i) n h w, part-is (v / 2 ^ i) n h (w / 65536), part-is (v / 2 ^ i) n h (w / 4294967296), weigh-ones v w i n, first)
 
-pub ruleset weigh-cases = (divisor-some, and-fits, twos-fit, fours-fit, threes-fit, sevens-fit, part-weighed)
+pub part-nothing : (v w i n : ℕ) → n ≤ 63 → v / 2 ^ i % ((1 * 2 ^ n) % 2 ^ 64) ≡ 0 → v / 2 ^ i % ((1 * 2 ^ n) % 2 ^ 64) ≡ weigh w (λ p. mark v (i + p)) n
+unfolding ones onesIn
+part-nothing v w i n h e = e ∙ rw e at (part-weighed v w i n h)
+
+-- no weight above 1
+pub part-light : (v w i n : ℕ) → n ≤ 63 → w / 65536 ≡ 0 → ones (bitAnd (v / 2 ^ i % ((1 * 2 ^ n) % 2 ^ 64)) w) ≡ weigh w (λ p. mark v (i + p)) n
+unfolding ones onesIn
+part-light v w i n h e =
+    let f : w / 4294967296 ≡ 0 = omega arith in
+    let none : ones (bitAnd (v / 2 ^ i % ((1 * 2 ^ n) % 2 ^ 64)) 0) ≡ 0 = ap ones (and-zero-r (v / 2 ^ i % ((1 * 2 ^ n) % 2 ^ 64))) in
+    omega (arith, none, rw (e, f) at (part-weighed v w i n h))
+
+pub ruleset weigh-cases = (part-nothing, part-light, divisor-some, and-fits, twos-fit, fours-fit, threes-fit, sevens-fit, part-weighed)

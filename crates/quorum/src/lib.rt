@@ -1,6 +1,6 @@
 // Marks of concentrators in a word, and how many of the senders 1 to n have theirs.
 ghost use mathlib.Core.Path.{_≡_};
-ghost use Prim.Native.Nat.{_+_};
+ghost use Prim.Native.Nat.{_+_, min};
 ghost use Rattle.quorum.specs.Marks.{mark, withMark};
 ghost use Rattle.quorum.specs.Total.{share, count};
 ghost use Rattle.quorum.specs.Weights.{weightOf, weigh};
@@ -98,7 +98,7 @@ fn weigh_each(w: u64, base: u16, n: u8, weights: u64) -> u64
     c
 }
 
-// The weight of the senders 1 to n that have the mark `base` above their number.
+// The weight of the senders 1 to n that have the mark `base` above their number. Where none weighs more than 1 it is their count.
 pub fn weigh_marks(w: u64, base: u16, n: u8, weights: u64) -> u64
     ensures { λ r. ⌜ r ≡ weigh weights (λ p. mark w (base + p)) n ⌝ }
 {
@@ -109,20 +109,46 @@ pub fn weigh_marks(w: u64, base: u16, n: u8, weights: u64) -> u64
         return weigh_each(w, base, n, weights);
     }
     let part = (w >> base) % (1 << n);
+    if part == 0 {
+        return part;
+    }
     let ones = u64::count_ones(part & weights) as u64;
+    if weights >> 16 == 0 {
+        return ones;
+    }
     let twos = u64::count_ones(part & (weights >> 16)) as u64;
     let fours = u64::count_ones(part & (weights >> 32)) as u64;
     ones + 2 * twos + 4 * fours
 }
 
-// The weight of 1 to n.
-pub fn whole(weights: u64, n: u8) -> u64
+// n, or 64 where it is above: a word has 64 marks, so no number above weighs anything.
+pub fn mark_end(n: u8) -> u8
+    ensures { λ r. ⌜ r ≡ min n 64 ⌝ }
+{
+    if n < 64 { n } else { 64 }
+}
+
+// The weight of 1 to n, by counts of the three digits.
+fn whole_counted(weights: u64, n: u8) -> u64
     ensures { λ r. ⌜ r ≡ wholeOf weights n ⌝ }
 {
     let ones = count_marks(weights, 0, n);
     let twos = count_marks(weights, 16, n);
     let fours = count_marks(weights, 32, n);
     ones + 2 * twos + 4 * fours
+}
+
+// The weight of 1 to n: n where each weighs 1.
+pub fn whole(weights: u64, n: u8) -> u64
+    ensures { λ r. ⌜ r ≡ wholeOf weights n ⌝ }
+{
+    if 16 < n {
+        return whole_counted(weights, n);
+    }
+    if weights == (1 << n) - 1 {
+        return n as u64;
+    }
+    whole_counted(weights, n)
 }
 
 // Whether p weighs 1 to 4.
@@ -133,8 +159,8 @@ fn weight_right(weights: u64, p: u8) -> bool
     (1 <= x) & (x <= 4)
 }
 
-// Whether each of 1 to n weighs 1 to 4.
-pub fn weights_right(weights: u64, n: u8) -> bool
+// Whether each of 1 to n weighs 1 to 4, one by one.
+fn right_each(weights: u64, n: u8) -> bool
     ensures { λ r. ⌜ r ≡ weightsRight weights n ⌝ }
 {
     let mut p: u8 = 0;
@@ -145,4 +171,20 @@ pub fn weights_right(weights: u64, n: u8) -> bool
         }
     }
     true
+}
+
+// Whether each of 1 to n weighs 1 to 4: no 4 beside a 1 or a 2, and one of them for each.
+pub fn weights_right(weights: u64, n: u8) -> bool
+    ensures { λ r. ⌜ r ≡ weightsRight weights n ⌝ }
+{
+    if 16 < n {
+        return right_each(weights, n);
+    }
+    let all = (1 << n) - 1;
+    if weights == all {
+        return true;
+    }
+    let four = (weights >> 32) & all;
+    let low = (weights | (weights >> 16)) & all;
+    (four & low == 0) & (four | low == all)
 }

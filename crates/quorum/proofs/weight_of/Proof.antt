@@ -1,60 +1,45 @@
+-- `weight_of` reads the three digits of a weight.
 use borrow.Author.Needs.{needs}
 use Rattle.quorum.specs.Weights.{weighing}
 use Rattle.quorum.proofs.weight_of.Statement.{statement}
 use Rattle.quorum.proofs.weight_of.Tie as tie
-use Rattle.quorum.proofs.weight_of.Reads as reads
-use Rattle.quorum.proofs.weight_of.Lts as lts
-use Rattle.quorum.proofs.mark.Reads as mark-reads
 
--- src/lib.rt:78:9
 mark-requires : tie.Need-mark-requires
 mark-requires c κs = search needs
 
--- src/lib.rt:79:29
 add-mark : tie.Need-add-mark
 add-mark c = search needs
 
--- src/lib.rt:79:9
 mark-requires-2 : tie.Need-mark-requires-2
 mark-requires-2 c κs = search needs
 
--- src/lib.rt:80:30
 add-mark-2 : tie.Need-add-mark-2
 add-mark-2 c = search needs
 
--- src/lib.rt:80:9
 mark-requires-3 : tie.Need-mark-requires-3
 mark-requires-3 c κs = search needs
 
--- src/lib.rt:81:5
 cast-result : tie.Need-cast-result
 cast-result c = search needs
 
--- src/lib.rt:81:22
 cast-result-2 : tie.Need-cast-result-2
 cast-result-2 c = search needs
 
--- src/lib.rt:81:18
 mul-result : tie.Need-mul-result
 mul-result c = search weighing
 
--- src/lib.rt:81:5
 add-result : tie.Need-add-result
 add-result c = search weighing
 
--- src/lib.rt:81:39
 cast-result-3 : tie.Need-cast-result-3
 cast-result-3 c = search needs
 
--- src/lib.rt:81:35
 mul-result-2 : tie.Need-mul-result-2
 mul-result-2 c = search weighing
 
--- src/lib.rt:81:5
 add-result-2 : tie.Need-add-result-2
 add-result-2 c = search weighing
 
--- src/lib.rt:75:1
 returns : tie.Need-returns
 returns c = search weighing
 

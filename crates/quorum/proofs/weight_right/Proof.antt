@@ -1,16 +1,12 @@
+-- A weight of 1 to 4.
 use Rattle.quorum.specs.Whole.{wholes}
 use borrow.Author.Needs.{needs}
 use Rattle.quorum.proofs.weight_right.Statement.{statement}
 use Rattle.quorum.proofs.weight_right.Tie as tie
-use Rattle.quorum.proofs.weight_right.Reads as reads
-use Rattle.quorum.proofs.weight_right.Lts as lts
-use Rattle.quorum.proofs.weight_of.Reads as weight-of-reads
 
--- src/lib.rt:132:9
 weight-of-requires : tie.Need-weight-of-requires
 weight-of-requires c κs = search needs
 
--- src/lib.rt:129:1
 returns : tie.Need-returns
 returns c = search wholes
 

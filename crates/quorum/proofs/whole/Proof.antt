@@ -1,52 +1,38 @@
-use Rattle.quorum.specs.Whole.{wholes}
+-- Weights of 1 are counted by n.
+use Rattle.quorum.specs.RightMasks.{ones-first}
 use borrow.Author.Needs.{needs}
 use Rattle.quorum.proofs.whole.Statement.{statement}
 use Rattle.quorum.proofs.whole.Tie as tie
-use Rattle.quorum.proofs.whole.Reads as reads
-use Rattle.quorum.proofs.whole.Lts as lts
-use Rattle.quorum.proofs.count_marks.Reads as count-marks-reads
 
--- src/lib.rt:122:9
-count-marks-requires : tie.Need-count-marks-requires
-count-marks-requires c κs = search needs
+whole-counted-requires : tie.Need-whole-counted-requires
+whole-counted-requires c κs = search needs
 
--- src/lib.rt:123:9
-count-marks-requires-2 : tie.Need-count-marks-requires-2
-count-marks-requires-2 c κs = search needs
-
--- src/lib.rt:124:9
-count-marks-requires-3 : tie.Need-count-marks-requires-3
-count-marks-requires-3 c κs = search needs
-
--- src/lib.rt:125:12
-mul-result : tie.Need-mul-result
-mul-result c = search (wholes, needs)
-
--- src/lib.rt:125:5
-add-result : tie.Need-add-result
-add-result c = search (wholes, needs)
-
--- src/lib.rt:125:23
-mul-result-2 : tie.Need-mul-result-2
-mul-result-2 c = search (wholes, needs)
-
--- src/lib.rt:125:5
-add-result-2 : tie.Need-add-result-2
-add-result-2 c = search (wholes, needs)
-
--- src/lib.rt:119:1
 returns : tie.Need-returns
-returns c = search (wholes, needs)
+returns c = search needs
+
+shl-if2 : tie.Need-shl-if2
+shl-if2 c = search needs
+
+sub-if2 : tie.Need-sub-if2
+sub-if2 c = search ones-first
+
+returns-2 : tie.Need-returns-2
+returns-2 c = search ones-first
+
+whole-counted-requires-2 : tie.Need-whole-counted-requires-2
+whole-counted-requires-2 c κs = search needs
+
+returns-3 : tie.Need-returns-3
+returns-3 c = search needs
 
 pub whole-spec : {M : Type 1} → statement M
 whole-spec =
     tie.close
     (tie.spec
-    count-marks-requires
-    count-marks-requires-2
-    count-marks-requires-3
-    mul-result
-    add-result
-    mul-result-2
-    add-result-2
-    returns)
+    whole-counted-requires
+    returns
+    shl-if2
+    sub-if2
+    returns-2
+    whole-counted-requires-2
+    returns-3)

@@ -1,0 +1,42 @@
+-- The weight of all is three counts of marks.
+use Rattle.quorum.specs.Whole.{wholes}
+use borrow.Author.Needs.{needs}
+use Rattle.quorum.proofs.whole_counted.Statement.{statement}
+use Rattle.quorum.proofs.whole_counted.Tie as tie
+
+count-marks-requires : tie.Need-count-marks-requires
+count-marks-requires c κs = search needs
+
+count-marks-requires-2 : tie.Need-count-marks-requires-2
+count-marks-requires-2 c κs = search needs
+
+count-marks-requires-3 : tie.Need-count-marks-requires-3
+count-marks-requires-3 c κs = search needs
+
+mul-result : tie.Need-mul-result
+mul-result c = search (wholes, needs)
+
+add-result : tie.Need-add-result
+add-result c = search (wholes, needs)
+
+mul-result-2 : tie.Need-mul-result-2
+mul-result-2 c = search (wholes, needs)
+
+add-result-2 : tie.Need-add-result-2
+add-result-2 c = search (wholes, needs)
+
+returns : tie.Need-returns
+returns c = search (wholes, needs)
+
+pub whole-counted-spec : {M : Type 1} → statement M
+whole-counted-spec =
+    tie.close
+    (tie.spec
+    count-marks-requires
+    count-marks-requires-2
+    count-marks-requires-3
+    mul-result
+    add-result
+    mul-result-2
+    add-result-2
+    returns)
