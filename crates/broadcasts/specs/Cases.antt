@@ -1,22 +1,22 @@
 -- The paths of the code.
-use Prim.Native.Nat.{ℕ, _+_, _-_, _/_, _%_, _^_, _≤_, _<_}
-use mathlib.Core.Bool.{Bool, true, false, _&&_, and-false}
+use Prim.Native.Nat.{ℕ, _+_, _-_, _^_, _≤_, _<_}
+use mathlib.Core.Bool.{Bool, true, false, _&&_, and-false, and-comm}
 use mathlib.Core.List.{List}
-use mathlib.Core.Path.{_≡_, sym, ap, _∙_}
+use mathlib.Core.Path.{_≡_, _∙_}
 use native.Mathlib.Omega.{arith}
 use native.Mathlib.Nat.{zero-add}
-use lib.Pow.{shr-shr}
+use lib.Bits.{bitAnd}
 use lib.Dec.{leb, eqb}
 use borrow.Author.Tests.{ne-eqb, lt-leb}
 use Rattle.settings.specs.Settings.{quorum, copy}
 use Rattle.settings.specs.declared.Settings.{Settings}
 use Rattle.quorum.specs.Bools.{and-left}
 use Rattle.quorum.specs.Marks.{mark}
-use Rattle.quorum.specs.MarkLaws.{mark-digit}
+use Rattle.quorum.specs.Marking.{MarksOf, marks-weighed, marks-both, marks-agree}
 use Rattle.quorum.specs.Weights.{weightOf, weigh}
 use Rattle.quorum.specs.TotalLaws.{total-mono, total-agree}
 use Rattle.quorum.specs.Lowest.{lowest, none-lowest, Passed, passed-found, passed-missing}
-use Rattle.records.specs.Words.{word, marked}
+use Rattle.records.specs.Words.{word, marked, equalAt}
 use Rattle.records.specs.Records.{echoSent, readySent, sendHeld, sendValue, echoHeld, echoValue, readyHeld, readyValue}
 use Rattle.acts.specs.declared.Act.the-variants.{Idle, Echo, Ready}
 use Rattle.broadcasts.specs.Leading.{heldCount, holders, leads, valueOf, leading}
@@ -24,21 +24,18 @@ use Rattle.broadcasts.specs.Broadcasts.{readyDue, echoAct, readyAct}
 use Rattle.broadcasts.specs.declared.Output.{Output}
 use Rattle.broadcasts.specs.declared.Output.the-variants.{Value, Nothing}
 
--- the marks of word w that are left after p of them
-pub marks-all : (w left : ℕ) → left ≡ w → left ≡ w / 2 ^ 0
-marks-all w left e = omega arith
-
-pub marks-next : (w p left : ℕ) → left ≡ w / 2 ^ p → left / 2 ≡ w / 2 ^ (p + 1)
-marks-next w p left e = ap (λ (x : ℕ). x / 2) e ∙ shr-shr w p 1
-
-pub mark-left : (s : List ℕ) (k a v p left : ℕ) (b : Bool) → left ≡ word s k / 2 ^ p → b ≡ (eqb (left % 2) 1 && eqb (word s a) v) → b ≡ (marked s k (p + 1) && eqb (word s a) v)
-unfolding marked
-mark-left s k a v p left b e f =
-    let same : p + 1 - 1 ≡ p = omega arith in
-    let digit : mark (word s k) (p + 1) ≡ eqb (left % 2) 1 = mark-digit (word s k) (p + 1) (omega arith) ∙ rw (same, ← e) in
-    f ∙ ap (λ (x : Bool). x && eqb (word s a) v) (sym digit)
-
-pub ruleset shifting = (marks-all, marks-next, mark-left)
+-- the senders that hold v, by their marks
+pub holders-weighed : (s : List ℕ) (k b v n w m x c : ℕ) (held : ℕ → Bool) (value : ℕ → ℕ) → MarksOf (equalAt s (b + 1) v) n m → x ≡ word s k → w < 2 ^ 64 → c ≡ weigh w (λ p. mark (bitAnd m x) (0 + p)) n → (λ p. marked s k p) ≡ held → (λ p. word s (b + p)) ≡ value → c ≡ holders w held value v n
+unfolding holders marked equalAt
+holders-weighed s k b v n w m x c held value i e h f g j =
+    rw (← g, ← j)
+    (f ∙ marks-weighed (λ p. marked s k p && eqb (word s (b + p)) v) n (bitAnd m x) w
+    (marks-agree (λ p. eqb (word s (b + 1 + (p - 1))) v && mark x p) (λ p. marked s k p && eqb (word s (b + p)) v) n (bitAnd m x) (marks-both (λ p. eqb (word s (b + 1 + (p - 1))) v) n m x i) same) h)
+  where
+    same : (p : ℕ) → 1 ≤ p → p ≤ n → eqb (word s (b + 1 + (p - 1))) v && mark x p ≡ mark (word s k) p && eqb (word s (b + p)) v
+    same p lo hi =
+        let at : b + 1 + (p - 1) ≡ b + p = omega arith in
+        rw (at, e) (and-comm (eqb (word s (b + p)) v) (mark (word s k) p))
 
 module _ (w : ℕ) (held : ℕ → Bool) (value : ℕ → ℕ) (n q : ℕ) where
   pub leads-held : (p u c : ℕ) (b : Bool) → b ≡ held p → b ≡ true → u ≡ value p → c ≡ holders w held value u n → leb q c ≡ leads w held value n q p

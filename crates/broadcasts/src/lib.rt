@@ -3,9 +3,7 @@ use acts::Act;
 use records::layout;
 use settings::Settings;
 ghost use mathlib.Core.Path.{_≡_};
-ghost use Prim.Native.Nat.{_+_, _%_, _≤_};
-ghost use mathlib.Core.Bool.{_&&_};
-ghost use lib.Dec.{eqb};
+ghost use Prim.Native.Nat.{_+_, _≤_};
 ghost use Rattle.records.specs.Records.{readyHeld, readyValue, echoHeld, echoValue};
 ghost use Rattle.records.specs.Words.{word, marked};
 ghost use Rattle.broadcasts.specs.Leading.{heldCount, holders, leads, leading};
@@ -18,29 +16,13 @@ pub enum Output {
     Nothing,
 }
 
-// Whether the lowest of the marks left is set and word at holds v.
-fn holds(s: &[u64], left: u64, at: usize, v: u64) -> bool
-    ensures { λ r. ⌜ r ≡ (eqb (left % 2) 1 && eqb (word (now (s .entry)) at) v) ⌝ }
-{
-    (left % 2 == 1) & (records::word(s, at) == v)
-}
-
-// How many of the senders 1 to n hold v. The marks are shifted along, since asking for each by its number costs more.
+// The weight of the senders 1 to n that hold v: their marks are collected, then weighed at once.
 fn holders(s: &[u64], marks: u16, values: u16, v: u64, n: u8, weights: u64) -> u64
     ensures { λ r. ⌜ r ≡ holders weights (λ p. marked (now (s .entry)) marks p) (λ p. word (now (s .entry)) (values + p)) v n ⌝ }
 {
-    let mut left = records::word(s, marks as usize);
-    let mut c: u64 = 0;
-    let mut p: u8 = 0;
-    while p < n {
-        p += 1;
-        let there = holds(s, left, values as usize + p as usize, v);
-        let x = quorum::weight_of(weights, p);
-        let y = quorum::share(there, x);
-        c += y;
-        left = left / 2;
-    }
-    c
+    let equal = records::equal_marks(s, values as u32 + 1, n, v);
+    let held = records::word(s, marks as usize);
+    quorum::weigh_marks(equal & held, 0, n, weights)
 }
 
 // Whether sender p holds a value that q of the senders 1 to n hold.
@@ -69,7 +51,7 @@ fn leading_of(s: &[u64], marks: u16, values: u16, n: u8, weights: u64, q: u64) -
     Output::Nothing
 }
 
-// How many of the senders 1 to n have their mark in word marks.
+// The weight of the senders 1 to n that have their mark in word marks.
 fn held_count(s: &[u64], marks: u16, n: u8, weights: u64) -> u64
     ensures { λ r. ⌜ r ≡ heldCount weights (now (s .entry)) marks n ⌝ }
 {

@@ -200,18 +200,6 @@ count-everyone (suc k) = omega (arith, count-everyone k)
 pub count-le : (M : ℕ → Bool) (k : ℕ) → count M k ≤ k
 count-le M k = omega (arith, total-whole (λ p. 1) M k, count-everyone k)
 
--- a count of 1 to n is at most d above that of 1 to k, where n is k + d
-pub count-longer : (M : ℕ → Bool) (k d : ℕ) → count M (k + d) ≤ count M k + d
-count-longer M k zero = let e : k + 0 ≡ k = omega arith in rw e (omega arith)
-count-longer M k (suc d) =
-    let e : k + suc d ≡ k + d + 1 = omega arith in
-    let one : share (M (k + d + 1)) 1 ≤ 1 = share-le (M (k + d + 1)) in
-    rw e (omega (arith, total-next (λ p. 1) M (k + d), count-longer M k d, one))
-  where
-    share-le : (b : Bool) → share b 1 ≤ 1
-    share-le true = omega arith
-    share-le false = omega arith
-
 -- a count of all is everyone
 pub count-all : (M : ℕ → Bool) (k p : ℕ) → count M k ≡ k → 1 ≤ p → p ≤ k → M p ≡ true
 count-all M k p e a b = go (M p) refl
@@ -226,16 +214,12 @@ count-all M k p e a b = go (M p) refl
 pub all-count : (M : ℕ → Bool) (k : ℕ) → ((p : ℕ) → 1 ≤ p → p ≤ k → M p ≡ true) → count M k ≡ k
 all-count M k f = omega (arith, total-agree (λ p. 1) M everyone k f, count-everyone k)
 
--- a set with no member among 1 to k weighs no more than those above k
-pub total-above : (w : ℕ → ℕ) (M : ℕ → Bool) (k n : ℕ) → k ≤ n → ((p : ℕ) → 1 ≤ p → p ≤ k → M p ≡ false) → total w M n + total w everyone k ≤ total w everyone n
+-- a part of U with no member among 1 to k weighs no more than those of U above k
+pub total-above : (w : ℕ → ℕ) (M U : ℕ → Bool) (k n : ℕ) → k ≤ n → Within n M U → ((p : ℕ) → 1 ≤ p → p ≤ k → M p ≡ false) → total w M n + total w U k ≤ total w U n
 unfolding total
-total-above w M k zero h f = let e : k ≡ 0 = omega arith in rw e (omega arith)
-total-above w M k (suc n) h f = go (decLe k n) (λ l. total-above w M k n l f)
+total-above w M U k zero h g f = let e : k ≡ 0 = omega arith in rw e (omega arith)
+total-above w M U k (suc n) h g f = go (decLe k n) (λ l. total-above w M U k n l (λ p a b. g p a (omega arith)) f)
   where
-    share-whole : (b : Bool) (x : ℕ) → share b x ≤ x
-    share-whole true x = omega arith
-    share-whole false x = omega arith
-
-    go : Dec (k ≤ n) → (k ≤ n → total w M n + total w everyone k ≤ total w everyone n) → total w M (suc n) + total w everyone k ≤ total w everyone (suc n)
-    go (yes l) r = omega (arith, r l, share-whole (M (suc n)) (w (suc n)))
-    go (no l) r = let e : k ≡ suc n = omega arith in omega (arith, total-none w M (suc n) (λ p a b. f p a (omega arith)), ap (total w everyone) e)
+    go : Dec (k ≤ n) → (k ≤ n → total w M n + total w U k ≤ total w U n) → total w M (suc n) + total w U k ≤ total w U (suc n)
+    go (yes l) r = omega (arith, r l, share-mono (M (suc n)) (U (suc n)) (w (suc n)) (g (suc n) (omega arith) (omega arith)))
+    go (no l) r = let e : k ≡ suc n = omega arith in omega (arith, total-none w M (suc n) (λ p a b. f p a (omega arith)), ap (total w U) e)

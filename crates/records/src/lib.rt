@@ -4,10 +4,11 @@ pub mod layout;
 ghost use mathlib.Core.Path.{_≡_};
 ghost use Prim.Native.Nat.{_≤_};
 ghost use lib.ListN.{length};
+ghost use Rattle.quorum.specs.Marking.{MarksOf};
 ghost use Rattle.records.specs.Copy.{copied};
 ghost use Rattle.records.specs.Layout.{voteAt};
 ghost use Rattle.records.specs.Records.{closed, sendSent, commitSent, echoSent, readySent, sendHeld, sendValue, estHeld, auxHeld, coin, round, estSent, auxSent, decided, commitCount, commitValue};
-ghost use Rattle.records.specs.Words.{word, put, marked, setMark};
+ghost use Rattle.records.specs.Words.{word, put, marked, equalAt, setMark};
 
 // The word at k, and 0 past the end.
 pub fn word(s: &[u64], k: usize) -> u64
@@ -30,6 +31,19 @@ pub fn marked(s: &[u64], k: usize, p: u64) -> bool
     ensures { λ r. ⌜ r ≡ marked (now (s .entry)) k p ⌝ }
 {
     quorum::mark(word(s, k), p)
+}
+
+// The marks p of 1 to n for which the word p − 1 above base is v.
+pub fn equal_marks(s: &[u64], base: u32, n: u8, v: u64) -> u64
+    ensures { λ r. ⌜ MarksOf (equalAt (now (s .entry)) base v) n r ⌝ }
+{
+    let mut m: u64 = 0;
+    let mut p = quorum::mark_end(n);
+    while 0 < p {
+        p -= 1;
+        m = 2 * m + (word(s, base as usize + p as usize) == v) as u64;
+    }
+    m
 }
 
 // Sets mark p of word k.
