@@ -48,20 +48,17 @@ fn holds_set(s: &[u64], p: u8, q: u8) -> bool
     }
 }
 
-// How many of the senders 1 to n hold the set of sender p.
+// The weight of the senders 1 to n that hold the set of sender p: their marks are collected, then weighed at once.
 fn set_holders(s: &[u64], weights: u64, n: u8, p: u8) -> u64
     ensures { λ r. ⌜ r ≡ setHolders weights (now (s .entry)) n p ⌝ }
 {
-    let mut c: u64 = 0;
-    let mut q: u8 = 0;
-    while q < n {
-        q += 1;
-        let there = holds_set(s, p, q);
-        let x = quorum::weight_of(weights, q);
-        let y = quorum::share(there, x);
-        c += y;
+    let mut m: u64 = 0;
+    let mut q = quorum::mark_end(n);
+    while 0 < q {
+        m = 2 * m + holds_set(s, p, q) as u64;
+        q -= 1;
     }
-    c
+    quorum::weigh_marks(m, 0, n, weights)
 }
 
 // Whether sender p holds a set that k of the senders 1 to n hold.
@@ -75,20 +72,17 @@ fn set_leads(s: &[u64], weights: u64, n: u8, k: u64, p: u8) -> bool
     }
 }
 
-// How many of the senders 1 to n have a COMMIT held.
+// The weight of the senders 1 to n of whom a COMMIT is held.
 fn commits_held(s: &[u64], weights: u64, n: u8) -> u64
     ensures { λ r. ⌜ r ≡ commitsHeld weights (now (s .entry)) n ⌝ }
 {
-    let mut c: u64 = 0;
-    let mut p: u8 = 0;
-    while p < n {
-        p += 1;
-        let there = commit_held(s, p);
-        let x = quorum::weight_of(weights, p);
-        let y = quorum::share(there, x);
-        c += y;
+    let mut m: u64 = 0;
+    let mut p = quorum::mark_end(n);
+    while 0 < p {
+        m = 2 * m + commit_held(s, p) as u64;
+        p -= 1;
     }
-    c
+    quorum::weigh_marks(m, 0, n, weights)
 }
 
 // The lowest sender with a set that k of the senders 1 to n hold, and 0 if there is none. The senders are looked at one by one.

@@ -7,7 +7,7 @@ ghost use Prim.Native.Nat.{min};
 ghost use Rattle.settings.specs.Settings.{roundLimit};
 ghost use Rattle.records.specs.Records.{round};
 ghost use Rattle.votes.specs.Votes.{estCount, accepted, votesDecidedOne, startAct, relayValue, relayRound, relayAct, running, auxValue, auxAct};
-ghost use Rattle.votes.specs.Votes.{carries, carriers, auxCount, viewOf, view, moveValue, moveAct, roundAct, voteAct, voteRule, coinValue, estimate, decides};
+ghost use Rattle.votes.specs.Votes.{carriers, auxCount, viewOf, view, moveValue, moveAct, roundAct, voteAct, voteRule, coinValue, estimate, decides};
 
 // The groups of marks in a round's word: EST 0 and EST 1, then AUX 0 and AUX 1.
 const AUX_ZERO: u16 = 32;
@@ -141,47 +141,15 @@ pub fn aux_act(s: &[u64], g: Settings, i: u8) -> Act
     aux_value(s, g, i, r)
 }
 
-// Whether the AUX held from sender p carries an accepted value; a0 and a1 tell which values are accepted.
-fn carries(s: &[u64], i: u8, r: u8, a0: bool, a1: bool, p: u8) -> bool
-    ensures { λ t. ⌜ t ≡ carries (now (s .entry)) i r a0 a1 p ⌝ }
-{
-    let w = records::votes(s, i, r);
-    (a0 & quorum::mark(w, AUX_ZERO as u64 + p as u64))
-        | (a1 & quorum::mark(w, AUX_ONE as u64 + p as u64))
-}
-
-// How many held AUXs carry accepted values: each sender is looked at, since a foreign state may hold both values of one.
-fn carriers_each(s: &[u64], g: Settings, i: u8, r: u8, a0: bool, a1: bool) -> u64
-    ensures { λ c. ⌜ c ≡ carriers g (now (s .entry)) i r a0 a1 ⌝ }
-{
-    let n = g.n;
-    let weights = g.weights;
-    let mut c: u64 = 0;
-    let mut p: u8 = 0;
-    while p < n {
-        p += 1;
-        let there = carries(s, i, r, a0, a1, p);
-        let x = quorum::weight_of(weights, p);
-        let y = quorum::share(there, x);
-        c += y;
-    }
-    c
-}
-
-// The same; where only one value is accepted, its AUXs are counted at once.
+// The weight of the held AUXs that carry accepted values; a0 and a1 tell which values are accepted. A sender counts once, also where a
+// foreign state holds both values of it.
 fn carriers(s: &[u64], g: Settings, i: u8, r: u8, a0: bool, a1: bool) -> u64
     ensures { λ c. ⌜ c ≡ carriers g (now (s .entry)) i r a0 a1 ⌝ }
 {
-    if a0 & a1 {
-        return carriers_each(s, g, i, r, a0, a1);
-    }
-    if a0 {
-        return aux_count(s, g, i, r, 0);
-    }
-    if a1 {
-        return aux_count(s, g, i, r, 1);
-    }
-    0
+    let w = records::votes(s, i, r);
+    let zero = quorum::share(a0, w >> AUX_ZERO);
+    let one = quorum::share(a1, w >> AUX_ONE);
+    quorum::weigh_marks(zero | one, 0, g.n, g.weights)
 }
 
 // The view where 0 and 1 are carried, or only one of them.

@@ -1,6 +1,5 @@
--- After p steps the senders 1 to p are counted.
-use Prim.Native.Nat.{_-_}
-use Rattle.quorum.specs.Weights.{Weighing, weighing}
+-- The marks of the senders above p with a COMMIT are collected, and all are weighed at the end.
+use Rattle.quorum.specs.Marking.{Marking, marking}
 use Rattle.commits.specs.Commits.{commitHeld}
 use Rattle.commits.specs.Cases.{commit-cases}
 use borrow.Author.Needs.{needs}
@@ -8,37 +7,43 @@ use Rattle.commits.proofs.commits_held.Statement.{statement}
 use Rattle.commits.proofs.commits_held.Tie as tie
 
 abbrev Inv-loop : tie.InvT-loop
-Inv-loop s weights n c₀ p₀ c p = Weighing weights (λ k. commitHeld s k) n p c
+Inv-loop s weights n m₀ p₀ m p = Marking (λ k. commitHeld s k) p₀ p m
 
 abbrev μ-loop : tie.MeasureT-loop
-μ-loop s weights n c₀ p₀ c p = n - p
+μ-loop s weights n m₀ p₀ m p = p
+
+mark-end-requires : tie.Need-mark-end-requires Inv-loop μ-loop
+mark-end-requires c κs = search needs
 
 loop-holds : tie.Need-loop-holds Inv-loop μ-loop
-loop-holds c = search weighing
+loop-holds c = search marking
 
-add-p : tie.Need-add-p Inv-loop μ-loop
-add-p c = search needs
+mul-m : tie.Need-mul-m Inv-loop μ-loop
+mul-m c = search marking
 
 commit-held-requires : tie.Need-commit-held-requires Inv-loop μ-loop
 commit-held-requires c κs = search needs
 
-weight-of-requires : tie.Need-weight-of-requires Inv-loop μ-loop
-weight-of-requires c κs = search needs
+cast-m : tie.Need-cast-m Inv-loop μ-loop
+cast-m c = search needs
 
-share-requires : tie.Need-share-requires Inv-loop μ-loop
-share-requires c κs = search needs
+add-m : tie.Need-add-m Inv-loop μ-loop
+add-m c = search marking
 
-add-c : tie.Need-add-c Inv-loop μ-loop
-add-c c = search weighing
+sub-p : tie.Need-sub-p Inv-loop μ-loop
+sub-p c = search needs
 
 loop-less : tie.Need-loop-less Inv-loop μ-loop
 loop-less c = search needs
 
 loop-again : tie.Need-loop-again Inv-loop μ-loop
-loop-again c = search weighing
+loop-again c = search marking
+
+weigh-marks-requires : tie.Need-weigh-marks-requires Inv-loop μ-loop
+weigh-marks-requires c κs = search needs
 
 returns : tie.Need-returns Inv-loop μ-loop
-returns c = search (commit-cases, weighing)
+returns c = search (commit-cases, marking)
 
 pub commits-held-spec : {M : Type 1} → statement M
 commits-held-spec =
@@ -46,12 +51,14 @@ commits-held-spec =
     (tie.spec
     Inv-loop
     μ-loop
+    mark-end-requires
     loop-holds
-    add-p
+    mul-m
     commit-held-requires
-    weight-of-requires
-    share-requires
-    add-c
+    cast-m
+    add-m
+    sub-p
     loop-less
     loop-again
+    weigh-marks-requires
     returns)
