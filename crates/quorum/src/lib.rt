@@ -108,16 +108,16 @@ pub fn weigh_marks(w: u64, base: u16, n: u8, weights: u64) -> u64
     if 63 < n {
         return weigh_each(w, base, n, weights);
     }
-    let part = (w >> base) % (1 << n);
-    if part == 0 {
-        return part;
+    let marked = (w >> base) % (1 << n);
+    if marked == 0 {
+        return marked;
     }
-    let ones = u64::count_ones(part & weights) as u64;
+    let ones = u64::count_ones(marked & weights) as u64;
     if weights >> 16 == 0 {
         return ones;
     }
-    let twos = u64::count_ones(part & (weights >> 16)) as u64;
-    let fours = u64::count_ones(part & (weights >> 32)) as u64;
+    let twos = u64::count_ones(marked & (weights >> 16)) as u64;
+    let fours = u64::count_ones(marked & (weights >> 32)) as u64;
     ones + 2 * twos + 4 * fours
 }
 

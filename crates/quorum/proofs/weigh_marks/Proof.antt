@@ -16,14 +16,14 @@ weigh-each-requires-2 c κs = search needs
 returns-2 : tie.Need-returns-2
 returns-2 c = search needs
 
-shr-part : tie.Need-shr-part
-shr-part c = search needs
+shr-marked : tie.Need-shr-marked
+shr-marked c = search needs
 
-shl-part : tie.Need-shl-part
-shl-part c = search needs
+shl-marked : tie.Need-shl-marked
+shl-marked c = search needs
 
-rem-part : tie.Need-rem-part
-rem-part c = search weigh-cases
+rem-marked : tie.Need-rem-marked
+rem-marked c = search weigh-cases
 
 returns-3 : tie.Need-returns-3
 returns-3 c = search weigh-cases
@@ -63,9 +63,9 @@ weigh-marks-spec =
     returns
     weigh-each-requires-2
     returns-2
-    shr-part
-    shl-part
-    rem-part
+    shr-marked
+    shl-marked
+    rem-marked
     returns-3
     cast-ones
     returns-4
