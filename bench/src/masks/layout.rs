@@ -29,6 +29,8 @@ pub const READY_SENT: usize = 137;
 pub const DECIDED_ZERO: usize = 138;
 pub const DECIDED_ONE: usize = 139;
 pub const SEND_MARKS: usize = 140;
+/// Three groups of 16 marks: the binary digits of the weights.
+pub const WEIGHTS: usize = 141;
 
 /// Rows of 16 words, one for each sender or place.
 pub const ECHO_VALUES: usize = 239;

@@ -20,6 +20,8 @@ pub struct Settings {
     ts: u8,
     /// Of concentrator p at place p−1; 0 behind the last.
     weights: [u8; Settings::MOST as usize],
+    /// W, the sum of all weights.
+    whole: Weight,
 }
 
 impl Settings {
@@ -38,14 +40,15 @@ impl Settings {
         let ta = if ta == Self::UNNAMED { 0 } else { ta };
         let n_fits = (1..=Self::MOST).contains(&n) && weights.len() as u64 == n;
         let weights_fit = weights.iter().all(|weight| (1..=Self::HEAVIEST).contains(weight));
-        let whole: u64 = weights.iter().map(|&weight| u64::from(weight)).sum();
+        let whole: Weight = weights.iter().map(|&weight| Weight::from(weight)).sum();
         // ts < W keeps the sum small; 2·ts + ta < W asks for it anyway.
-        if !(n_fits && weights_fit && ta <= ts && ts < whole && 2 * ts + ta < whole) {
+        let most_fit = ta <= ts && ts < whole.into() && 2 * ts + ta < whole.into();
+        if !(n_fits && weights_fit && most_fit) {
             return Err(Refusal::Settings);
         }
         let mut padded = [0; Self::MOST as usize];
         padded[..weights.len()].copy_from_slice(weights);
-        Ok(Settings { n: n as u8, ta: ta as u8, ts: ts as u8, weights: padded })
+        Ok(Settings { n: n as u8, ta: ta as u8, ts: ts as u8, weights: padded, whole })
     }
 
     /// All weights 1.
@@ -112,14 +115,9 @@ impl Settings {
         held.clone().map(|(_, value)| value).find(weighs_enough)
     }
 
-    /// W, the sum of all weights.
-    fn whole(&self) -> Weight {
-        self.weight(self.numbers())
-    }
-
     /// Broadcasts and commits: W−ts.
     pub fn quorum(&self) -> Weight {
-        self.whole().saturating_sub(self.ts.into())
+        self.whole.saturating_sub(self.ts.into())
     }
 
     /// Broadcasts and commits: ts+1.
@@ -129,7 +127,7 @@ impl Settings {
 
     /// Votes: AUXs of W−ta to move, votes decided 1 of W−ta to start with 0 and to exit.
     pub fn vote_quorum(&self) -> Weight {
-        self.whole().saturating_sub(self.ta.into())
+        self.whole.saturating_sub(self.ta.into())
     }
 
     /// Votes: ESTs of ta+1 to relay.
@@ -166,6 +164,6 @@ impl Settings {
     }
 
     fn with_heads(self) -> Settings {
-        Settings { weights: [1; Self::MOST as usize], ..self }
+        Settings { weights: [1; Self::MOST as usize], whole: self.n.into(), ..self }
     }
 }
