@@ -115,7 +115,7 @@ static void open_state(const struct opening *opening, unsigned p, uint64_t own, 
 /* n weights, or another number of them; each mostly 1 to 4. */
 static void take_weights(struct input *in, struct opening *opening)
 {
-    static const uint8_t outside[4] = {0, PACK_WEIGHT_MAX + 1, 8, 255};
+    static const uint8_t outside[4] = {0, PACK_WEIGHT_MAX + 1, 9, 255};
     uint8_t count = take(in);
     bool as_many = count < 0xf0 && opening->n <= PACK_CONCENTRATORS;
     opening->weight_count = as_many ? opening->n : count % (PACK_CONCENTRATORS + 2);

@@ -46,11 +46,12 @@ fn settings_on_the_edge() {
 
 #[test]
 fn weights_out_of_range_or_number() {
-    let refused: [&[u8]; 8] = [
+    let refused: [&[u8]; 9] = [
         &[0, 1, 1, 4],
         &[1, 1, 1, 0],
         &[5, 1, 1, 1],
         &[1, 1, 1, 255],
+        &[1, 9, 1, 1],
         &[],
         &[4, 4, 4],
         &[1, 1, 1, 1, 1],

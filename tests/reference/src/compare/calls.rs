@@ -140,7 +140,9 @@ pub fn damage_weights(random: &mut Random, weights: &mut Vec<u8>) {
     let count = weights.len();
     match random.below(24) {
         0 if count > 0 => {
-            weights[random.below(count as u64) as usize] = random.pick(&[0, 5, 255]);
+            // The low digits of the last are those of a weight.
+            let outside = random.pick(&[0, 5, 7, 8, 255, 9, 132]);
+            weights[random.below(count as u64) as usize] = outside;
         }
         1 => weights.resize(random.pick(&[0, count.saturating_sub(1), count + 1, 17]), 1),
         _ => {}
