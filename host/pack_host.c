@@ -101,6 +101,8 @@ static bool read_weights(char *list, struct options *o)
         list = strchr(item, ',');
         if (list != NULL)
             *list++ = '\0';
+        if (*item == '\0')
+            return fail("a weight is missing", "--weights");
         if (!read_number(item, UINT8_MAX, &weight))
             return false;
         if (o->weight_count == PACK_CONCENTRATORS)
