@@ -110,6 +110,9 @@ marking-done M n t k m i h e =
       none = λ p l. mark-none m (t - k) p (i .small) (omega (arith, e));
     }
 
+pub marking-all : (M : ℕ → Bool) (n k m : ℕ) → Marking M n k m → k ≤ 0 → MarksOf M n m
+marking-all M n k m i h = marking-done M n n k m i h (omega (arith, i .few))
+
 -- ---- what the marks weigh
 
 -- a number above 64 weighs nothing
@@ -147,4 +150,4 @@ marking-weighed M n t k m w c i l e h f = f ∙ marks-weighed M n m w (marking-d
 pub end-few : (n t : ℕ) → t ≡ min n 64 → t ≤ 64
 end-few n t e = omega arith
 
-pub ruleset marking = (end-few, marking-start, marking-next, marking-fits, marking-doubles, marking-done, marking-weighed)
+pub ruleset marking = (end-few, marking-start, marking-next, marking-fits, marking-doubles, marking-done, marking-all, marking-weighed)

@@ -4,7 +4,6 @@ use mathlib.Core.Bool.{Bool, true, false, _&&_}
 use mathlib.Core.Path.{_≡_, refl, sym, ap, ap₂, subst, _∙_}
 use mir.Val.{Fits, boolByte}
 use mir.Syntax.{w64}
-use Rattle.quorum.specs.TotalLaws.{total-next}
 use native.Mathlib.Omega.{arith}
 use native.Mathlib.Nat.{mod-lt, mod-eq-of-lt, div-one}
 use lib.Arith.{lt-one}
@@ -14,7 +13,7 @@ use lib.Dec.{eqb}
 use lib.Pow.{pow-pos, pow-lt, shr-shr}
 use Rattle.quorum.specs.Marks.{mark}
 use Rattle.quorum.specs.MarkMasks.{digits}
-use Rattle.quorum.specs.Ones.{mark-part, machine-power, divisor-some}
+use Rattle.quorum.specs.Ones.{mark-part}
 use Rattle.quorum.specs.Total.{share, total, count}
 
 -- the weight of p
@@ -83,29 +82,6 @@ weigh-ones x w i n =
 
 -- ---- the code
 
-pub weight-le : (w p : ℕ) → weightOf w p ≤ 7
-unfolding weightOf
-weight-le w p = omega (arith, at (mark w (0 + p)) 1, at (mark w (16 + p)) 2, at (mark w (32 + p)) 4)
-  where
-    at : (b : Bool) (x : ℕ) → share b x ≤ x
-    at true x = omega arith
-    at false x = omega arith
-
-pub weigh-le : (w : ℕ) (M : ℕ → Bool) (n : ℕ) → weigh w M n ≤ 7 * n
-unfolding total
-weigh-le w M zero = omega arith
-weigh-le w M (suc n) = omega (arith, weigh-le w M n, weight-le w (suc n), at (M (suc n)) (weightOf w (suc n)))
-  where
-    at : (b : Bool) (x : ℕ) → share b x ≤ x
-    at true x = omega arith
-    at false x = omega arith
-
-pub share-true : (b : Bool) (x : ℕ) → b ≡ true → x ≡ share b x
-share-true b x e = rw e
-
-pub share-false : (b : Bool) (x : ℕ) → b ≡ false → 0 ≡ share b x
-share-false b x e = rw e
-
 pub weight-sum : (w p : ℕ) (a b c : Bool) → a ≡ mark w p → b ≡ mark w (16 + p) → c ≡ mark w (32 + p) → boolByte a + 2 * boolByte b + 4 * boolByte c ≡ weightOf w p
 unfolding weightOf
 weight-sum w p a b c e f h =
@@ -138,77 +114,47 @@ three-fits a b = omega (arith, byte-le a, byte-le b)
 pub seven-fits : (a b c : Bool) → Fits w64 (boolByte a + 2 * boolByte b + 4 * boolByte c)
 seven-fits a b c = omega (arith, byte-le a, byte-le b, byte-le c)
 
--- a loop that adds the weights of the members of 1 to k
-pub record Weighing (w : ℕ) (M : ℕ → Bool) (n k c : ℕ) : Type 0 where
-  pub within : k ≤ n
-  pub weighed : c ≡ weigh w M k
+pub ruleset weight-digits = (two-fits, four-fits, three-fits, seven-fits, weight-sum)
 
-pub weighing-start : (w : ℕ) (M : ℕ → Bool) (n : ℕ) → Weighing w M n 0 0
-unfolding total
-weighing-start w M n = record { within = omega arith; weighed = refl }
+-- the paths of `weigh_marks`; the set stands as an argument M, so that a search reads it
+module _ (v i n x : ℕ) (M : ℕ → Bool) (e : x ≡ v / 2 ^ i % 2 ^ n) (same : (λ p. mark v (i + p)) ≡ M) where
+  pub part-weighed : (w : ℕ) → ones (bitAnd x w) + 2 * ones (bitAnd x (w / 65536)) + 4 * ones (bitAnd x (w / 4294967296)) ≡ weigh w M n
+  part-weighed w =
+      let first : w / 2 ^ 0 ≡ w = div-one w in
+      rw (← same, e) (sym (rw first at (weigh-ones v w i n)))
 
-pub weighing-next : (w : ℕ) (M : ℕ → Bool) (n k c : ℕ) (b : Bool) (x y : ℕ) → Weighing w M n k c → k < n → b ≡ M (k + 1) → x ≡ weightOf w (k + 1) → y ≡ share b x → Weighing w M n (k + 1) (c + y)
-weighing-next w M n k c b x y i l e f h =
-    let part : y ≡ share (M (k + 1)) (weightOf w (k + 1)) = h ∙ ap₂ share e f in
-    record { within = omega arith; weighed = omega (arith, i .weighed, total-next (weightOf w) M k) }
+  pub part-unmarked : (w : ℕ) → x ≡ 0 → 0 ≡ weigh w M n
+  unfolding ones onesIn
+  part-unmarked w z = rw z at (part-weighed w)
 
-pub weighing-fits : (w : ℕ) (M : ℕ → Bool) (n k c : ℕ) (b : Bool) (x y : ℕ) → Weighing w M n k c → k < n → n < 2 ^ 8 → x ≡ weightOf w (k + 1) → y ≡ share b x → Fits w64 (c + y)
-weighing-fits w M n k c b x y i l h f e =
-    omega (arith, i .weighed, weigh-le w M k, weight-le w (k + 1), at b x)
-  where
-    at : (b : Bool) (x : ℕ) → share b x ≤ x
-    at true x = omega arith
-    at false x = omega arith
+  -- no weight above 1
+  pub part-light : (w : ℕ) → w / 65536 ≡ 0 → ones (bitAnd x w) ≡ weigh w M n
+  unfolding ones onesIn
+  part-light w f =
+      let g : w / 4294967296 ≡ 0 = omega arith in
+      let none : ones (bitAnd x 0) ≡ 0 = ap ones (and-zero-r x) in
+      omega (arith, none, rw (f, g) at (part-weighed w))
 
-pub weighing-done : (w : ℕ) (M : ℕ → Bool) (n k c : ℕ) → Weighing w M n k c → n ≤ k → c ≡ weigh w M n
-weighing-done w M n k c i h = let e : k ≡ n = omega arith in subst (λ (m : ℕ). c ≡ weigh w M m) e (i .weighed)
+-- its sums fit
+module _ (v i n x : ℕ) (e : x ≡ v / 2 ^ i % 2 ^ n) (h : n < 2 ^ 8) where
+  few : (y : ℕ) → ones (bitAnd x y) ≤ 255
+  few y =
+      let low : bitAnd x y < 2 ^ n = omega (arith, and-le-l x y, mod-lt (v / 2 ^ i) (pow-pos n)) in
+      omega (arith, ones-le n (bitAnd x y) low)
 
-pub ruleset weighing = (share-true, share-false, two-fits, four-fits, three-fits, seven-fits, weight-sum, weighing-start, weighing-next, weighing-fits, weighing-done)
+  pub and-fits : (y : ℕ) → Fits w64 (ones (bitAnd x y))
+  and-fits y = omega (arith, few y)
 
--- the paths of `weigh_marks`, for n up to 63
-module _ (x n : ℕ) (h : n ≤ 63) where
-  abbrev part : ℕ → ℕ
-  part y = ones (bitAnd (x % ((1 * 2 ^ n) % 2 ^ 64)) y)
+  pub twos-fit : (y : ℕ) → Fits w64 (2 * ones (bitAnd x y))
+  twos-fit y = omega (arith, few y)
 
-  part-is : (y : ℕ) → part y ≡ ones (bitAnd (x % 2 ^ n) y)
-  part-is y = rw (machine-power n h)
+  pub fours-fit : (y : ℕ) → Fits w64 (4 * ones (bitAnd x y))
+  fours-fit y = omega (arith, few y)
 
-  part-few : (y : ℕ) → part y ≤ 63
-  part-few y =
-      let low : bitAnd (x % 2 ^ n) y < 2 ^ n = omega (arith, and-le-l (x % 2 ^ n) y, mod-lt x (pow-pos n)) in
-      omega (arith, part-is y, ones-le n (bitAnd (x % 2 ^ n) y) low)
+  pub threes-fit : (y z : ℕ) → Fits w64 (ones (bitAnd x y) + 2 * ones (bitAnd x z))
+  threes-fit y z = omega (arith, few y, few z)
 
-  pub and-fits : (y : ℕ) → Fits w64 (ones (bitAnd (x % ((1 * 2 ^ n) % 2 ^ 64)) y))
-  and-fits y = omega (arith, part-few y)
+  pub sevens-fit : (y z u : ℕ) → Fits w64 (ones (bitAnd x y) + 2 * ones (bitAnd x z) + 4 * ones (bitAnd x u))
+  sevens-fit y z u = omega (arith, few y, few z, few u)
 
-  pub twos-fit : (y : ℕ) → Fits w64 (2 * ones (bitAnd (x % ((1 * 2 ^ n) % 2 ^ 64)) y))
-  twos-fit y = omega (arith, part-few y)
-
-  pub fours-fit : (y : ℕ) → Fits w64 (4 * ones (bitAnd (x % ((1 * 2 ^ n) % 2 ^ 64)) y))
-  fours-fit y = omega (arith, part-few y)
-
-  pub threes-fit : (y z : ℕ) → Fits w64 (ones (bitAnd (x % ((1 * 2 ^ n) % 2 ^ 64)) y) + 2 * ones (bitAnd (x % ((1 * 2 ^ n) % 2 ^ 64)) z))
-  threes-fit y z = omega (arith, part-few y, part-few z)
-
-  pub sevens-fit : (y z u : ℕ) → Fits w64 (ones (bitAnd (x % ((1 * 2 ^ n) % 2 ^ 64)) y) + 2 * ones (bitAnd (x % ((1 * 2 ^ n) % 2 ^ 64)) z) + 4 * ones (bitAnd (x % ((1 * 2 ^ n) % 2 ^ 64)) u))
-  sevens-fit y z u = omega (arith, part-few y, part-few z, part-few u)
-
-pub part-weighed : (v w i n : ℕ) → n ≤ 63 → ones (bitAnd (v / 2 ^ i % ((1 * 2 ^ n) % 2 ^ 64)) w) + 2 * ones (bitAnd (v / 2 ^ i % ((1 * 2 ^ n) % 2 ^ 64)) (w / 65536)) + 4 * ones (bitAnd (v / 2 ^ i % ((1 * 2 ^ n) % 2 ^ 64)) (w / 4294967296)) ≡ weigh w (λ p. mark v (i + p)) n
-part-weighed v w i n h =
-    let z : w / 2 ^ 0 ≡ w = div-one w in
-    let first : ones (bitAnd (v / 2 ^ i % 2 ^ n) (w / 2 ^ 0)) ≡ ones (bitAnd (v / 2 ^ i % 2 ^ n) w) = ap (λ (y : ℕ). ones (bitAnd (v / 2 ^ i % 2 ^ n) y)) z in
-    omega (arith, part-is (v / 2 ^ i) n h w, part-is (v / 2 ^ i) n h (w / 65536), part-is (v / 2 ^ i) n h (w / 4294967296), weigh-ones v w i n, first)
-
-pub part-nothing : (v w i n : ℕ) → n ≤ 63 → v / 2 ^ i % ((1 * 2 ^ n) % 2 ^ 64) ≡ 0 → v / 2 ^ i % ((1 * 2 ^ n) % 2 ^ 64) ≡ weigh w (λ p. mark v (i + p)) n
-unfolding ones onesIn
-part-nothing v w i n h e = e ∙ rw e at (part-weighed v w i n h)
-
--- no weight above 1
-pub part-light : (v w i n : ℕ) → n ≤ 63 → w / 65536 ≡ 0 → ones (bitAnd (v / 2 ^ i % ((1 * 2 ^ n) % 2 ^ 64)) w) ≡ weigh w (λ p. mark v (i + p)) n
-unfolding ones onesIn
-part-light v w i n h e =
-    let f : w / 4294967296 ≡ 0 = omega arith in
-    let none : ones (bitAnd (v / 2 ^ i % ((1 * 2 ^ n) % 2 ^ 64)) 0) ≡ 0 = ap ones (and-zero-r (v / 2 ^ i % ((1 * 2 ^ n) % 2 ^ 64))) in
-    omega (arith, none, rw (e, f) at (part-weighed v w i n h))
-
-pub ruleset weigh-cases = (part-nothing, part-light, divisor-some, and-fits, twos-fit, fours-fit, threes-fit, sevens-fit, part-weighed)
+pub ruleset weigh-cases = (part-weighed, part-unmarked, part-light, and-fits, twos-fit, fours-fit, threes-fit, sevens-fit)

@@ -1,6 +1,6 @@
 // Marks of concentrators in a word, and how many of the senders 1 to n have theirs.
 ghost use mathlib.Core.Path.{_≡_};
-ghost use Prim.Native.Nat.{_+_, min};
+ghost use Prim.Native.Nat.{_+_, _/_, _%_, _^_, min};
 ghost use Rattle.quorum.specs.Marks.{mark, withMark};
 ghost use Rattle.quorum.specs.Total.{share, count};
 ghost use Rattle.quorum.specs.Weights.{weightOf, weigh};
@@ -35,34 +35,24 @@ pub fn with_mark(w: u64, p: u64) -> u64
     w + (1 << (p - 1))
 }
 
-// How many of the senders 1 to n have the mark `base` above their number, one by one.
-fn count_each(w: u64, base: u16, n: u8) -> u64
-    ensures { λ r. ⌜ r ≡ count (λ p. mark w (base + p)) n ⌝ }
+// The marks base + 1 to base + n of a word, as marks 1 to n.
+fn part(w: u64, base: u16, n: u8) -> u64
+    ensures { λ r. ⌜ r ≡ w / 2 ^ base % 2 ^ n ⌝ }
 {
-    let mut c: u64 = 0;
-    let mut p: u8 = 0;
-    while p < n {
-        p += 1;
-        c += mark(w, base as u64 + p as u64) as u64;
+    if 63 < base {
+        return 0;
     }
-    c
+    if 63 < n {
+        return w >> base;
+    }
+    (w >> base) % (1 << n)
 }
 
 // How many of the senders 1 to n have the mark `base` above their number.
 pub fn count_marks(w: u64, base: u16, n: u8) -> u64
     ensures { λ r. ⌜ r ≡ count (λ p. mark w (base + p)) n ⌝ }
 {
-    if 63 < base {
-        return count_each(w, base, n);
-    }
-    if 63 < n {
-        return count_each(w, base, n);
-    }
-    let part = (w >> base) % (1 << n);
-    if part == 0 {
-        return part;
-    }
-    u64::count_ones(part) as u64
+    u64::count_ones(part(w, base, n)) as u64
 }
 
 // x where b, else 0.
@@ -82,35 +72,13 @@ pub fn weight_of(weights: u64, p: u8) -> u64
     one as u64 + 2 * two as u64 + 4 * four as u64
 }
 
-// The weight of the senders 1 to n that have the mark `base` above their number, one by one.
-fn weigh_each(w: u64, base: u16, n: u8, weights: u64) -> u64
-    ensures { λ r. ⌜ r ≡ weigh weights (λ p. mark w (base + p)) n ⌝ }
-{
-    let mut c: u64 = 0;
-    let mut p: u8 = 0;
-    while p < n {
-        p += 1;
-        let there = mark(w, base as u64 + p as u64);
-        let x = weight_of(weights, p);
-        let y = share(there, x);
-        c += y;
-    }
-    c
-}
-
 // The weight of the senders 1 to n that have the mark `base` above their number. Where none weighs more than 1 it is their count.
 pub fn weigh_marks(w: u64, base: u16, n: u8, weights: u64) -> u64
     ensures { λ r. ⌜ r ≡ weigh weights (λ p. mark w (base + p)) n ⌝ }
 {
-    if 63 < base {
-        return weigh_each(w, base, n, weights);
-    }
-    if 63 < n {
-        return weigh_each(w, base, n, weights);
-    }
-    let marked = (w >> base) % (1 << n);
+    let marked = part(w, base, n);
     if marked == 0 {
-        return marked;
+        return 0;
     }
     let ones = u64::count_ones(marked & weights) as u64;
     if weights >> 16 == 0 {

@@ -28,6 +28,11 @@ marked s k p = mark (word s k) p
 unfoldable pub equalAt : List ℕ → ℕ → ℕ → ℕ → Bool
 equalAt s b v p = eqb (word s (b + (p - 1))) v
 
+-- a word has a mark for each of n words from b on, and all these are there
+pub record Reached (s : List ℕ) (b n : ℕ) : Type 0 where
+  pub few : n ≤ 64
+  pub there : b + n ≤ length s
+
 -- the state with mark p of word k set
 unfoldable pub setMark : List ℕ → ℕ → ℕ → List ℕ
 setMark s k p = put s k (withMark (word s k) p)
@@ -75,6 +80,10 @@ put-within s k v = refl
 pub put-past-end : (s : List ℕ) (k v : ℕ) → length s ≤ k → s ≡ put s k v
 unfolding put
 put-past-end s k v h = sym (set-out s k v h)
+
+pub equal-inside : (s : List ℕ) (b v p : ℕ) → eqb (getD s (b + (p - 1)) 0) v ≡ equalAt s b v p
+unfolding equalAt word
+equal-inside s b v p = refl
 
 pub equal-test : (s : List ℕ) (b v p r : ℕ) → r ≡ word s (b + (p - 1)) → eqb r v ≡ equalAt s b v p
 unfolding equalAt

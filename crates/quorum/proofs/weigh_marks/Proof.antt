@@ -4,35 +4,17 @@ use borrow.Author.Needs.{needs}
 use Rattle.quorum.proofs.weigh_marks.Statement.{statement}
 use Rattle.quorum.proofs.weigh_marks.Tie as tie
 
-weigh-each-requires : tie.Need-weigh-each-requires
-weigh-each-requires c κs = search needs
+part-requires : tie.Need-part-requires
+part-requires c κs = search needs
 
 returns : tie.Need-returns
-returns c = search needs
-
-weigh-each-requires-2 : tie.Need-weigh-each-requires-2
-weigh-each-requires-2 c κs = search needs
-
-returns-2 : tie.Need-returns-2
-returns-2 c = search needs
-
-shr-marked : tie.Need-shr-marked
-shr-marked c = search needs
-
-shl-marked : tie.Need-shl-marked
-shl-marked c = search needs
-
-rem-marked : tie.Need-rem-marked
-rem-marked c = search weigh-cases
-
-returns-3 : tie.Need-returns-3
-returns-3 c = search weigh-cases
+returns c = search weigh-cases
 
 cast-ones : tie.Need-cast-ones
 cast-ones c = search weigh-cases
 
-returns-4 : tie.Need-returns-4
-returns-4 c = search weigh-cases
+returns-2 : tie.Need-returns-2
+returns-2 c = search weigh-cases
 
 cast-twos : tie.Need-cast-twos
 cast-twos c = search weigh-cases
@@ -52,27 +34,21 @@ mul-result-2 c = search weigh-cases
 add-result-2 : tie.Need-add-result-2
 add-result-2 c = search weigh-cases
 
-returns-5 : tie.Need-returns-5
-returns-5 c = search weigh-cases
+returns-3 : tie.Need-returns-3
+returns-3 c = search weigh-cases
 
 pub weigh-marks-spec : {M : Type 1} → statement M
 weigh-marks-spec =
     tie.close
     (tie.spec
-    weigh-each-requires
+    part-requires
     returns
-    weigh-each-requires-2
-    returns-2
-    shr-marked
-    shl-marked
-    rem-marked
-    returns-3
     cast-ones
-    returns-4
+    returns-2
     cast-twos
     cast-fours
     mul-result
     add-result
     mul-result-2
     add-result-2
-    returns-5)
+    returns-3)

@@ -1,6 +1,6 @@
 -- `weight_of` reads the three digits of a weight.
 use borrow.Author.Needs.{needs}
-use Rattle.quorum.specs.Weights.{weighing}
+use Rattle.quorum.specs.Weights.{weight-digits}
 use Rattle.quorum.proofs.weight_of.Statement.{statement}
 use Rattle.quorum.proofs.weight_of.Tie as tie
 
@@ -26,22 +26,22 @@ cast-result-2 : tie.Need-cast-result-2
 cast-result-2 c = search needs
 
 mul-result : tie.Need-mul-result
-mul-result c = search weighing
+mul-result c = search weight-digits
 
 add-result : tie.Need-add-result
-add-result c = search weighing
+add-result c = search weight-digits
 
 cast-result-3 : tie.Need-cast-result-3
 cast-result-3 c = search needs
 
 mul-result-2 : tie.Need-mul-result-2
-mul-result-2 c = search weighing
+mul-result-2 c = search weight-digits
 
 add-result-2 : tie.Need-add-result-2
-add-result-2 c = search weighing
+add-result-2 c = search weight-digits
 
 returns : tie.Need-returns
-returns c = search weighing
+returns c = search weight-digits
 
 pub weight-of-spec : {M : Type 1} → statement M
 weight-of-spec =

@@ -2,8 +2,8 @@
 use Rattle.quorum.specs.Marking.{Marking, marking}
 use Rattle.records.specs.Words.{equalAt, equal-test}
 use borrow.Author.Needs.{needs}
-use Rattle.records.proofs.equal_marks.Statement.{statement}
-use Rattle.records.proofs.equal_marks.Tie as tie
+use Rattle.records.proofs.equal_each.Statement.{statement}
+use Rattle.records.proofs.equal_each.Tie as tie
 
 abbrev Inv-loop : tie.InvT-loop
 Inv-loop s base n v m₀ p₀ m p = Marking (equalAt s base v) p₀ p m
@@ -47,8 +47,8 @@ loop-again c = search (marking, equal-test)
 returns : tie.Need-returns Inv-loop μ-loop
 returns c = search marking
 
-pub equal-marks-spec : {M : Type 1} → statement M
-equal-marks-spec =
+pub equal-each-spec : {M : Type 1} → statement M
+equal-each-spec =
     tie.close
     (tie.spec
     Inv-loop
