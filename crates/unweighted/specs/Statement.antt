@@ -67,13 +67,50 @@ EachGivenOnes (delivery link b ∷ cs) = EachGivenOnes cs
 EachGivenOnes (turn out ∷ cs) = EachGivenOnes cs
 EachGivenOnes (report ∷ cs) = EachGivenOnes cs
 
+-- an unweighted opening takes the same arguments but the weights
+abbrev pub unweightedAnswer : List ℕ → Arguments → ℕ
+unweightedAnswer s o = unweighted-opening.openAnswer (length s) (o .n) (o .ta) (o .ts) (o .own) (length (o .coins))
+
+abbrev pub unweightedOpenedBy : List ℕ → Arguments → List ℕ
+unweightedOpenedBy s o = unweighted-opening.opened s (o .n) (o .ta) (o .ts) (o .own) (o .session) (o .input) (o .coins)
+
+-- the words after a list of calls of an unweighted session, newest first, on the words s; a report writes none of them
+unfoldable pub unweightedAfter : List ℕ → List Step → List ℕ
+unweightedAfter s [] = s
+unweightedAfter s (opening o ∷ cs) = unweightedOpenedBy (unweightedAfter s cs) o
+unweightedAfter s (delivery link b ∷ cs) = unweighted-delivery.delivered (unweightedAfter s cs) link b
+unweightedAfter s (turn out ∷ cs) = unweighted-turn.turnWords (unweightedAfter s cs) (length out)
+unweightedAfter s (report ∷ cs) = unweightedAfter s cs
+
+-- two runs side by side: w are the words of one with weights of 1, u those of the unweighted one
+pub record SideBySide (w u : List ℕ) : Type 0 where
+  -- the words are the same but for that of the weights: it is 0 in the unweighted run ..
+  pub words : u ≡ put w weightsAt 0
+  -- .. and gives each of 1 to n the weight 1 in the other
+  pub weights : AllOne w
+  -- a further opening, given weights of 1, has the same answer
+  pub opening-answer : (o : Arguments) → GivenOnes o → answer w o ≡ unweightedAnswer u o
+  -- a further delivery has the same answer
+  pub delivery-answer : (link : ℕ) (b : List ℕ) → deliverAnswer w link b ≡ unweighted-delivery.deliverAnswer u link b
+  -- a further turn has the same outcome ..
+  pub turn-outcome : (room : ℕ) → turnOutcome w room ≡ unweighted-turn.turnOutcome u room
+  -- .. and leaves the same bytes, those of its message among them
+  pub turn-bytes : (out : List ℕ) → turnBytes w out ≡ unweighted-turn.turnBytes u out
+  -- a further report has the same answer ..
+  pub report-answer : (namedWords inForceWords : ℕ) → reportAnswer w namedWords inForceWords ≡ unweighted-report.reportAnswer u namedWords inForceWords
+  -- .. leaves the same words lent for the set that the exits name ..
+  pub report-named : (named : List ℕ) (inForceWords : ℕ) → reportNamed w named inForceWords ≡ unweighted-report.reportNamed u named inForceWords
+  -- .. and the same words lent for the set in force
+  pub report-in-force : (namedWords : ℕ) (inForce : List ℕ) → reportInForce w namedWords inForce ≡ unweighted-report.reportInForce u namedWords inForce
+
 -- the claim
 pub record Unweighted : Type 0 where
+  -- an opening given weights of 1 has the unweighted answer ..
   pub openings-answer : AnswersAlike
+  -- .. and leaves the unweighted words but for that of the weights, on any words, foreign ones too
   pub openings : (s : List ℕ) (n ta ts own session input : ℕ) (coins : List ℕ) → OpensAlike s n ta ts own session input coins
-  -- on any words in which all weights are 1, foreign ones too
+  -- every other call is the unweighted one on any words in which all weights are 1, foreign ones too
   pub calls : (s : List ℕ) → AllOne s → Alike s
-  -- after every accepted opening and every list of calls, further openings among them, all weights are 1 ..
-  pub kept : (s : List ℕ) (o : Arguments) → answer s o ≡ 0 → GivenOnes o → (cs : List Step) → EachGivenOnes cs → AllOne (after (openedBy s o) cs)
-  -- .. and so every further call answers as the unweighted one; openings do on any words
-  pub after-calls : (s : List ℕ) (o : Arguments) → answer s o ≡ 0 → GivenOnes o → (cs : List Step) → EachGivenOnes cs → Alike (after (openedBy s o) cs)
+  -- after an accepted opening of any words and every list of calls, further openings among them, each given weights of 1, the run
+  -- and the unweighted run of the same calls stand side by side
+  pub runs : (s : List ℕ) (o : Arguments) → answer s o ≡ 0 → GivenOnes o → (cs : List Step) → EachGivenOnes cs → SideBySide (after (openedBy s o) cs) (unweightedAfter (unweightedOpenedBy s o) cs)

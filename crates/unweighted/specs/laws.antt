@@ -9,4 +9,6 @@ pub mod Delivery
 pub mod Turn
 pub mod Report
 pub mod Opening
+pub mod apart
+pub mod Runs
 pub mod Lists

@@ -46,7 +46,7 @@ module _ (g : weighted-settings.Settings) (one : Ones g) where
   unfolding weighted.exit3 weighted.exit3Full exit3 exit3Full
   exit3-same o as1 = refl
 
-  exit-same : (o : ℕ → Output) (as0 as1 : ℕ → Bool) → weighted.exitOf g o as0 as1 ≡ exitOf (plain g) o as0 as1
+  pub exit-same : (o : ℕ → Output) (as0 as1 : ℕ → Bool) → weighted.exitOf g o as0 as1 ≡ exitOf (plain g) o as0 as1
   unfolding weighted.exitOf exitOf
   exit-same o as0 as1 = rw (exit1-same o, votes-same as0 as1, exit2-same o as1, exit3-same o as1)
 

@@ -18,6 +18,7 @@ use Rattle.unweighted.specs.laws.Delivery.{deliver-answer-same, delivere
 use Rattle.unweighted.specs.laws.Turn.{turn-outcome-same, turn-words-same, turn-bytes-same}
 use Rattle.unweighted.specs.laws.Report.{report-answer-same, report-named-same, report-in-force-same}
 use Rattle.unweighted.specs.laws.Opening.{each-one, answer-same, opens-same}
+use Rattle.unweighted.specs.laws.Runs.{runs}
 
 -- the settings of an accepted opening
 given-ones : (o : Arguments) → GivenOnes o → Ruled (settingsBy o) → Ones (settingsBy o)
@@ -72,6 +73,5 @@ all-ones =
       openings-answer = answers-alike;
       openings = λ s n ta ts own session input coins. opens-same n ta ts own session input coins s;
       calls = alike;
-      kept = kept;
-      after-calls = λ s o e h cs hs. alike (after (openedBy s o) cs) (kept s o e h cs hs);
+      runs = λ s o e h cs hs. runs s o e h cs hs (kept s o e h);
     }

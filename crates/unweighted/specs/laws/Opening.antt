@@ -48,7 +48,7 @@ unfolding weighted.openAnswer openAnswer
 answer-same words n ta ts own coinWords = rw (ones-valid n (namedTa ta) ts)
 
 -- a run of stores beside a word that is put
-store-put : (f : ℕ → ℕ) (a : ℕ) (s : List ℕ) (k v n : ℕ) → ((j : ℕ) → 1 ≤ j → j ≤ n → k ≢ a + j) → storeOf f a (put s k v) n ≡ put (storeOf f a s n) k v
+pub store-put : (f : ℕ → ℕ) (a : ℕ) (s : List ℕ) (k v n : ℕ) → ((j : ℕ) → 1 ≤ j → j ≤ n → k ≢ a + j) → storeOf f a (put s k v) n ≡ put (storeOf f a s n) k v
 unfolding storeOf put
 store-put f a s k v zero h = refl
 store-put f a s k v (suc n) h =
@@ -61,13 +61,18 @@ module _ (n ta ts own session input : ℕ) (coins : List ℕ) where
   words-same w few = store-put (item coins) (coinAt 0) _ weightsAt w n (λ j lo hi z. omega arith)
 
   module _ (s : List ℕ) where
+    pub accepted-few : openAnswer (length s) n ta ts own (length coins) ≡ 0 → (1 ≤ n) × (n ≤ 16)
+    accepted-few e =
+        let same = answer-same (length s) n ta ts own (length coins) in
+        let r = valid-rules n (namedTa ta) ts (onesWord n) (weighted-cases.accepted (length s) n ta ts (onesWord n) own (length coins) (same ∙ e) .valid) in
+        (r .some, r .few)
+
     opened-accepted : openAnswer (length s) n ta ts own (length coins) ≡ 0 → weighted.opened s n ta ts (onesWord n) own session input coins ≡ put (opened s n ta ts own session input coins) weightsAt (2 ^ n - 1)
     unfolding weighted.opened opened
     opened-accepted e =
-        let same = answer-same (length s) n ta ts own (length coins) in
-        let r = valid-rules n (namedTa ta) ts (onesWord n) (weighted-cases.accepted (length s) n ta ts (onesWord n) own (length coins) (same ∙ e) .valid) in
-        rw (same, eq-eqb (openAnswer (length s) n ta ts own (length coins)) 0 e)
-        (words-same (onesWord n) (r .few) ∙ ap (put (openWords n ta ts own session input coins) weightsAt) (ones-word n (r .some) (r .few)))
+        let few = accepted-few e in
+        rw (answer-same (length s) n ta ts own (length coins), eq-eqb (openAnswer (length s) n ta ts own (length coins)) 0 e)
+        (words-same (onesWord n) (few .1) ∙ ap (put (openWords n ta ts own session input coins) weightsAt) (ones-word n (few .0) (few .1)))
 
     opened-refused : openAnswer (length s) n ta ts own (length coins) ≢ 0 → weighted.opened s n ta ts (onesWord n) own session input coins ≡ s
     unfolding weighted.opened
