@@ -25,9 +25,9 @@ use Rattle.agreement_example.specs.Messages.{openingWith, deliver, turnO
 use Rattle.turn_bound.specs.Computing.{calls}
 use Rattle.agreement_example.specs.Computing.{checks}
 
--- the weights as one word: 4 of 1 is mark 33, 1 of 2 and of 3 are marks 2 and 3
+-- the weights as one word: 1 has the marks 1, 17, 33 and 49, 2 and 3 the marks 2 and 3
 abbrev pub session : Agreed
-session = record { settings = record { n = 3; ta = 1; ts = 1; whole = 6; weights = 2 ^ 32 + 6 }; number = 7; coins = 1 ∷ 0 ∷ 1 ∷ [] }
+session = record { settings = record { n = 3; ta = 1; ts = 1; whole = 6; weights = 2 ^ 48 + 2 ^ 32 + 2 ^ 16 + 7 }; number = 7; coins = 1 ∷ 0 ∷ 1 ∷ [] }
 
 abbrev pub firstTwo : ℕ → Bool
 firstTwo p = leb p 2

@@ -101,7 +101,7 @@ heavy =
     ∷ []
 
 heavy-holds :
-    answers (four 7 (2 ^ 32 + 14)) heavy
+    answers (four 7 (2 ^ 48 + 2 ^ 32 + 2 ^ 16 + 15)) heavy
     ≡ exit 1 (5 ∷ [])
     ∷ exit 0 []
     ∷ exit 2 (5 ∷ [])
@@ -111,6 +111,6 @@ unfolding answers four row heavy v no exit at is0 is1 exitOf withOutput sizeS ex
 heavy-holds = refl
 
 -- weights 3, 1, 1, 1: half of the weight of S is no majority, though three of four heads hold 6
-half-holds : answers (four 6 (2 ^ 16 + 15)) (row (v 5) (v 6) (v 6) (v 6) d1 d1 d1 d1 ∷ []) ≡ exit 3 (5 ∷ 6 ∷ []) ∷ []
+half-holds : answers (four 6 (2 ^ 32 + 2 ^ 16 + 15)) (row (v 5) (v 6) (v 6) (v 6) d1 d1 d1 d1 ∷ []) ≡ exit 3 (5 ∷ 6 ∷ []) ∷ []
 unfolding answers four row v no exit at is0 is1 exitOf withOutput sizeS exit1At votesDone exit2At exit3Full insert insertOutput outputsOfS noExit exit3 naming lowest every total weightOf mark quorum voteQuorum
 half-holds = refl

@@ -60,9 +60,9 @@ pub mark-absent : (b : Bool) (w k : ℕ) → b ≡ false → w ≡ markIf b w k
 unfolding markIf
 mark-absent b w k t = rw t
 
-pub weight-put : (w p x a b c : ℕ) → a ≡ markIf (eqb (x % 2) 1) w p → b ≡ markIf (eqb (x / 2 % 2) 1) a (16 + p) → c ≡ markIf (eqb (x / 4 % 2) 1) b (32 + p) → c ≡ withWeight w p x
+pub weight-put : (w p x a b c d : ℕ) → a ≡ markIf (leb 1 x) w p → b ≡ markIf (leb 2 x) a (16 + p) → c ≡ markIf (leb 3 x) b (32 + p) → d ≡ markIf (leb 4 x) c (48 + p) → d ≡ withWeight w p x
 unfolding withWeight
-weight-put w p x a b c e f h = let z : 0 + p ≡ p = omega arith in h ∙ rw (f, e, z)
+weight-put w p x a b c d e f g h = let z : 0 + p ≡ p = omega arith in h ∙ rw (g, f, e, z)
 
 -- a loop that has put in the weights f 1 to f k
 pub record Packing (f : ℕ → ℕ) (n k w : ℕ) : Type 0 where

@@ -44,7 +44,7 @@ pub weight-given : (n : ℕ) (ws : List ℕ) → weightsGiven n ws ≡ true → 
 unfolding weightsWord
 weight-given n ws e p lo hi =
     let k = are-given n ws e in
-    rw e (weight-packed (item ws) n p lo hi (k .few) (omega (arith, k .high p lo hi)))
+    rw e (weight-packed (item ws) n p lo hi (k .few) (k .high p lo hi))
 
 nobody : weightOf 0 1 ≡ 0
 unfolding weightOf mark
@@ -70,7 +70,7 @@ mark-fits false w k h = h
 packed-fits : (f : ℕ → ℕ) (n : ℕ) → packed f n < 2 ^ 64
 unfolding packed withWeight
 packed-fits f zero = omega arith
-packed-fits f (suc n) = mark-fits _ _ _ (mark-fits _ _ _ (mark-fits _ _ _ (packed-fits f n)))
+packed-fits f (suc n) = mark-fits _ _ _ (mark-fits _ _ _ (mark-fits _ _ _ (mark-fits _ _ _ (packed-fits f n))))
 
 -- the word of the weights is one of 64 bits
 pub weights-fit : (n : ℕ) (ws : List ℕ) → weightsWord n ws < 2 ^ 64

@@ -67,13 +67,14 @@ fn mark_if(b: bool, w: u64, k: u64) -> u64
     if b { quorum::with_mark(w, k) } else { w }
 }
 
-// The word with the digits of the weight x of p.
+// The word with the first x of the four marks of p.
 fn with_weight(w: u64, p: u8, x: u64) -> u64
     ensures { λ r. ⌜ r ≡ withWeight w p x ⌝ }
 {
-    let ones = mark_if(x % 2 == 1, w, p as u64);
-    let twos = mark_if(x / 2 % 2 == 1, ones, 16 + p as u64);
-    mark_if(x / 4 % 2 == 1, twos, 32 + p as u64)
+    let first = mark_if(1 <= x, w, p as u64);
+    let second = mark_if(2 <= x, first, 16 + p as u64);
+    let third = mark_if(3 <= x, second, 32 + p as u64);
+    mark_if(4 <= x, third, 48 + p as u64)
 }
 
 // The weights 1 to n as one word.

@@ -118,7 +118,7 @@ marking-all M n k m i h = marking-done M n n k m i h (omega (arith, i .few))
 -- a number above 64 weighs nothing
 weight-none : (w p : ℕ) → w < 2 ^ 64 → 64 < p → weightOf w p ≡ 0
 unfolding weightOf
-weight-none w p h l = rw (mark-high w (0 + p) h (omega arith), mark-high w (16 + p) h (omega arith), mark-high w (32 + p) h (omega arith))
+weight-none w p h l = rw (mark-high w (0 + p) h (omega arith), mark-high w (16 + p) h (omega arith), mark-high w (32 + p) h (omega arith), mark-high w (48 + p) h (omega arith))
 
 pub marks-weighed : (M : ℕ → Bool) (n m w : ℕ) → MarksOf M n m → w < 2 ^ 64 → weigh w (λ p. mark m (0 + p)) n ≡ weigh w M n
 marks-weighed M n m w x h = total-shares (weightOf w) (λ p. mark m (0 + p)) M n (λ p lo hi. at p lo hi (decLe p 64))

@@ -5,7 +5,7 @@ use mathlib.Core.Logic.{_≢_}
 use mathlib.Core.Path.{_≡_, refl, sym, ap, subst, _∙_}
 use native.Mathlib.Omega.{arith}
 use native.Mathlib.Decide.{decLe}
-use lib.Dec.{eqb}
+use lib.Dec.{leb}
 use Rattle.quorum.specs.Marks.{mark, withMark}
 use Rattle.quorum.specs.MarkLaws.{mark-same, mark-other, mark-zero}
 use Rattle.quorum.specs.Total.{share}
@@ -15,9 +15,9 @@ use Rattle.quorum.specs.Weights.{weightOf}
 unfoldable pub markIf : Bool → ℕ → ℕ → ℕ
 markIf b w k = cond b (withMark w k) w
 
--- the word with the weight x of p
+-- the word with the weight x of p: the first x of its four marks
 unfoldable pub withWeight : ℕ → ℕ → ℕ → ℕ
-withWeight w p x = markIf (eqb (x / 4 % 2) 1) (markIf (eqb (x / 2 % 2) 1) (markIf (eqb (x % 2) 1) w (0 + p)) (16 + p)) (32 + p)
+withWeight w p x = markIf (leb 4 x) (markIf (leb 3 x) (markIf (leb 2 x) (markIf (leb 1 x) w (0 + p)) (16 + p)) (32 + p)) (48 + p)
 
 -- the weights f 1 to f n
 unfoldable pub packed : (ℕ → ℕ) → ℕ → ℕ
@@ -35,92 +35,94 @@ if-same true w k lo hi e = mark-same w k lo hi
 if-same false w k lo hi e = e
 
 module _ (w p x : ℕ) (lo : 1 ≤ p) (hi : p ≤ 16) where
-  abbrev one : ℕ
-  one = markIf (eqb (x % 2) 1) w (0 + p)
+  abbrev first : ℕ
+  first = markIf (leb 1 x) w (0 + p)
 
-  abbrev two : ℕ
-  two = markIf (eqb (x / 2 % 2) 1) one (16 + p)
+  abbrev second : ℕ
+  second = markIf (leb 2 x) first (16 + p)
 
-  with-other : (j : ℕ) → j ≢ 0 + p → j ≢ 16 + p → j ≢ 32 + p → mark (withWeight w p x) j ≡ mark w j
+  abbrev third : ℕ
+  third = markIf (leb 3 x) second (32 + p)
+
+  with-other : (j : ℕ) → j ≢ 0 + p → j ≢ 16 + p → j ≢ 32 + p → j ≢ 48 + p → mark (withWeight w p x) j ≡ mark w j
   unfolding withWeight
-  with-other j a b c =
-      if-other (eqb (x / 4 % 2) 1) two (32 + p) j c ∙ if-other (eqb (x / 2 % 2) 1) one (16 + p) j b ∙ if-other (eqb (x % 2) 1) w (0 + p) j a
+  with-other j a b c d =
+      if-other (leb 4 x) third (48 + p) j d ∙ if-other (leb 3 x) second (32 + p) j c ∙ if-other (leb 2 x) first (16 + p) j b ∙ if-other (leb 1 x) w (0 + p) j a
 
-  module _ (e1 : mark w (0 + p) ≡ false) (e2 : mark w (16 + p) ≡ false) (e4 : mark w (32 + p) ≡ false) where
-    with-one : mark (withWeight w p x) (0 + p) ≡ eqb (x % 2) 1
+  module _ (clear : (k : ℕ) → k ≤ 3 → mark w (16 * k + p) ≡ false) where
+    with-first : mark (withWeight w p x) (0 + p) ≡ leb 1 x
     unfolding withWeight
-    with-one =
-        if-other (eqb (x / 4 % 2) 1) two (32 + p) (0 + p) (λ z. omega arith)
-        ∙ if-other (eqb (x / 2 % 2) 1) one (16 + p) (0 + p) (λ z. omega arith)
-        ∙ if-same (eqb (x % 2) 1) w (0 + p) (omega arith) (omega arith) e1
+    with-first =
+        if-other (leb 4 x) third (48 + p) (0 + p) (λ z. omega arith)
+        ∙ if-other (leb 3 x) second (32 + p) (0 + p) (λ z. omega arith)
+        ∙ if-other (leb 2 x) first (16 + p) (0 + p) (λ z. omega arith)
+        ∙ if-same (leb 1 x) w (0 + p) (omega arith) (omega arith) (clear 0 (omega arith))
 
-    with-two : mark (withWeight w p x) (16 + p) ≡ eqb (x / 2 % 2) 1
+    with-second : mark (withWeight w p x) (16 + p) ≡ leb 2 x
     unfolding withWeight
-    with-two =
-        if-other (eqb (x / 4 % 2) 1) two (32 + p) (16 + p) (λ z. omega arith)
-        ∙ if-same (eqb (x / 2 % 2) 1) one (16 + p) (omega arith) (omega arith) (if-other (eqb (x % 2) 1) w (0 + p) (16 + p) (λ z. omega arith) ∙ e2)
+    with-second =
+        if-other (leb 4 x) third (48 + p) (16 + p) (λ z. omega arith)
+        ∙ if-other (leb 3 x) second (32 + p) (16 + p) (λ z. omega arith)
+        ∙ if-same (leb 2 x) first (16 + p) (omega arith) (omega arith) (if-other (leb 1 x) w (0 + p) (16 + p) (λ z. omega arith) ∙ clear 1 (omega arith))
 
-    with-four : mark (withWeight w p x) (32 + p) ≡ eqb (x / 4 % 2) 1
+    with-third : mark (withWeight w p x) (32 + p) ≡ leb 3 x
     unfolding withWeight
-    with-four =
-        if-same (eqb (x / 4 % 2) 1) two (32 + p) (omega arith) (omega arith)
-        (if-other (eqb (x / 2 % 2) 1) one (16 + p) (32 + p) (λ z. omega arith) ∙ if-other (eqb (x % 2) 1) w (0 + p) (32 + p) (λ z. omega arith) ∙ e4)
+    with-third =
+        if-other (leb 4 x) third (48 + p) (32 + p) (λ z. omega arith)
+        ∙ if-same (leb 3 x) second (32 + p) (omega arith) (omega arith)
+        (if-other (leb 2 x) first (16 + p) (32 + p) (λ z. omega arith) ∙ if-other (leb 1 x) w (0 + p) (32 + p) (λ z. omega arith) ∙ clear 2 (omega arith))
+
+    with-fourth : mark (withWeight w p x) (48 + p) ≡ leb 4 x
+    unfolding withWeight
+    with-fourth =
+        if-same (leb 4 x) third (48 + p) (omega arith) (omega arith)
+        (if-other (leb 3 x) second (32 + p) (48 + p) (λ z. omega arith)
+        ∙ if-other (leb 2 x) first (16 + p) (48 + p) (λ z. omega arith)
+        ∙ if-other (leb 1 x) w (0 + p) (48 + p) (λ z. omega arith)
+        ∙ clear 3 (omega arith))
 
 -- no marks of numbers above n
 module _ (f : ℕ → ℕ) where
-  -- one of the three groups
-  record Group (base : ℕ) : Type 0 where
-    step : ℕ
-    same : base ≡ 16 * step
-    few : step ≤ 2
-
-  clear-above : (n q base : ℕ) → n < q → q ≤ 16 → Group base → mark (packed f n) (base + q) ≡ false
+  clear-above : (n q k : ℕ) → n < q → q ≤ 16 → k ≤ 3 → mark (packed f n) (16 * k + q) ≡ false
   unfolding packed
-  clear-above zero q base l h g = mark-zero (base + q)
-  clear-above (suc n) q base l h g =
-      with-other (packed f n) (suc n) (f (suc n)) (omega arith) (omega arith) (base + q)
-      (λ z. omega (arith, g .same, g .few)) (λ z. omega (arith, g .same, g .few)) (λ z. omega (arith, g .same, g .few))
-      ∙ clear-above n q base (omega arith) h g
+  clear-above zero q k l h g = mark-zero (16 * k + q)
+  clear-above (suc n) q k l h g =
+      with-other (packed f n) (suc n) (f (suc n)) (omega arith) (omega arith) (16 * k + q)
+      (λ z. omega arith) (λ z. omega arith) (λ z. omega arith) (λ z. omega arith)
+      ∙ clear-above n q k (omega arith) h g
 
-digits-of : (x : ℕ) → x ≤ 7 → share (eqb (x % 2) 1) 1 + share (eqb (x / 2 % 2) 1) 2 + share (eqb (x / 4 % 2) 1) 4 ≡ x
-digits-of zero l = refl
-digits-of (suc zero) l = refl
-digits-of (suc (suc zero)) l = refl
-digits-of (suc (suc (suc zero))) l = refl
-digits-of (suc (suc (suc (suc zero)))) l = refl
-digits-of (suc (suc (suc (suc (suc zero))))) l = refl
-digits-of (suc (suc (suc (suc (suc (suc zero)))))) l = refl
-digits-of (suc (suc (suc (suc (suc (suc (suc zero))))))) l = refl
-digits-of (suc (suc (suc (suc (suc (suc (suc (suc x)))))))) l = absurd (omega arith)
+groups-of : (x : ℕ) → x ≤ 4 → share (leb 1 x) 1 + share (leb 2 x) 1 + share (leb 3 x) 1 + share (leb 4 x) 1 ≡ x
+groups-of zero l = refl
+groups-of (suc zero) l = refl
+groups-of (suc (suc zero)) l = refl
+groups-of (suc (suc (suc zero))) l = refl
+groups-of (suc (suc (suc (suc zero)))) l = refl
+groups-of (suc (suc (suc (suc (suc x))))) l = absurd (omega arith)
 
 module _ (f : ℕ → ℕ) where
   weight-same : (n p : ℕ) → 1 ≤ p → p ≤ n → suc n ≤ 16 → weightOf (packed f (suc n)) p ≡ weightOf (packed f n) p
   unfolding packed weightOf
   weight-same n p lo hi few =
-      rw (
-        with-other (packed f n) (suc n) (f (suc n)) (omega arith) few (0 + p) (λ z. omega arith) (λ z. omega arith) (λ z. omega arith),
-        with-other (packed f n) (suc n) (f (suc n)) (omega arith) few (16 + p) (λ z. omega arith) (λ z. omega arith) (λ z. omega arith),
-        with-other (packed f n) (suc n) (f (suc n)) (omega arith) few (32 + p) (λ z. omega arith) (λ z. omega arith) (λ z. omega arith),
-      )
+      let other : (k : ℕ) → k ≤ 3 → mark (withWeight (packed f n) (suc n) (f (suc n))) (16 * k + p) ≡ mark (packed f n) (16 * k + p) = λ k h. with-other (packed f n) (suc n) (f (suc n)) (omega arith) few (16 * k + p) (λ z. omega arith) (λ z. omega arith) (λ z. omega arith) (λ z. omega arith) in
+      rw (other 0 (omega arith), other 1 (omega arith), other 2 (omega arith), other 3 (omega arith))
 
-  weight-new : (n : ℕ) → suc n ≤ 16 → f (suc n) ≤ 7 → weightOf (packed f (suc n)) (suc n) ≡ f (suc n)
+  weight-new : (n : ℕ) → suc n ≤ 16 → f (suc n) ≤ 4 → weightOf (packed f (suc n)) (suc n) ≡ f (suc n)
   unfolding packed weightOf
   weight-new n few small =
-      let e1 = clear-above f n (suc n) 0 (omega arith) few (record { step = 0; same = refl; few = omega arith }) in
-      let e2 = clear-above f n (suc n) 16 (omega arith) few (record { step = 1; same = refl; few = omega arith }) in
-      let e4 = clear-above f n (suc n) 32 (omega arith) few (record { step = 2; same = refl; few = omega arith }) in
+      let clear : (k : ℕ) → k ≤ 3 → mark (packed f n) (16 * k + suc n) ≡ false = λ k h. clear-above f n (suc n) k (omega arith) few h in
       rw (
-        with-one (packed f n) (suc n) (f (suc n)) (omega arith) few e1 e2 e4,
-        with-two (packed f n) (suc n) (f (suc n)) (omega arith) few e1 e2 e4,
-        with-four (packed f n) (suc n) (f (suc n)) (omega arith) few e1 e2 e4,
+        with-first (packed f n) (suc n) (f (suc n)) (omega arith) few clear,
+        with-second (packed f n) (suc n) (f (suc n)) (omega arith) few clear,
+        with-third (packed f n) (suc n) (f (suc n)) (omega arith) few clear,
+        with-fourth (packed f n) (suc n) (f (suc n)) (omega arith) few clear,
       )
-      (digits-of (f (suc n)) small)
+      (groups-of (f (suc n)) small)
 
   -- each weight is read back
-  pub weight-packed : (n p : ℕ) → 1 ≤ p → p ≤ n → n ≤ 16 → f p ≤ 7 → weightOf (packed f n) p ≡ f p
+  pub weight-packed : (n p : ℕ) → 1 ≤ p → p ≤ n → n ≤ 16 → f p ≤ 4 → weightOf (packed f n) p ≡ f p
   weight-packed zero p lo hi few small = absurd (omega arith)
   weight-packed (suc n) p lo hi few small = at (decLe p n) (λ l. weight-packed n p lo l (omega arith) small)
     where
       at : Dec (p ≤ n) → (p ≤ n → weightOf (packed f n) p ≡ f p) → weightOf (packed f (suc n)) p ≡ f p
       at (yes l) r = weight-same n p lo l few ∙ r l
-      at (no l) r = let e : suc n ≡ p = omega arith in subst (λ (k : ℕ). weightOf (packed f (suc n)) k ≡ f k) e (weight-new n few (subst (λ (k : ℕ). f k ≤ 7) (sym e) small))
+      at (no l) r = let e : suc n ≡ p = omega arith in subst (λ (k : ℕ). weightOf (packed f (suc n)) k ≡ f k) e (weight-new n few (subst (λ (k : ℕ). f k ≤ 4) (sym e) small))

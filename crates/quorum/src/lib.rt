@@ -66,13 +66,17 @@ pub fn share(b: bool, x: u64) -> u64
 pub fn weight_of(weights: u64, p: u8) -> u64
     ensures { λ r. ⌜ r ≡ weightOf weights p ⌝ }
 {
-    let one = mark(weights, p as u64);
-    let two = mark(weights, 16 + p as u64);
-    let four = mark(weights, 32 + p as u64);
-    one as u64 + 2 * two as u64 + 4 * four as u64
+    let first = mark(weights, p as u64);
+    let second = mark(weights, 16 + p as u64);
+    let third = mark(weights, 32 + p as u64);
+    let fourth = mark(weights, 48 + p as u64);
+    first as u64 + second as u64 + third as u64 + fourth as u64
 }
 
-// The weight of the senders 1 to n that have the mark `base` above their number. Where none weighs more than 1 it is their count.
+// A group of 16 marks times this is that group four times over.
+const FOURFOLD: u64 = 281479271743489;
+
+// The weight of the senders 1 to n that have the mark `base` above their number: one count, unless there are more than 16.
 pub fn weigh_marks(w: u64, base: u16, n: u8, weights: u64) -> u64
     ensures { λ r. ⌜ r ≡ weigh weights (λ p. mark w (base + p)) n ⌝ }
 {
@@ -80,13 +84,14 @@ pub fn weigh_marks(w: u64, base: u16, n: u8, weights: u64) -> u64
     if marked == 0 {
         return 0;
     }
-    let ones = u64::count_ones(marked & weights) as u64;
-    if weights >> 16 == 0 {
-        return ones;
+    if marked <= 65535 {
+        return u64::count_ones(marked * FOURFOLD & weights) as u64;
     }
-    let twos = u64::count_ones(marked & (weights >> 16)) as u64;
-    let fours = u64::count_ones(marked & (weights >> 32)) as u64;
-    ones + 2 * twos + 4 * fours
+    let first = u64::count_ones(marked & weights) as u64;
+    let second = u64::count_ones(marked & (weights >> 16)) as u64;
+    let third = u64::count_ones(marked & (weights >> 32)) as u64;
+    let fourth = u64::count_ones(marked & (weights >> 48)) as u64;
+    first + second + third + fourth
 }
 
 // n, or 64 where it is above: a word has 64 marks, so no number above weighs anything.
@@ -96,14 +101,15 @@ pub fn mark_end(n: u8) -> u8
     if n < 64 { n } else { 64 }
 }
 
-// The weight of 1 to n, by counts of the three digits.
+// The weight of 1 to n, by counts of the four groups.
 fn whole_counted(weights: u64, n: u8) -> u64
     ensures { λ r. ⌜ r ≡ wholeOf weights n ⌝ }
 {
-    let ones = count_marks(weights, 0, n);
-    let twos = count_marks(weights, 16, n);
-    let fours = count_marks(weights, 32, n);
-    ones + 2 * twos + 4 * fours
+    let first = count_marks(weights, 0, n);
+    let second = count_marks(weights, 16, n);
+    let third = count_marks(weights, 32, n);
+    let fourth = count_marks(weights, 48, n);
+    first + second + third + fourth
 }
 
 // The weight of 1 to n: n where each weighs 1.
@@ -113,10 +119,11 @@ pub fn whole(weights: u64, n: u8) -> u64
     if 16 < n {
         return whole_counted(weights, n);
     }
-    if weights == (1 << n) - 1 {
+    let all = (1 << n) - 1;
+    if weights == all {
         return n as u64;
     }
-    whole_counted(weights, n)
+    u64::count_ones(all * FOURFOLD & weights) as u64
 }
 
 // Whether p weighs 1 to 4.
@@ -141,7 +148,7 @@ fn right_each(weights: u64, n: u8) -> bool
     true
 }
 
-// Whether each of 1 to n weighs 1 to 4: no 4 beside a 1 or a 2, and one of them for each.
+// Whether each of 1 to n weighs 1 to 4: it has one of its four marks, and no more than four can be set.
 pub fn weights_right(weights: u64, n: u8) -> bool
     ensures { λ r. ⌜ r ≡ weightsRight weights n ⌝ }
 {
@@ -152,7 +159,6 @@ pub fn weights_right(weights: u64, n: u8) -> bool
     if weights == all {
         return true;
     }
-    let four = (weights >> 32) & all;
-    let low = (weights | (weights >> 16)) & all;
-    (four & low == 0) & (four | low == all)
+    let upper = (weights >> 32) | (weights >> 48);
+    (weights | (weights >> 16) | upper) & all == all
 }

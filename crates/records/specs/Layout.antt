@@ -21,7 +21,7 @@
 --     138          votes decided 0: mark i for vote i
 --     139          votes decided 1: mark i for vote i
 --     140          SENDs held: mark i for instance i
---     141          weights: marks p, 16 + p and 32 + p are the binary digits of the weight of p
+--     141          weights: of the marks p, 16 + p, 32 + p and 48 + p as many are set as p weighs
 --     142 to 255   free
 --     256 to 511   values of the ECHOs held, 16 for each instance, by sender
 --     512 to 767   values of the READYs held, 16 for each instance, by sender

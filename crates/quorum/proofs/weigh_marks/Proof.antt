@@ -1,4 +1,4 @@
--- The weight of marks is three population counts of a part of the word; one of them where no weight is above 1.
+-- The weight of marks is one count of four copies of them, or four counts.
 use Rattle.quorum.specs.Weights.{weigh-cases}
 use borrow.Author.Needs.{needs}
 use Rattle.quorum.proofs.weigh_marks.Statement.{statement}
@@ -10,29 +10,35 @@ part-requires c κs = search needs
 returns : tie.Need-returns
 returns c = search weigh-cases
 
-cast-ones : tie.Need-cast-ones
-cast-ones c = search weigh-cases
+mul-result : tie.Need-mul-result
+mul-result c = search needs
+
+cast-result : tie.Need-cast-result
+cast-result c = search weigh-cases
 
 returns-2 : tie.Need-returns-2
 returns-2 c = search weigh-cases
 
-cast-twos : tie.Need-cast-twos
-cast-twos c = search weigh-cases
+cast-first : tie.Need-cast-first
+cast-first c = search weigh-cases
 
-cast-fours : tie.Need-cast-fours
-cast-fours c = search weigh-cases
+cast-second : tie.Need-cast-second
+cast-second c = search weigh-cases
 
-mul-result : tie.Need-mul-result
-mul-result c = search weigh-cases
+cast-third : tie.Need-cast-third
+cast-third c = search weigh-cases
+
+cast-fourth : tie.Need-cast-fourth
+cast-fourth c = search weigh-cases
 
 add-result : tie.Need-add-result
 add-result c = search weigh-cases
 
-mul-result-2 : tie.Need-mul-result-2
-mul-result-2 c = search weigh-cases
-
 add-result-2 : tie.Need-add-result-2
 add-result-2 c = search weigh-cases
+
+add-result-3 : tie.Need-add-result-3
+add-result-3 c = search weigh-cases
 
 returns-3 : tie.Need-returns-3
 returns-3 c = search weigh-cases
@@ -43,12 +49,14 @@ weigh-marks-spec =
     (tie.spec
     part-requires
     returns
-    cast-ones
-    returns-2
-    cast-twos
-    cast-fours
     mul-result
+    cast-result
+    returns-2
+    cast-first
+    cast-second
+    cast-third
+    cast-fourth
     add-result
-    mul-result-2
     add-result-2
+    add-result-3
     returns-3)

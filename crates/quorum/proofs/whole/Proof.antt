@@ -1,4 +1,4 @@
--- Weights of 1 are counted by n.
+-- Weights of 1 are counted by n, others by one count.
 use Rattle.quorum.specs.RightMasks.{ones-first}
 use borrow.Author.Needs.{needs}
 use Rattle.quorum.proofs.whole.Statement.{statement}
@@ -10,20 +10,23 @@ whole-counted-requires c κs = search needs
 returns : tie.Need-returns
 returns c = search needs
 
-shl-if2 : tie.Need-shl-if2
-shl-if2 c = search needs
+shl-all : tie.Need-shl-all
+shl-all c = search needs
 
-sub-if2 : tie.Need-sub-if2
-sub-if2 c = search ones-first
+sub-all : tie.Need-sub-all
+sub-all c = search ones-first
 
 returns-2 : tie.Need-returns-2
 returns-2 c = search ones-first
 
-whole-counted-requires-2 : tie.Need-whole-counted-requires-2
-whole-counted-requires-2 c κs = search needs
+mul-result : tie.Need-mul-result
+mul-result c = search ones-first
+
+cast-result : tie.Need-cast-result
+cast-result c = search ones-first
 
 returns-3 : tie.Need-returns-3
-returns-3 c = search needs
+returns-3 c = search ones-first
 
 pub whole-spec : {M : Type 1} → statement M
 whole-spec =
@@ -31,8 +34,9 @@ whole-spec =
     (tie.spec
     whole-counted-requires
     returns
-    shl-if2
-    sub-if2
+    shl-all
+    sub-all
     returns-2
-    whole-counted-requires-2
+    mul-result
+    cast-result
     returns-3)

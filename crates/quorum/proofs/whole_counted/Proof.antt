@@ -1,4 +1,4 @@
--- The weight of all is three counts of marks.
+-- The weight of all is four counts of marks.
 use Rattle.quorum.specs.Whole.{wholes}
 use borrow.Author.Needs.{needs}
 use Rattle.quorum.proofs.whole_counted.Statement.{statement}
@@ -13,17 +13,17 @@ count-marks-requires-2 c κs = search needs
 count-marks-requires-3 : tie.Need-count-marks-requires-3
 count-marks-requires-3 c κs = search needs
 
-mul-result : tie.Need-mul-result
-mul-result c = search (wholes, needs)
+count-marks-requires-4 : tie.Need-count-marks-requires-4
+count-marks-requires-4 c κs = search needs
 
 add-result : tie.Need-add-result
 add-result c = search (wholes, needs)
 
-mul-result-2 : tie.Need-mul-result-2
-mul-result-2 c = search (wholes, needs)
-
 add-result-2 : tie.Need-add-result-2
 add-result-2 c = search (wholes, needs)
+
+add-result-3 : tie.Need-add-result-3
+add-result-3 c = search (wholes, needs)
 
 returns : tie.Need-returns
 returns c = search (wholes, needs)
@@ -35,8 +35,8 @@ whole-counted-spec =
     count-marks-requires
     count-marks-requires-2
     count-marks-requires-3
-    mul-result
+    count-marks-requires-4
     add-result
-    mul-result-2
     add-result-2
+    add-result-3
     returns)

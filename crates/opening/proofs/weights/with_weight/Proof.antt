@@ -1,4 +1,4 @@
--- Three digits, three marks.
+-- Four marks.
 use Rattle.opening.specs.GivenCases.{packing}
 use borrow.Author.Needs.{needs}
 use Rattle.opening.proofs.weights.with_weight.Statement.{statement}
@@ -19,6 +19,12 @@ add-mark-if-2 c = search needs
 mark-if-requires-3 : tie.Need-mark-if-requires-3
 mark-if-requires-3 c κs = search needs
 
+add-mark-if-3 : tie.Need-add-mark-if-3
+add-mark-if-3 c = search needs
+
+mark-if-requires-4 : tie.Need-mark-if-requires-4
+mark-if-requires-4 c κs = search needs
+
 returns : tie.Need-returns
 returns c = search packing
 
@@ -31,4 +37,6 @@ with-weight-spec =
     mark-if-requires-2
     add-mark-if-2
     mark-if-requires-3
+    add-mark-if-3
+    mark-if-requires-4
     returns)
