@@ -2,12 +2,12 @@
 use Prim.Native.Nat.{ℕ, _+_, _-_, _^_, _≤_, _<_}
 use mathlib.Core.Bool.{Bool, true, false, _&&_, and-false, and-comm}
 use mathlib.Core.List.{List}
-use mathlib.Core.Path.{_≡_, _∙_}
+use mathlib.Core.Path.{_≡_, sym, ap, _∙_}
 use native.Mathlib.Omega.{arith}
 use native.Mathlib.Nat.{zero-add}
 use lib.Bits.{bitAnd}
 use lib.Dec.{leb, eqb}
-use borrow.Author.Tests.{ne-eqb, lt-leb}
+use borrow.Author.Tests.{ne-eqb, lt-leb, le-leb}
 use Rattle.settings.specs.Settings.{quorum, copy}
 use Rattle.settings.specs.declared.Settings.{Settings}
 use Rattle.quorum.specs.Bools.{and-left}
@@ -24,23 +24,35 @@ use Rattle.broadcasts.specs.Broadcasts.{readyDue, echoAct, readyAct}
 use Rattle.broadcasts.specs.declared.Output.{Output}
 use Rattle.broadcasts.specs.declared.Output.the-variants.{Value, Nothing}
 
--- the senders that hold v, by their marks
-pub holders-weighed : (s : List ℕ) (k b v n w m x c : ℕ) (held : ℕ → Bool) (value : ℕ → ℕ) → MarksOf (equalAt s (b + 1) v) n m → x ≡ word s k → w < 2 ^ 64 → c ≡ weigh w (λ p. mark (bitAnd m x) (0 + p)) n → (λ p. marked s k p) ≡ held → (λ p. word s (b + p)) ≡ value → c ≡ holders w held value v n
-unfolding holders marked equalAt
-holders-weighed s k b v n w m x c held value i e h f g j =
-    rw (← g, ← j)
-    (f ∙ marks-weighed (λ p. marked s k p && eqb (word s (b + p)) v) n (bitAnd m x) w
-    (marks-agree (λ p. eqb (word s (b + 1 + (p - 1))) v && mark x p) (λ p. marked s k p && eqb (word s (b + p)) v) n (bitAnd m x) (marks-both (λ p. eqb (word s (b + 1 + (p - 1))) v) n m x i) same) h)
-  where
-    same : (p : ℕ) → 1 ≤ p → p ≤ n → eqb (word s (b + 1 + (p - 1))) v && mark x p ≡ mark (word s k) p && eqb (word s (b + p)) v
-    same p lo hi =
-        let at : b + 1 + (p - 1) ≡ b + p = omega arith in
-        rw (at, e) (and-comm (eqb (word s (b + p)) v) (mark (word s k) p))
+-- the senders that hold v, by their marks; `held` and `value` stand as arguments, so that a search reads them
+module _ (s : List ℕ) (k b v n w q m x : ℕ) (held : ℕ → Bool) (value : ℕ → ℕ) (i : MarksOf (equalAt s (b + 1) v) n m) (e : x ≡ word s k) (h : w < 2 ^ 64) (g : (λ p. marked s k p) ≡ held) (j : (λ p. word s (b + p)) ≡ value) where
+  holders-weighed : weigh w (λ p. mark (bitAnd m x) (0 + p)) n ≡ holders w held value v n
+  unfolding holders marked equalAt
+  holders-weighed =
+      rw (← g, ← j)
+      (marks-weighed (λ p. marked s k p && eqb (word s (b + p)) v) n (bitAnd m x) w
+      (marks-agree (λ p. eqb (word s (b + 1 + (p - 1))) v && mark x p) (λ p. marked s k p && eqb (word s (b + p)) v) n (bitAnd m x) (marks-both (λ p. eqb (word s (b + 1 + (p - 1))) v) n m x i) same) h)
+    where
+      same : (p : ℕ) → 1 ≤ p → p ≤ n → eqb (word s (b + 1 + (p - 1))) v && mark x p ≡ mark (word s k) p && eqb (word s (b + p)) v
+      same p lo hi =
+          let at : b + 1 + (p - 1) ≡ b + p = omega arith in
+          rw (at, e) (and-comm (eqb (word s (b + p)) v) (mark (word s k) p))
+
+  pub some-hold : (c : ℕ) → c ≡ weigh w (λ p. mark (bitAnd m x) (0 + p)) n → leb q c ≡ leb q (holders w held value v n)
+  some-hold c f = ap (leb q) (f ∙ holders-weighed)
+
+  pub all-hold : bitAnd m x ≡ x → q ≤ heldCount w s k n → true ≡ leb q (holders w held value v n)
+  unfolding heldCount marked
+  all-hold z l =
+      let whole : weigh w (λ p. mark (bitAnd m x) (0 + p)) n ≡ weigh w (mark (word s k)) n = total-agree (weightOf w) (λ p. mark (bitAnd m x) (0 + p)) (mark (word s k)) n (λ p lo hi. rw (z, e, zero-add)) in
+      sym (le-leb q (holders w held value v n) (omega (arith, holders-weighed, whole)))
+
+pub ruleset held-enough = (some-hold, all-hold)
 
 module _ (w : ℕ) (held : ℕ → Bool) (value : ℕ → ℕ) (n q : ℕ) where
-  pub leads-held : (p u c : ℕ) (b : Bool) → b ≡ held p → b ≡ true → u ≡ value p → c ≡ holders w held value u n → leb q c ≡ leads w held value n q p
+  pub leads-held : (p u : ℕ) (b d : Bool) → b ≡ held p → b ≡ true → u ≡ value p → d ≡ leb q (holders w held value u n) → d ≡ leads w held value n q p
   unfolding leads
-  leads-held p u c b e t s h = rw (← e, t, h, s)
+  leads-held p u b d e t s h = rw (← e, t, ← s) h
 
   pub leads-missing : (p : ℕ) (b : Bool) → b ≡ held p → b ≡ false → false ≡ leads w held value n q p
   unfolding leads

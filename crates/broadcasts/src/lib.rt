@@ -4,6 +4,7 @@ use records::layout;
 use settings::Settings;
 ghost use mathlib.Core.Path.{_≡_};
 ghost use Prim.Native.Nat.{_+_, _≤_};
+ghost use lib.Dec.{leb};
 ghost use Rattle.records.specs.Records.{readyHeld, readyValue, echoHeld, echoValue};
 ghost use Rattle.records.specs.Words.{word, marked};
 ghost use Rattle.broadcasts.specs.Leading.{heldCount, holders, leads, leading};
@@ -16,22 +17,28 @@ pub enum Output {
     Nothing,
 }
 
-// The weight of the senders 1 to n that hold v: their marks are collected, then weighed at once.
-fn holders(s: &[u64], marks: u16, values: u16, v: u64, n: u8, weights: u64) -> u64
-    ensures { λ r. ⌜ r ≡ holders weights (λ p. marked (now (s .entry)) marks p) (λ p. word (now (s .entry)) (values + p)) v n ⌝ }
+// Whether senders of weight q hold v: the marks of those that do are collected, then weighed at once. Those held have the weight q
+// together, so nothing is weighed where all of them hold v.
+fn enough_hold(s: &[u64], marks: u16, values: u16, v: u64, n: u8, weights: u64, q: u64) -> bool
+    requires { ⌜ q ≤ heldCount weights (now s) marks n ⌝ }
+    ensures { λ r. ⌜ r ≡ leb q (holders weights (λ p. marked (now (s .entry)) marks p) (λ p. word (now (s .entry)) (values + p)) v n) ⌝ }
 {
     let equal = records::equal_marks(s, values as u32 + 1, n, v);
     let held = records::word(s, marks as usize);
-    quorum::weigh_marks(equal & held, 0, n, weights)
+    if equal & held == held {
+        return true;
+    }
+    q <= quorum::weigh_marks(equal & held, 0, n, weights)
 }
 
 // Whether sender p holds a value that q of the senders 1 to n hold.
 fn leads(s: &[u64], marks: u16, values: u16, n: u8, weights: u64, q: u64, p: u8) -> bool
+    requires { ⌜ q ≤ heldCount weights (now s) marks n ⌝ }
     ensures { λ r. ⌜ r ≡ leads weights (λ k. marked (now (s .entry)) marks k) (λ k. word (now (s .entry)) (values + k)) n q p ⌝ }
 {
     if records::marked(s, marks as usize, p as u64) {
         let v = records::word(s, values as usize + p as usize);
-        q <= holders(s, marks, values, v, n, weights)
+        enough_hold(s, marks, values, v, n, weights, q)
     } else {
         false
     }
@@ -39,6 +46,7 @@ fn leads(s: &[u64], marks: u16, values: u16, n: u8, weights: u64, q: u64, p: u8)
 
 // A value that q of the senders 1 to n hold: of several, the lowest sender's. The senders are looked at one by one.
 fn leading_of(s: &[u64], marks: u16, values: u16, n: u8, weights: u64, q: u64) -> Output
+    requires { ⌜ q ≤ heldCount weights (now s) marks n ⌝ }
     ensures { λ r. ⌜ r ≡ leading weights (λ k. marked (now (s .entry)) marks k) (λ k. word (now (s .entry)) (values + k)) n q ⌝ }
 {
     let mut p: u8 = 0;
@@ -58,32 +66,28 @@ fn held_count(s: &[u64], marks: u16, n: u8, weights: u64) -> u64
     quorum::weigh_marks(records::word(s, marks as usize), 0, n, weights)
 }
 
-// The same; where fewer than q hold anything, nobody's value is looked at.
-fn leading(s: &[u64], marks: u16, values: u16, n: u8, weights: u64, q: u64) -> Output
-    ensures { λ r. ⌜ r ≡ leading weights (λ k. marked (now (s .entry)) marks k) (λ k. word (now (s .entry)) (values + k)) n q ⌝ }
+// The READYs of instance i: a value that q senders hold. Where fewer than q are held, nobody's value is looked at.
+fn leading_ready(s: &[u64], n: u8, weights: u64, q: u64, i: u8) -> Output
+    ensures { λ r. ⌜ r ≡ leading weights (readyHeld (now (s .entry)) i) (readyValue (now (s .entry)) i) n q ⌝ }
 {
+    let marks = layout::READY_MARKS as u16 + i as u16;
+    let values = layout::READY_VALUES as u16 + 16 * i as u16;
     if held_count(s, marks, n, weights) < q {
         return Output::Nothing;
     }
     leading_of(s, marks, values, n, weights, q)
 }
 
-// The READYs of instance i: a value that q senders hold.
-fn leading_ready(s: &[u64], n: u8, weights: u64, q: u64, i: u8) -> Output
-    ensures { λ r. ⌜ r ≡ leading weights (readyHeld (now (s .entry)) i) (readyValue (now (s .entry)) i) n q ⌝ }
-{
-    let marks = layout::READY_MARKS as u16 + i as u16;
-    let values = layout::READY_VALUES as u16 + 16 * i as u16;
-    leading(s, marks, values, n, weights, q)
-}
-
-// The ECHOs of instance i: a value that q senders hold.
+// The ECHOs of instance i: a value that q senders hold, in the same way.
 fn leading_echo(s: &[u64], n: u8, weights: u64, q: u64, i: u8) -> Output
     ensures { λ r. ⌜ r ≡ leading weights (echoHeld (now (s .entry)) i) (echoValue (now (s .entry)) i) n q ⌝ }
 {
     let marks = layout::ECHO_MARKS as u16 + i as u16;
     let values = layout::ECHO_VALUES as u16 + 16 * i as u16;
-    leading(s, marks, values, n, weights, q)
+    if held_count(s, marks, n, weights) < q {
+        return Output::Nothing;
+    }
+    leading_of(s, marks, values, n, weights, q)
 }
 
 // The output of broadcast i.

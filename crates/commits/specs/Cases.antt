@@ -1,16 +1,19 @@
 -- The cases of the code.
-use Prim.Native.Nat.{ℕ, _+_, _≤_, _<_}
+use Prim.Native.Nat.{ℕ, zero, suc, _+_, _-_, _^_, min, _≤_, _<_}
 use mathlib.Core.Bool.{Bool, true, false, _&&_, not, and-false}
 use mathlib.Core.List.{List}
-use mathlib.Core.Path.{_≡_, sym, ap, _∙_}
+use mathlib.Core.Path.{_≡_, refl, sym, ap, _∙_}
 use native.Mathlib.Omega.{arith}
-use lib.Dec.{eqb, leb}
-use borrow.Author.Tests.{eq-eqb, ne-eqb, not-true, not-false, lt-leb}
+use lib.Dec.{eqb, leb, ltb}
+use borrow.Author.Tests.{eq-eqb, ne-eqb, not-true, not-false, lt-leb, lt-ltb}
 use Rattle.quorum.specs.Bools.{and-left}
+use Rattle.quorum.specs.Marks.{mark}
+use Rattle.quorum.specs.Marking.{MarksOf, others-weighed}
 use Rattle.quorum.specs.Weights.{weightOf, weigh}
-use Rattle.quorum.specs.TotalLaws.{total-mono}
+use Rattle.quorum.specs.TotalLaws.{total-mono, total-agree}
 use Rattle.quorum.specs.Lowest.{lowest, none-lowest}
 use Rattle.quorum.specs.Every.{every}
+use Rattle.records.specs.Words.{word, equalAt}
 use Rattle.records.specs.Records.{commitCount, commitValue}
 use Rattle.commits.specs.Commits.{commitHeld, commitsHeld, sameSet, setHolders, setLeads, setLeader}
 
@@ -46,9 +49,16 @@ pub leader-found : (w : ℕ) (s : List ℕ) (n k p : ℕ) → p ≡ lowest (λ q
 unfolding setLeader
 leader-found w s n k p e = e
 
-pub commits-counted : (w : ℕ) (s : List ℕ) (n c : ℕ) → c ≡ weigh w (λ p. commitHeld s p) n → c ≡ commitsHeld w s n
-unfolding commitsHeld
-commits-counted w s n c e = e
+-- a sender of whom no COMMIT is held has the count 0
+counts-none : (x : ℕ) → not (eqb x 0) ≡ ltb 0 (min x 16)
+counts-none zero = refl
+counts-none (suc x) = rw (ne-eqb (suc x) 0 (λ e. omega arith), lt-ltb 0 (min (suc x) 16) (omega arith))
+
+pub commits-counted : (w : ℕ) (s : List ℕ) (n m c : ℕ) → MarksOf (equalAt s 120 0) n m → m < 2 ^ 64 → w < 2 ^ 64 → c ≡ weigh w (λ p. mark (18446744073709551615 - m) (0 + p)) n → c ≡ commitsHeld w s n
+unfolding commitsHeld commitHeld commitCount equalAt
+commits-counted w s n m c i f h e =
+    e ∙ others-weighed (equalAt s 120 0) n m w i f h
+    ∙ total-agree (weightOf w) (λ p. not (equalAt s 120 0 p)) (λ p. commitHeld s p) n (λ p lo hi. let at : 120 + (p - 1) ≡ 119 + p = omega arith in rw at (counts-none (word s (119 + p))))
 
 -- fewer than k COMMITs are held
 pub leader-none : (w : ℕ) (s : List ℕ) (n k c : ℕ) → c ≡ commitsHeld w s n → c < k → 0 ≡ setLeader w s n k

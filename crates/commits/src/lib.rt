@@ -1,4 +1,5 @@
 // COMMITs: the sets that senders hold, and the lowest sender whose set enough of them hold.
+use records::layout;
 ghost use mathlib.Core.Path.{_≡_};
 ghost use mathlib.Core.Bool.{_&&_};
 ghost use lib.Dec.{eqb};
@@ -72,17 +73,12 @@ fn set_leads(s: &[u64], weights: u64, n: u8, k: u64, p: u8) -> bool
     }
 }
 
-// The weight of the senders 1 to n of whom a COMMIT is held.
+// The weight of the senders 1 to n of whom a COMMIT is held: those whose count is not 0.
 fn commits_held(s: &[u64], weights: u64, n: u8) -> u64
     ensures { λ r. ⌜ r ≡ commitsHeld weights (now (s .entry)) n ⌝ }
 {
-    let mut m: u64 = 0;
-    let mut p = quorum::mark_end(n);
-    while 0 < p {
-        m = 2 * m + commit_held(s, p) as u64;
-        p -= 1;
-    }
-    quorum::weigh_marks(m, 0, n, weights)
+    let none = records::equal_marks(s, layout::COMMIT_COUNTS as u32 + 1, n, 0);
+    quorum::weigh_marks(!none, 0, n, weights)
 }
 
 // The lowest sender with a set that k of the senders 1 to n hold, and 0 if there is none. The senders are looked at one by one.

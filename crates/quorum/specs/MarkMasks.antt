@@ -6,7 +6,7 @@ use native.Mathlib.Omega.{arith}
 use native.Mathlib.Decide.{decLt}
 use native.Mathlib.Nat.{pow-succ', pow-suc, mod-lt, mod-eq-of-lt, zero-div}
 use lib.Arith.{mod-mul, lt-one}
-use lib.Bits.{bitAnd, bitOr, and-shr, and-mod, or-shr, or-mod}
+use lib.Bits.{bitAnd, bitOr, bitXor, and-shr, and-mod, and-mask, or-shr, or-mod, xor-shr, xor-mod, xor-add-and}
 use lib.Dec.{eqb}
 use lib.Pow.{pow-pos, ones-lt, ones-split, high, shr-shr}
 use borrow.Author.Tests.{eq-eqb, eqb-true, not-true}
@@ -99,6 +99,22 @@ mark-full n p lo hi =
     let up : (2 ^ n - 1) / 2 ^ k ≡ 2 ^ suc d - 1 = ap (λ (m : ℕ). m / 2 ^ k) split ∙ high (2 ^ suc d - 1) k (ones-lt k) in
     let odd : (2 ^ n - 1) / 2 ^ k % 2 ≡ 1 = omega (arith, up, pow-suc 2 d, pow-pos d) in
     mark-digit (2 ^ n - 1) p lo ∙ eq-eqb ((2 ^ n - 1) / 2 ^ (p - 1) % 2) 1 odd
+
+-- `!x` has the marks that x lacks
+flip-bit : (x y : ℕ) → x < 2 → y ≡ 1 → eqb (bitXor x y) 1 ≡ not (eqb x 1)
+flip-bit zero y a e = rw e
+flip-bit (suc zero) y a e = rw e
+flip-bit (suc (suc x)) y a e = absurd (omega arith)
+
+pub mark-not : (x p : ℕ) → x < 2 ^ 64 → 1 ≤ p → p ≤ 64 → mark (2 ^ 64 - 1 - x) p ≡ not (mark x p)
+mark-not x p h lo hi =
+    let flip : 2 ^ 64 - 1 - x ≡ bitXor x (2 ^ 64 - 1) = omega (arith, xor-add-and x (2 ^ 64 - 1), and-mask x 64, mod-eq-of-lt h) in
+    let one : (2 ^ 64 - 1) / 2 ^ (p - 1) % 2 ≡ 1 = eqb-true ((2 ^ 64 - 1) / 2 ^ (p - 1) % 2) 1 (sym (mark-digit (2 ^ 64 - 1) p lo) ∙ mark-full 64 p lo hi) in
+    ap (λ (w : ℕ). mark w p) flip
+    ∙ mark-digit (bitXor x (2 ^ 64 - 1)) p lo
+    ∙ ap (λ (d : ℕ). eqb d 1) (ap (λ (d : ℕ). d % 2) (xor-shr x (2 ^ 64 - 1) (p - 1)) ∙ xor-mod (x / 2 ^ (p - 1)) ((2 ^ 64 - 1) / 2 ^ (p - 1)) 1)
+    ∙ flip-bit (x / 2 ^ (p - 1) % 2) ((2 ^ 64 - 1) / 2 ^ (p - 1) % 2) (omega arith) one
+    ∙ ap not (sym (mark-digit x p lo))
 
 -- a word below 2 ^ n with no mark is 0, one with all is 2 ^ n − 1
 pub every-clear : (x n : ℕ) → x < 2 ^ n → every (λ p. not (mark x p)) n ≡ eqb x 0

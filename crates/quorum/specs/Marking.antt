@@ -1,6 +1,6 @@
 -- What a loop keeps that collects marks: `m = 0; while 0 < p { m = 2 * m + test(p) as u64; p -= 1; }`, from a p of at most 64.
 use Prim.Native.Nat.{ℕ, zero, suc, _+_, _-_, _*_, _/_, _%_, _^_, min, _<_, _≤_}
-use mathlib.Core.Bool.{Bool, true, false, _&&_}
+use mathlib.Core.Bool.{Bool, true, false, _&&_, not}
 use mathlib.Core.Path.{_≡_, refl, sym, ap, ap₂, _∙_}
 use native.Mathlib.Omega.{arith}
 use native.Mathlib.Decide.{decLe, decLt}
@@ -13,7 +13,7 @@ use mir.Syntax.{w64}
 use borrow.Author.Tests.{eq-eqb}
 use Rattle.quorum.specs.Marks.{mark}
 use Rattle.quorum.specs.MarkLaws.{mark-digit, mark-high}
-use Rattle.quorum.specs.MarkMasks.{mark-and}
+use Rattle.quorum.specs.MarkMasks.{mark-and, mark-not}
 use Rattle.quorum.specs.Total.{share, total}
 use Rattle.quorum.specs.TotalLaws.{total-shares}
 use Rattle.quorum.specs.Weights.{weightOf, weigh}
@@ -120,8 +120,9 @@ weight-none : (w p : ℕ) → w < 2 ^ 64 → 64 < p → weightOf w p ≡ 0
 unfolding weightOf
 weight-none w p h l = rw (mark-high w (0 + p) h (omega arith), mark-high w (16 + p) h (omega arith), mark-high w (32 + p) h (omega arith), mark-high w (48 + p) h (omega arith))
 
-pub marks-weighed : (M : ℕ → Bool) (n m w : ℕ) → MarksOf M n m → w < 2 ^ 64 → weigh w (λ p. mark m (0 + p)) n ≡ weigh w M n
-marks-weighed M n m w x h = total-shares (weightOf w) (λ p. mark m (0 + p)) M n (λ p lo hi. at p lo hi (decLe p 64))
+-- words whose marks agree with M weigh what M weighs
+word-weighed : (M : ℕ → Bool) (n m w : ℕ) → ((p : ℕ) → 1 ≤ p → p ≤ n → p ≤ 64 → mark m p ≡ M p) → w < 2 ^ 64 → weigh w (λ p. mark m (0 + p)) n ≡ weigh w M n
+word-weighed M n m w each h = total-shares (weightOf w) (λ p. mark m (0 + p)) M n (λ p lo hi. at p lo hi (decLe p 64))
   where
     nothing : (a b : Bool) (x : ℕ) → x ≡ 0 → share a x ≡ share b x
     nothing true true x e = refl
@@ -130,8 +131,16 @@ marks-weighed M n m w x h = total-shares (weightOf w) (λ p. mark m (0 + p)) M n
     nothing false false x e = refl
 
     at : (p : ℕ) → 1 ≤ p → p ≤ n → Dec (p ≤ 64) → share (mark m (0 + p)) (weightOf w p) ≡ share (M p) (weightOf w p)
-    at p lo hi (yes few) = let z : 0 + p ≡ p = omega arith in rw (z, x .each p lo hi few)
+    at p lo hi (yes few) = let z : 0 + p ≡ p = omega arith in rw (z, each p lo hi few)
     at p lo hi (no many) = nothing (mark m (0 + p)) (M p) (weightOf w p) (weight-none w p h (omega arith))
+
+pub marks-weighed : (M : ℕ → Bool) (n m w : ℕ) → MarksOf M n m → w < 2 ^ 64 → weigh w (λ p. mark m (0 + p)) n ≡ weigh w M n
+marks-weighed M n m w x h = word-weighed M n m w (x .each) h
+
+-- those that are not in M
+pub others-weighed : (M : ℕ → Bool) (n m w : ℕ) → MarksOf M n m → m < 2 ^ 64 → w < 2 ^ 64 → weigh w (λ p. mark (2 ^ 64 - 1 - m) (0 + p)) n ≡ weigh w (λ p. not (M p)) n
+others-weighed M n m w x f h =
+    word-weighed (λ p. not (M p)) n (2 ^ 64 - 1 - m) w (λ p lo hi few. mark-not m p f lo few ∙ ap not (x .each p lo hi few)) h
 
 -- the marks that another word has too
 pub marks-both : (M : ℕ → Bool) (n m x : ℕ) → MarksOf M n m → MarksOf (λ p. M p && mark x p) n (bitAnd m x)

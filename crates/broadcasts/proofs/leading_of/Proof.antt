@@ -1,6 +1,5 @@
 -- The value of the lowest sender that leads.
 use Prim.Native.Nat.{_+_, _-_}
-use borrow.Author.Needs.{needs}
 use Rattle.quorum.specs.Lowest.{Passed, finding}
 use Rattle.records.specs.Words.{word, marked}
 use Rattle.broadcasts.specs.Leading.{leads}
