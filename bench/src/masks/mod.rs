@@ -42,7 +42,7 @@ pub fn open(state: &mut [u64], opening: &Opening) -> u64 {
     };
     let Opening { n, ta, ts, own, session, input, coins, weights } = *opening;
     let ta = if ta == UNNAMED { 0 } else { ta };
-    let Some(weights) = digits(n, weights) else {
+    let Some(weights) = weights_word(n, weights) else {
         return refusal::SETTINGS;
     };
     let valid = Session::new(n, ta, ts, weights).is_some() && (1..=n).contains(&own);
@@ -58,16 +58,16 @@ pub fn open(state: &mut [u64], opening: &Opening) -> u64 {
     0
 }
 
-/// The word of n weights, of which those above 7 have no digits there; `None` if there are not n, up to 16.
+/// The word of n weights of at most 4; `None` if there is a larger one, or not n, up to 16.
 #[inline]
-fn digits(n: u64, weights: &[u8]) -> Option<u64> {
-    if n != weights.len() as u64 || 16 < n || weights.iter().any(|&weight| 7 < weight) {
+fn weights_word(n: u64, weights: &[u8]) -> Option<u64> {
+    const MARKS: [u64; 5] = [0, 1, 0x1_0001, 0x1_0001_0001, 0x1_0001_0001_0001];
+    if n != weights.len() as u64 || 16 < n {
         return None;
     }
     let mut word = 0;
     for (place, &weight) in weights.iter().enumerate() {
-        let weight = u64::from(weight);
-        word |= (weight & 1 | (weight & 2) << 15 | (weight & 4) << 30) << place;
+        word |= MARKS.get(usize::from(weight))? << place;
     }
     Some(word)
 }

@@ -4,8 +4,8 @@ use super::layout::*;
 
 pub type Words = [u64; STATE_WORDS];
 
-/// A group of 16 marks, three times.
-const THRICE: u64 = 0x0001_0001_0001;
+/// A group of 16 marks, four times.
+const FOURFOLD: u64 = 0x0001_0001_0001_0001;
 
 /// What every call reads of a state first.
 #[derive(Clone, Copy)]
@@ -20,33 +20,27 @@ pub struct Session {
     whole: u64,
 }
 
-/// The binary digits of the weights of 1 to n, in groups of 16 marks.
+/// Four groups of 16 marks: each of 1 to n has as many of its four as it weighs.
 #[derive(Clone, Copy)]
 pub struct Weights(u64);
 
 impl Weights {
-    /// Those of 1 to n in a word, and their sum; `None` if one is not 1 to 4.
+    /// Those of 1 to n in a word, and their sum; `None` if one is 0.
     #[inline]
     fn of(word: u64, n: u64, all: u64) -> Option<(Weights, u64)> {
-        let weights = Weights(word & all * THRICE);
+        let weights = Weights(word & all * FOURFOLD);
         // Mostly all weigh 1.
         if weights.0 == all {
             return Some((weights, n));
         }
-        let [ones, twos, fours] = [0, 16, 32].map(|shift| word >> shift & all);
-        let good = fours & (ones | twos) == 0 && ones | twos | fours == all;
-        good.then(|| (weights, u64::from(weights.weigh(all))))
+        let some = word | word >> 16 | word >> 32 | word >> 48;
+        (some & all == all).then(|| (weights, u64::from(weights.weigh(all))))
     }
 
-    /// The weight of the marked numbers: a population count over three copies of the marks, whose groups count once,
-    /// twice and four times in the last sum.
+    /// The weight of the marked numbers.
     #[inline]
     pub fn weigh(self, marks: u64) -> u32 {
-        let digits = marks * THRICE & self.0;
-        let pairs = digits - (digits >> 1 & 0x5555_5555_5555_5555);
-        let fours = (pairs & 0x3333_3333_3333_3333) + (pairs >> 2 & 0x3333_3333_3333_3333);
-        let bytes = fours + (fours >> 4) & 0x0f0f_0f0f_0f0f_0f0f;
-        (bytes.wrapping_mul(0x0101_0202_0404_0000) >> 56) as u32
+        (marks * FOURFOLD & self.0).count_ones()
     }
 }
 

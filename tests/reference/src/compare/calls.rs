@@ -140,7 +140,7 @@ pub fn damage_weights(random: &mut Random, weights: &mut Vec<u8>) {
     let count = weights.len();
     match random.below(24) {
         0 if count > 0 => {
-            // The low digits of the last are those of a weight.
+            // The lowest three binary digits of the last two are those of a weight.
             let outside = random.pick(&[0, 5, 7, 8, 255, 9, 132]);
             weights[random.below(count as u64) as usize] = outside;
         }

@@ -180,8 +180,8 @@ fn plant_settings(random: &mut Random, state: &mut Words) {
     }
 }
 
-/// The weights of 1 to n; at times others, for which ta and ts may be too high, or one that is out of range, and at times
-/// bits that are no weight of 1 to n.
+/// The weights of 1 to n, by any of the four marks of each; at times others, for which ta and ts may be too high, or one of
+/// 0, and at times bits that are no weight of 1 to n.
 fn plant_weights(random: &mut Random, state: &mut Words, good: &[u8]) {
     let n = good.len() as u64;
     let mut weights = good.to_vec();
@@ -189,14 +189,14 @@ fn plant_weights(random: &mut Random, state: &mut Words, good: &[u8]) {
         weights = good_weights(random, n);
     }
     if random.once_in(20) {
-        weights[random.below(n) as usize] = random.pick(&[0, 5, 6, 7]);
+        weights[random.below(n) as usize] = 0;
     }
-    let digits = |(place, &weight): (usize, &u8)| {
-        let weight = u64::from(weight);
-        (weight & 1) << place | (weight >> 1 & 1) << (16 + place) | (weight >> 2) << (32 + place)
-    };
-    let word = weights.iter().enumerate().map(digits).fold(0, |word, bits| word | bits);
-    let others = !(((1 << n) - 1) * 0x0001_0001_0001);
+    let mut word = 0;
+    for (place, &weight) in weights.iter().enumerate() {
+        let first = random.below(4);
+        word |= (first..first + u64::from(weight)).fold(0, |w, k| w | 1 << (k % 4 * 16)) << place;
+    }
+    let others = !(((1 << n) - 1) * 0x0001_0001_0001_0001);
     let marks = marks(random);
     state[WEIGHTS] = word | marks(random) & others;
 }
