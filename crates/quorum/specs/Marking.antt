@@ -16,7 +16,7 @@ use Rattle.quorum.specs.MarkLaws.{mark-digit, mark-high}
 use Rattle.quorum.specs.MarkMasks.{mark-and, mark-not}
 use Rattle.quorum.specs.Total.{share, total}
 use Rattle.quorum.specs.TotalLaws.{total-shares}
-use Rattle.quorum.specs.Weights.{weightOf, weigh}
+use Rattle.quorum.specs.Weights.{weightOf, weigh, weight-above}
 
 -- m has the marks of those of 1 to n that are in M, as far as a word goes, and no other
 pub record MarksOf (M : ℕ → Bool) (n m : ℕ) : Type 0 where
@@ -115,11 +115,6 @@ marking-all M n k m i h = marking-done M n n k m i h (omega (arith, i .few))
 
 -- ---- what the marks weigh
 
--- a number above 64 weighs nothing
-weight-none : (w p : ℕ) → w < 2 ^ 64 → 64 < p → weightOf w p ≡ 0
-unfolding weightOf
-weight-none w p h l = rw (mark-high w (0 + p) h (omega arith), mark-high w (16 + p) h (omega arith), mark-high w (32 + p) h (omega arith), mark-high w (48 + p) h (omega arith))
-
 -- words whose marks agree with M weigh what M weighs
 word-weighed : (M : ℕ → Bool) (n m w : ℕ) → ((p : ℕ) → 1 ≤ p → p ≤ n → p ≤ 64 → mark m p ≡ M p) → w < 2 ^ 64 → weigh w (λ p. mark m (0 + p)) n ≡ weigh w M n
 word-weighed M n m w each h = total-shares (weightOf w) (λ p. mark m (0 + p)) M n (λ p lo hi. at p lo hi (decLe p 64))
@@ -132,7 +127,7 @@ word-weighed M n m w each h = total-shares (weightOf w) (λ p. mark m (0 + p)) M
 
     at : (p : ℕ) → 1 ≤ p → p ≤ n → Dec (p ≤ 64) → share (mark m (0 + p)) (weightOf w p) ≡ share (M p) (weightOf w p)
     at p lo hi (yes few) = let z : 0 + p ≡ p = omega arith in rw (z, each p lo hi few)
-    at p lo hi (no many) = nothing (mark m (0 + p)) (M p) (weightOf w p) (weight-none w p h (omega arith))
+    at p lo hi (no many) = nothing (mark m (0 + p)) (M p) (weightOf w p) (sym (weight-above w p lo (omega arith)))
 
 pub marks-weighed : (M : ℕ → Bool) (n m w : ℕ) → MarksOf M n m → w < 2 ^ 64 → weigh w (λ p. mark m (0 + p)) n ≡ weigh w M n
 marks-weighed M n m w x h = word-weighed M n m w (x .each) h

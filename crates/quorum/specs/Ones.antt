@@ -15,7 +15,7 @@ use Rattle.quorum.specs.MarkLaws.{mark-digit}
 use Rattle.quorum.specs.Total.{share, total, count}
 use Rattle.quorum.specs.TotalLaws.{count-le}
 
-share-digit : (d : ℕ) → d < 2 → share (eqb d 1) 1 ≡ ones d
+pub share-digit : (d : ℕ) → d < 2 → share (eqb d 1) 1 ≡ ones d
 unfolding ones onesIn
 share-digit zero h = refl
 share-digit (suc zero) h = refl

@@ -6,6 +6,7 @@ use mathlib.Core.Path.{_≡_, refl, sym, ap, subst, _∙_}
 use native.Mathlib.Omega.{arith}
 use native.Mathlib.Decide.{decLe}
 use lib.Dec.{leb}
+use borrow.Author.Tests.{le-leb}
 use Rattle.quorum.specs.Marks.{mark, withMark}
 use Rattle.quorum.specs.MarkLaws.{mark-same, mark-other, mark-zero}
 use Rattle.quorum.specs.Total.{share}
@@ -116,7 +117,7 @@ module _ (f : ℕ → ℕ) where
         with-third (packed f n) (suc n) (f (suc n)) (omega arith) few clear,
         with-fourth (packed f n) (suc n) (f (suc n)) (omega arith) few clear,
       )
-      (groups-of (f (suc n)) small)
+      (rw (le-leb 1 (suc n) (omega arith), le-leb (suc n) 16 few) (groups-of (f (suc n)) small))
 
   -- each weight is read back
   pub weight-packed : (n p : ℕ) → 1 ≤ p → p ≤ n → n ≤ 16 → f p ≤ 4 → weightOf (packed f n) p ≡ f p

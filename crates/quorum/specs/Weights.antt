@@ -1,39 +1,76 @@
--- Weights 1 to 4 in one word: of the marks p, 16 + p, 32 + p and 48 + p as many are set as concentrator p weighs.
-use Prim.Native.Nat.{ℕ, zero, suc, _+_, _-_, _*_, _/_, _%_, _^_, _<_, _≤_}
-use mathlib.Core.Bool.{Bool, true, false, _&&_}
+-- Weights 1 to 4 in one word: of the marks p, 16 + p, 32 + p and 48 + p as many are set as concentrator p weighs. Only 1 to 16 weigh.
+use Prim.Native.Nat.{ℕ, zero, suc, _+_, _-_, _*_, _/_, _%_, _^_, min, _<_, _≤_}
+use mathlib.Core.Bool.{Bool, true, false, _&&_, cond}
 use mathlib.Core.Path.{_≡_, refl, sym, ap, ap₂, subst, _∙_}
-use mir.Val.{Fits, boolByte}
+use mir.Val.{Fits}
 use mir.Syntax.{w64}
 use native.Mathlib.Omega.{arith}
+use native.Mathlib.Decide.{decLe}
 use native.Mathlib.Nat.{mod-lt, mod-eq-of-lt, div-one}
 use lib.Arith.{lt-one}
-use lib.Bits.{bitAnd, and-block, and-lt, and-mod, and-le-l}
+use lib.Bits.{bitAnd, and-block, and-lt, and-mod, and-mask, and-comm, and-le-l}
 use lib.Count.{ones, onesIn, ones-cat, ones-le}
-use lib.Dec.{eqb}
-use lib.Pow.{pow-pos, pow-lt, shr-shr}
+use lib.Dec.{eqb, leb}
+use lib.Pow.{pow-pos, pow-mono, shr-shr, shr-le}
+use borrow.Author.Tests.{lt-leb, le-leb}
 use Rattle.quorum.specs.Marks.{mark}
+use Rattle.quorum.specs.MarkLaws.{mark-digit}
 use Rattle.quorum.specs.MarkMasks.{digits}
-use Rattle.quorum.specs.Ones.{mark-part}
+use Rattle.quorum.specs.Ones.{mark-part, share-digit}
 use Rattle.quorum.specs.Total.{share, total, count}
+
+-- how many of the four marks of p are set
+abbrev pub marksSet : ℕ → ℕ → ℕ
+marksSet w p = share (mark w (0 + p)) 1 + share (mark w (16 + p)) 1 + share (mark w (32 + p)) 1 + share (mark w (48 + p)) 1
 
 -- the weight of p
 unfoldable pub weightOf : ℕ → ℕ → ℕ
-weightOf w p = share (mark w (0 + p)) 1 + share (mark w (16 + p)) 1 + share (mark w (32 + p)) 1 + share (mark w (48 + p)) 1
+weightOf w p = cond (leb 1 p && leb p 16) (marksSet w p) 0
 
 -- the weight of the members of M among 1 to n
 abbrev pub weigh : ℕ → (ℕ → Bool) → ℕ → ℕ
 weigh w M n = total (weightOf w) M n
+
+pub weight-is : (w p : ℕ) → 1 ≤ p → p ≤ 16 → weightOf w p ≡ marksSet w p
+unfolding weightOf
+weight-is w p lo hi = rw (le-leb 1 p lo, le-leb p 16 hi)
+
+pub weight-below : (w p : ℕ) → p < 1 → 0 ≡ weightOf w p
+unfolding weightOf
+weight-below w p h = rw (lt-leb 1 p h)
+
+pub weight-above : (w p : ℕ) → 1 ≤ p → 16 < p → 0 ≡ weightOf w p
+unfolding weightOf
+weight-above w p lo h = rw (le-leb 1 p lo, lt-leb p 16 h)
+
+-- numbers above 16 add nothing
+pub weigh-capped : (w : ℕ) (M : ℕ → Bool) (n : ℕ) → weigh w M (min n 16) ≡ weigh w M n
+unfolding total
+weigh-capped w M zero = refl
+weigh-capped w M (suc n) = at (decLe (suc n) 16) (weigh-capped w M n)
+  where
+    nothing : (b : Bool) → share b 0 ≡ 0
+    nothing true = refl
+    nothing false = refl
+
+    at : Dec (suc n ≤ 16) → weigh w M (min n 16) ≡ weigh w M n → weigh w M (min (suc n) 16) ≡ weigh w M (suc n)
+    at (yes h) r = let e : min (suc n) 16 ≡ suc n = omega arith in ap (weigh w M) e
+    at (no h) r =
+        let e : min (suc n) 16 ≡ min n 16 = omega arith in
+        let here : share (M (suc n)) (weightOf w (suc n)) ≡ 0 = ap (share (M (suc n))) (sym (weight-above w (suc n) (omega arith) (omega arith))) ∙ nothing (M (suc n)) in
+        ap (weigh w M) e ∙ omega (arith, here, r)
 
 split-share : (m : Bool) (a b c d : ℕ) (e f g h : Bool) → a ≡ share e 1 → b ≡ share f 1 → c ≡ share g 1 → d ≡ share h 1 → share m (a + b + c + d) ≡ share (m && e) 1 + share (m && f) 1 + share (m && g) 1 + share (m && h) 1
 split-share true a b c d e f g h i j k l = rw (i, j, k, l)
 split-share false a b c d e f g h i j k l = refl
 
 -- a weight is four counts
-pub weigh-counts : (w : ℕ) (M : ℕ → Bool) (n : ℕ) → weigh w M n ≡ count (λ p. M p && mark w (0 + p)) n + count (λ p. M p && mark w (16 + p)) n + count (λ p. M p && mark w (32 + p)) n + count (λ p. M p && mark w (48 + p)) n
-unfolding total weightOf
-weigh-counts w M zero = refl
-weigh-counts w M (suc n) =
-    omega (arith, weigh-counts w M n, split-share (M (suc n)) _ _ _ _ (mark w (0 + suc n)) (mark w (16 + suc n)) (mark w (32 + suc n)) (mark w (48 + suc n)) refl refl refl refl)
+pub weigh-counts : (w : ℕ) (M : ℕ → Bool) (n : ℕ) → n ≤ 16 → weigh w M n ≡ count (λ p. M p && mark w (0 + p)) n + count (λ p. M p && mark w (16 + p)) n + count (λ p. M p && mark w (32 + p)) n + count (λ p. M p && mark w (48 + p)) n
+unfolding total
+weigh-counts w M zero few = refl
+weigh-counts w M (suc n) few =
+    let here = ap (share (M (suc n))) (weight-is w (suc n) (omega arith) few) ∙ split-share (M (suc n)) _ _ _ _ (mark w (0 + suc n)) (mark w (16 + suc n)) (mark w (32 + suc n)) (mark w (48 + suc n)) refl refl refl refl in
+    omega (arith, here, weigh-counts w M n (omega arith))
 
 -- ---- marks of two words at once are the ones of their digits' and
 
@@ -68,10 +105,10 @@ and-low a b n =
     sym (mod-eq-of-lt low) ∙ and-mod (a % 2 ^ n) b n ∙ ap (λ (x : ℕ). bitAnd x (b % 2 ^ n)) (mod-eq-of-lt (mod-lt a (pow-pos n)))
 
 -- the weight of marks: four population counts
-pub weigh-ones : (x w i n : ℕ) → weigh w (λ p. mark x (i + p)) n ≡ ones (bitAnd (x / 2 ^ i % 2 ^ n) (w / 2 ^ 0)) + ones (bitAnd (x / 2 ^ i % 2 ^ n) (w / 2 ^ 16)) + ones (bitAnd (x / 2 ^ i % 2 ^ n) (w / 2 ^ 32)) + ones (bitAnd (x / 2 ^ i % 2 ^ n) (w / 2 ^ 48))
-weigh-ones x w i n =
+pub weigh-ones : (x w i n : ℕ) → n ≤ 16 → weigh w (λ p. mark x (i + p)) n ≡ ones (bitAnd (x / 2 ^ i % 2 ^ n) (w / 2 ^ 0)) + ones (bitAnd (x / 2 ^ i % 2 ^ n) (w / 2 ^ 16)) + ones (bitAnd (x / 2 ^ i % 2 ^ n) (w / 2 ^ 32)) + ones (bitAnd (x / 2 ^ i % 2 ^ n) (w / 2 ^ 48))
+weigh-ones x w i n few =
     let at : (j : ℕ) → count (λ p. mark x (i + p) && mark w (j + p)) n ≡ ones (bitAnd (x / 2 ^ i % 2 ^ n) (w / 2 ^ j)) = λ j. count-and x w i j n ∙ sym (ap ones (and-low (x / 2 ^ i) (w / 2 ^ j) n)) in
-    omega (arith, weigh-counts w (λ p. mark x (i + p)) n, at 0, at 16, at 32, at 48)
+    omega (arith, weigh-counts w (λ p. mark x (i + p)) n few, at 0, at 16, at 32, at 48)
 
 -- ---- marks below 16, four times over: one population count
 
@@ -101,71 +138,58 @@ fourfold-ones x w h =
 
 -- ---- the code
 
-pub weight-sum : (w p : ℕ) (a b c d : Bool) → a ≡ mark w p → b ≡ mark w (16 + p) → c ≡ mark w (32 + p) → d ≡ mark w (48 + p) → boolByte a + boolByte b + boolByte c + boolByte d ≡ weightOf w p
-unfolding weightOf
-weight-sum w p a b c d e f g h =
-    let z : 0 + p ≡ p = omega arith in
-    rw (z, ← e, ← f, ← g, ← h) (omega (arith, same a, same b, same c, same d))
-  where
-    same : (b : Bool) → boolByte b ≡ share b 1
-    same true = refl
-    same false = refl
+-- the weight of one number: the marks of its places
+place-ones : (w p j : ℕ) → 1 ≤ p → ones (bitAnd 1 (w / 2 ^ (p - 1) / 2 ^ j)) ≡ share (mark w (j + p)) 1
+place-ones w p j lo =
+    let y = w / 2 ^ (p - 1) / 2 ^ j in
+    let digit : bitAnd 1 y ≡ y % 2 = and-comm 1 y ∙ and-mask y 1 in
+    let at : p - 1 + j ≡ j + p - 1 = omega arith in
+    let moved : y ≡ w / 2 ^ (j + p - 1) = shr-shr w (p - 1) j ∙ ap (λ (k : ℕ). w / 2 ^ k) at in
+    ap ones digit ∙ sym (share-digit (y % 2) (omega arith)) ∙ ap (λ (v : ℕ). share (eqb (v % 2) 1) 1) moved ∙ ap (λ (b : Bool). share b 1) (sym (mark-digit w (j + p) (omega arith)))
 
-byte-le : (b : Bool) → boolByte b ≤ 1
-byte-le true = omega arith
-byte-le false = omega arith
+pub weight-ones : (w p : ℕ) → 1 ≤ p → p ≤ 16 → ones (bitAnd (w / 2 ^ (p - 1)) 281479271743489) ≡ weightOf w p
+weight-ones w p lo hi =
+    let y = w / 2 ^ (p - 1) in
+    let first : y / 2 ^ 0 ≡ y = div-one y in
+    let zero-place : ones (bitAnd 1 y) ≡ share (mark w (0 + p)) 1 = rw first at (place-ones w p 0 lo) in
+    ap ones (and-comm y 281479271743489)
+    ∙ fourfold-ones 1 y (omega arith)
+    ∙ omega (arith, zero-place, place-ones w p 16 lo, place-ones w p 32 lo, place-ones w p 48 lo)
+    ∙ sym (weight-is w p lo hi)
 
-pub bytes-two : (a b : Bool) → Fits w64 (boolByte a + boolByte b)
-bytes-two a b = omega (arith, byte-le a, byte-le b)
+pub weight-fits : (w p : ℕ) → w < 2 ^ 64 → Fits w64 (ones (bitAnd (w / 2 ^ (p - 1)) 281479271743489))
+weight-fits w p h =
+    let low : bitAnd (w / 2 ^ (p - 1)) 281479271743489 < 2 ^ 64 = omega (arith, and-le-l (w / 2 ^ (p - 1)) 281479271743489, shr-le w (p - 1)) in
+    omega (arith, ones-le 64 (bitAnd (w / 2 ^ (p - 1)) 281479271743489) low)
 
-pub bytes-three : (a b c : Bool) → Fits w64 (boolByte a + boolByte b + boolByte c)
-bytes-three a b c = omega (arith, byte-le a, byte-le b, byte-le c)
+pub ruleset weight-cases = (weight-below, weight-above, weight-ones, weight-fits)
 
-pub bytes-four : (a b c d : Bool) → Fits w64 (boolByte a + boolByte b + boolByte c + boolByte d)
-bytes-four a b c d = omega (arith, byte-le a, byte-le b, byte-le c, byte-le d)
+-- the marks of at most 16, as `part` gives them
+module _ (v i n t x : ℕ) (e : x ≡ v / 2 ^ i % 2 ^ t) (et : t ≡ min n 16) where
+  part-few : x ≤ 65535
+  part-few =
+      let up : t ≤ 16 = omega arith in
+      omega (arith, mod-lt (v / 2 ^ i) (pow-pos t), pow-mono up)
 
-pub ruleset weight-groups = (bytes-two, bytes-three, bytes-four, weight-sum)
+  pub fourfold-fits : Fits w64 (x * 281479271743489)
+  fourfold-fits = omega (arith, part-few)
 
--- the paths of `weigh_marks`; the set stands as an argument M, so that a search reads it
-module _ (v i n x : ℕ) (M : ℕ → Bool) (e : x ≡ v / 2 ^ i % 2 ^ n) (same : (λ p. mark v (i + p)) ≡ M) where
-  pub part-weighed : (w : ℕ) → ones (bitAnd x w) + ones (bitAnd x (w / 65536)) + ones (bitAnd x (w / 4294967296)) + ones (bitAnd x (w / 281474976710656)) ≡ weigh w M n
-  part-weighed w =
-      let first : w / 2 ^ 0 ≡ w = div-one w in
-      rw (← same, e) (sym (rw first at (weigh-ones v w i n)))
+  pub fourfold-counted : (y : ℕ) → Fits w64 (ones (bitAnd (x * 281479271743489) y))
+  fourfold-counted y =
+      let low : bitAnd (x * 281479271743489) y < 2 ^ 64 = omega (arith, and-le-l (x * 281479271743489) y, part-few) in
+      omega (arith, ones-le 64 (bitAnd (x * 281479271743489) y) low)
 
-  pub part-unmarked : (w : ℕ) → x ≡ 0 → 0 ≡ weigh w M n
-  unfolding ones onesIn
-  part-unmarked w z = rw z at (part-weighed w)
+  -- the set stands as an argument M, so that a search reads it
+  module _ (M : ℕ → Bool) (same : (λ p. mark v (i + p)) ≡ M) where
+    pub part-weighed : (w : ℕ) → ones (bitAnd (x * 281479271743489) w) ≡ weigh w M n
+    part-weighed w =
+        let first : w / 2 ^ 0 ≡ w = div-one w in
+        let up : t ≤ 16 = omega arith in
+        let counted : weigh w (λ p. mark v (i + p)) t ≡ ones (bitAnd x w) + ones (bitAnd x (w / 2 ^ 16)) + ones (bitAnd x (w / 2 ^ 32)) + ones (bitAnd x (w / 2 ^ 48)) = rw e (rw first at (weigh-ones v w i t up)) in
+        fourfold-ones x w (omega (arith, part-few)) ∙ sym counted ∙ ap₂ (weigh w) same et ∙ weigh-capped w M n
 
-  -- one count where the marks are below 16
-  pub part-fourfold : (w : ℕ) → x ≤ 65535 → ones (bitAnd (x * 281479271743489) w) ≡ weigh w M n
-  part-fourfold w h = fourfold-ones x w (omega arith) ∙ part-weighed w
+    pub part-unmarked : (w : ℕ) → x ≡ 0 → 0 ≡ weigh w M n
+    unfolding ones onesIn
+    part-unmarked w z = rw z at (part-weighed w)
 
-pub fourfold-fits : (x : ℕ) → x ≤ 65535 → Fits w64 (x * 281479271743489)
-fourfold-fits x h = omega arith
-
-pub fourfold-counted : (x y : ℕ) → x ≤ 65535 → Fits w64 (ones (bitAnd (x * 281479271743489) y))
-fourfold-counted x y h =
-    let low : bitAnd (x * 281479271743489) y < 2 ^ 64 = omega (arith, and-le-l (x * 281479271743489) y) in
-    omega (arith, ones-le 64 (bitAnd (x * 281479271743489) y) low)
-
--- its counts fit
-module _ (v i n x : ℕ) (e : x ≡ v / 2 ^ i % 2 ^ n) (h : n < 2 ^ 8) where
-  few : (y : ℕ) → ones (bitAnd x y) ≤ 255
-  few y =
-      let low : bitAnd x y < 2 ^ n = omega (arith, and-le-l x y, mod-lt (v / 2 ^ i) (pow-pos n)) in
-      omega (arith, ones-le n (bitAnd x y) low)
-
-  pub and-fits : (y : ℕ) → Fits w64 (ones (bitAnd x y))
-  and-fits y = omega (arith, few y)
-
-  pub two-fit : (y z : ℕ) → Fits w64 (ones (bitAnd x y) + ones (bitAnd x z))
-  two-fit y z = omega (arith, few y, few z)
-
-  pub three-fit : (y z u : ℕ) → Fits w64 (ones (bitAnd x y) + ones (bitAnd x z) + ones (bitAnd x u))
-  three-fit y z u = omega (arith, few y, few z, few u)
-
-  pub four-fit : (y z u w : ℕ) → Fits w64 (ones (bitAnd x y) + ones (bitAnd x z) + ones (bitAnd x u) + ones (bitAnd x w))
-  four-fit y z u w = omega (arith, few y, few z, few u, few w)
-
-pub ruleset weigh-cases = (part-weighed, part-unmarked, part-fourfold, fourfold-fits, fourfold-counted, and-fits, two-fit, three-fit, four-fit)
+pub ruleset weigh-cases = (part-weighed, part-unmarked, fourfold-fits, fourfold-counted)

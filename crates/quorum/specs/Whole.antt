@@ -42,28 +42,6 @@ pub whole-le : (w n : ℕ) → weightsRight w n ≡ true → wholeOf w n ≤ 4 *
 unfolding wholeOf
 whole-le w n e = whole-within w n (weight-high w n e)
 
--- the code
-pub whole-sum : (w n a b c d : ℕ) → a ≡ count (λ p. mark w (0 + p)) n → b ≡ count (λ p. mark w (16 + p)) n → c ≡ count (λ p. mark w (32 + p)) n → d ≡ count (λ p. mark w (48 + p)) n → a + b + c + d ≡ wholeOf w n
-unfolding wholeOf
-whole-sum w n a b c d e f g h = omega (arith, weigh-counts w everyone n)
-
-pub right-both : (w p x : ℕ) → x ≡ weightOf w p → leb 1 x && leb x 4 ≡ weightRight w p
-unfolding weightRight
-right-both w p x e = rw e
-
--- each of the four counts is at most n
-module _ (n : ℕ) (h : n < 2 ^ 8) (M K L : ℕ → Bool) (a b c : ℕ) (e : a ≡ count M n) (f : b ≡ count K n) (g : c ≡ count L n) where
-  pub counts-three : Fits w64 (a + b + c)
-  counts-three = omega (arith, count-le M n, count-le K n, count-le L n)
-
-  pub counts-four : (N : ℕ → Bool) (d : ℕ) → d ≡ count N n → Fits w64 (a + b + c + d)
-  counts-four N d i = omega (arith, count-le M n, count-le K n, count-le L n, count-le N n)
-
-pub counts-two : (M K : ℕ → Bool) (n a b : ℕ) → n < 2 ^ 8 → a ≡ count M n → b ≡ count K n → Fits w64 (a + b)
-counts-two M K n a b h e f = omega (arith, count-le M n, count-le K n)
-
-pub ruleset wholes = (whole-sum, counts-two, counts-three, counts-four, right-both)
-
 -- ---- weights of 1
 
 -- weights that agree on 1 to k

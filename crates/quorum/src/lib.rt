@@ -4,7 +4,7 @@ ghost use Prim.Native.Nat.{_+_, _/_, _%_, _^_, min};
 ghost use Rattle.quorum.specs.Marks.{mark, withMark};
 ghost use Rattle.quorum.specs.Total.{share, count};
 ghost use Rattle.quorum.specs.Weights.{weightOf, weigh};
-ghost use Rattle.quorum.specs.Whole.{wholeOf, weightRight, weightsRight};
+ghost use Rattle.quorum.specs.Whole.{wholeOf, weightsRight};
 
 // Whether mark p of a word is set.
 pub fn mark(w: u64, p: u64) -> bool
@@ -62,36 +62,38 @@ pub fn share(b: bool, x: u64) -> u64
     if b { x } else { 0 }
 }
 
+// A group of 16 marks times this is that group four times over.
+const FOURFOLD: u64 = 281479271743489;
+
 // The weight of p.
 pub fn weight_of(weights: u64, p: u8) -> u64
     ensures { λ r. ⌜ r ≡ weightOf weights p ⌝ }
 {
-    let first = mark(weights, p as u64);
-    let second = mark(weights, 16 + p as u64);
-    let third = mark(weights, 32 + p as u64);
-    let fourth = mark(weights, 48 + p as u64);
-    first as u64 + second as u64 + third as u64 + fourth as u64
+    if p < 1 {
+        return 0;
+    }
+    if 16 < p {
+        return 0;
+    }
+    u64::count_ones((weights >> (p - 1)) & FOURFOLD) as u64
 }
 
-// A group of 16 marks times this is that group four times over.
-const FOURFOLD: u64 = 281479271743489;
+// n, or 16 where it is above: no number above 16 weighs anything.
+fn weighing(n: u8) -> u8
+    ensures { λ r. ⌜ r ≡ min n 16 ⌝ }
+{
+    if n < 16 { n } else { 16 }
+}
 
-// The weight of the senders 1 to n that have the mark `base` above their number: one count, unless there are more than 16.
+// The weight of the senders 1 to n that have the mark `base` above their number.
 pub fn weigh_marks(w: u64, base: u16, n: u8, weights: u64) -> u64
     ensures { λ r. ⌜ r ≡ weigh weights (λ p. mark w (base + p)) n ⌝ }
 {
-    let marked = part(w, base, n);
+    let marked = part(w, base, weighing(n));
     if marked == 0 {
         return 0;
     }
-    if marked <= 65535 {
-        return u64::count_ones(marked * FOURFOLD & weights) as u64;
-    }
-    let first = u64::count_ones(marked & weights) as u64;
-    let second = u64::count_ones(marked & (weights >> 16)) as u64;
-    let third = u64::count_ones(marked & (weights >> 32)) as u64;
-    let fourth = u64::count_ones(marked & (weights >> 48)) as u64;
-    first + second + third + fourth
+    u64::count_ones(marked * FOURFOLD & weights) as u64
 }
 
 // n, or 64 where it is above: a word has 64 marks, so no number above weighs anything.
@@ -101,51 +103,16 @@ pub fn mark_end(n: u8) -> u8
     if n < 64 { n } else { 64 }
 }
 
-// The weight of 1 to n, by counts of the four groups.
-fn whole_counted(weights: u64, n: u8) -> u64
-    ensures { λ r. ⌜ r ≡ wholeOf weights n ⌝ }
-{
-    let first = count_marks(weights, 0, n);
-    let second = count_marks(weights, 16, n);
-    let third = count_marks(weights, 32, n);
-    let fourth = count_marks(weights, 48, n);
-    first + second + third + fourth
-}
-
-// The weight of 1 to n: n where each weighs 1.
+// The weight of 1 to n: their number where each weighs 1.
 pub fn whole(weights: u64, n: u8) -> u64
     ensures { λ r. ⌜ r ≡ wholeOf weights n ⌝ }
 {
-    if 16 < n {
-        return whole_counted(weights, n);
-    }
-    let all = (1 << n) - 1;
+    let m = weighing(n);
+    let all = (1 << m) - 1;
     if weights == all {
-        return n as u64;
+        return m as u64;
     }
     u64::count_ones(all * FOURFOLD & weights) as u64
-}
-
-// Whether p weighs 1 to 4.
-fn weight_right(weights: u64, p: u8) -> bool
-    ensures { λ r. ⌜ r ≡ weightRight weights p ⌝ }
-{
-    let x = weight_of(weights, p);
-    (1 <= x) & (x <= 4)
-}
-
-// Whether each of 1 to n weighs 1 to 4, one by one.
-fn right_each(weights: u64, n: u8) -> bool
-    ensures { λ r. ⌜ r ≡ weightsRight weights n ⌝ }
-{
-    let mut p: u8 = 0;
-    while p < n {
-        p += 1;
-        if !weight_right(weights, p) {
-            return false;
-        }
-    }
-    true
 }
 
 // Whether each of 1 to n weighs 1 to 4: it has one of its four marks, and no more than four can be set.
@@ -153,7 +120,7 @@ pub fn weights_right(weights: u64, n: u8) -> bool
     ensures { λ r. ⌜ r ≡ weightsRight weights n ⌝ }
 {
     if 16 < n {
-        return right_each(weights, n);
+        return false;
     }
     let all = (1 << n) - 1;
     if weights == all {

@@ -4,11 +4,8 @@ use borrow.Author.Needs.{needs}
 use Rattle.quorum.proofs.weights_right.Statement.{statement}
 use Rattle.quorum.proofs.weights_right.Tie as tie
 
-right-each-requires : tie.Need-right-each-requires
-right-each-requires c κs = search needs
-
 returns : tie.Need-returns
-returns c = search needs
+returns c = search ones-first
 
 shl-all : tie.Need-shl-all
 shl-all c = search needs
@@ -23,5 +20,4 @@ returns-3 : tie.Need-returns-3
 returns-3 c = search ones-first
 
 pub weights-right-spec : {M : Type 1} → statement M
-weights-right-spec =
-    tie.close (tie.spec right-each-requires returns shl-all sub-all returns-2 returns-3)
+weights-right-spec = tie.close (tie.spec returns shl-all sub-all returns-2 returns-3)
