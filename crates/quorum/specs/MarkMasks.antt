@@ -1,10 +1,10 @@
 -- Words as sets of marks: the marks of `x & y` and `x | y`, and that a word is told by its marks.
 use Prim.Native.Nat.{ℕ, zero, suc, _+_, _-_, _*_, _/_, _%_, _^_, _<_, _≤_}
-use mathlib.Core.Bool.{Bool, true, false, _&&_, _||_, not}
+use mathlib.Core.Bool.{Bool, true, _&&_, _||_, not}
 use mathlib.Core.Path.{_≡_, refl, sym, ap, ap₂, _∙_}
 use native.Mathlib.Omega.{arith}
 use native.Mathlib.Decide.{decLt}
-use native.Mathlib.Nat.{pow-succ', pow-suc, mod-lt, mod-eq-of-lt, zero-div}
+use native.Mathlib.Nat.{pow-succ', pow-suc, mod-lt, mod-eq-of-lt}
 use lib.Arith.{mod-mul, lt-one}
 use lib.Bits.{bitAnd, bitOr, bitXor, and-shr, and-mod, and-mask, or-shr, or-mod, xor-shr, xor-mod, xor-add-and}
 use lib.Dec.{eqb}

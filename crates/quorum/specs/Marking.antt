@@ -1,20 +1,19 @@
 -- What a loop keeps that collects marks: `m = 0; while 0 < p { m = 2 * m + test(p) as u64; p -= 1; }`, from a p of at most 64.
-use Prim.Native.Nat.{ℕ, zero, suc, _+_, _-_, _*_, _/_, _%_, _^_, min, _<_, _≤_}
+use Prim.Native.Nat.{ℕ, suc, _+_, _-_, _*_, _/_, _%_, _^_, min, _<_, _≤_}
 use mathlib.Core.Bool.{Bool, true, false, _&&_, not}
-use mathlib.Core.Path.{_≡_, refl, sym, ap, ap₂, _∙_}
+use mathlib.Core.Path.{_≡_, refl, sym, ap, _∙_}
 use native.Mathlib.Omega.{arith}
-use native.Mathlib.Decide.{decLe, decLt}
+use native.Mathlib.Decide.{decLe}
 use native.Mathlib.Nat.{div-eq-of-lt, lt-of-lt-of-le, pow-suc}
 use lib.Bits.{bitAnd}
 use lib.Dec.{eqb}
 use lib.Pow.{pow-pos, pow-mono, shr-shr}
 use mir.Val.{Fits, boolByte}
 use mir.Syntax.{w64}
-use borrow.Author.Tests.{eq-eqb}
 use Rattle.quorum.specs.Marks.{mark}
 use Rattle.quorum.specs.MarkLaws.{mark-digit, mark-high}
 use Rattle.quorum.specs.MarkMasks.{mark-and, mark-not}
-use Rattle.quorum.specs.Total.{share, total}
+use Rattle.quorum.specs.Total.{share}
 use Rattle.quorum.specs.TotalLaws.{total-shares}
 use Rattle.quorum.specs.Weights.{weightOf, weigh, weight-above}
 

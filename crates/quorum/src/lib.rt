@@ -1,4 +1,4 @@
-// Marks of concentrators in a word, and how many of the senders 1 to n have theirs.
+// Marks of concentrators in a word: how many of the senders 1 to n have theirs, and what these weigh.
 ghost use mathlib.Core.Path.{_≡_};
 ghost use Prim.Native.Nat.{_+_, _/_, _%_, _^_, min};
 ghost use Rattle.quorum.specs.Marks.{mark, withMark};
