@@ -53,19 +53,6 @@ every-agree f g (suc n) h =
     let e : every f n ≡ every g n = every-agree f g n (λ p a b. h p a (omega arith)) in
     rw (e, h (suc n) (omega arith) (omega arith))
 
-and-four : (a b c d : Bool) → (a && b) && (c && d) ≡ (a && c) && (b && d)
-and-four true true true d = refl
-and-four true true false d = refl
-and-four true false true d = refl
-and-four true false false d = refl
-and-four false b c d = refl
-
--- two properties at once
-pub every-both : (f g : ℕ → Bool) (n : ℕ) → every (λ p. f p && g p) n ≡ every f n && every g n
-unfolding every
-every-both f g zero = refl
-every-both f g (suc n) = rw (every-both f g n) (and-four (every f n) (every g n) (f (suc n)) (g (suc n)))
-
 -- a loop `p = 0; while p < n { p += 1; if !test(p) { return false; } }` that has passed 1 to k
 pub record Holding (f : ℕ → Bool) (n k : ℕ) : Type 0 where
   pub within : k ≤ n

@@ -8,6 +8,7 @@ pub mod Every
 pub mod MarkMasks
 pub mod Ones
 pub mod Weights
+pub mod WeighLaws
 pub mod Whole
 pub mod Packed
 pub mod RightMasks

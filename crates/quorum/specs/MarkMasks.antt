@@ -116,13 +116,7 @@ mark-not x p h lo hi =
     ∙ flip-bit (x / 2 ^ (p - 1) % 2) ((2 ^ 64 - 1) / 2 ^ (p - 1) % 2) (omega arith) one
     ∙ ap not (sym (mark-digit x p lo))
 
--- a word below 2 ^ n with no mark is 0, one with all is 2 ^ n − 1
-pub every-clear : (x n : ℕ) → x < 2 ^ n → every (λ p. not (mark x p)) n ≡ eqb x 0
-every-clear x n h =
-    same-tests (every (λ p. not (mark x p)) n) (eqb x 0)
-    (λ e. eq-eqb x 0 (same-word x 0 n h (pow-pos n) (λ p a b. not-true (mark x p) (every-each (λ q. not (mark x q)) n e p a b) ∙ sym (mark-zero p))))
-    (λ e. let z : x ≡ 0 = eqb-true x 0 e in each-every (λ p. not (mark x p)) n (λ p a b. rw (z, mark-zero p)))
-
+-- a word below 2 ^ n with all marks is 2 ^ n − 1
 pub every-set : (x n : ℕ) → x < 2 ^ n → every (λ p. mark x p) n ≡ eqb x (2 ^ n - 1)
 every-set x n h =
     same-tests (every (λ p. mark x p) n) (eqb x (2 ^ n - 1))

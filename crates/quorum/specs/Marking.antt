@@ -15,7 +15,8 @@ use Rattle.quorum.specs.MarkLaws.{mark-digit, mark-high}
 use Rattle.quorum.specs.MarkMasks.{mark-and, mark-not}
 use Rattle.quorum.specs.Total.{share}
 use Rattle.quorum.specs.TotalLaws.{total-shares}
-use Rattle.quorum.specs.Weights.{weightOf, weigh, weight-above}
+use Rattle.quorum.specs.Weights.{weightOf, weigh}
+use Rattle.quorum.specs.WeighLaws.{weight-above}
 
 -- m has the marks of those of 1 to n that are in M, as far as a word goes, and no other
 pub record MarksOf (M : ℕ → Bool) (n m : ℕ) : Type 0 where

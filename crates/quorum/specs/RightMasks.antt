@@ -16,7 +16,8 @@ use Rattle.quorum.specs.MarkMasks.{mark-and, mark-or, mark-shifted, mark
 use Rattle.quorum.specs.Ones.{machine-power}
 use Rattle.quorum.specs.Total.{share, everyone}
 use Rattle.quorum.specs.TotalLaws.{total-agree}
-use Rattle.quorum.specs.Weights.{weightOf, weigh, weight-is, weight-above, weigh-capped, part-weighed, fourfold-fits, fourfold-counted}
+use Rattle.quorum.specs.Weights.{weightOf, weigh}
+use Rattle.quorum.specs.WeighLaws.{weight-is, weight-above, weigh-capped, part-weighed, fourfold-fits, fourfold-counted}
 use Rattle.quorum.specs.Whole.{wholeOf, weightRight, weightsRight, ones-weight, ones-whole}
 
 one-to-four : (a b c d : Bool) → leb 1 (share a 1 + share b 1 + share c 1 + share d 1) && leb (share a 1 + share b 1 + share c 1 + share d 1) 4 ≡ (a || b) || (c || d)

@@ -5,14 +5,12 @@ use mathlib.Core.Path.{_≡_, refl, sym, ap, ap₂, _∙_}
 use native.Mathlib.Omega.{arith}
 use lib.Dec.{leb, eqb}
 use borrow.Author.Tests.{leb-true, eqb-true}
-use mir.Val.{Fits}
-use mir.Syntax.{w64}
 use Rattle.quorum.specs.Bools.{and-left, and-right}
 use Rattle.quorum.specs.Marks.{mark}
-use Rattle.quorum.specs.Total.{share, total, count, everyone}
-use Rattle.quorum.specs.TotalLaws.{count-le, count-everyone}
+use Rattle.quorum.specs.Total.{total, count, everyone}
+use Rattle.quorum.specs.TotalLaws.{count-everyone}
 use Rattle.quorum.specs.Every.{every, every-each}
-use Rattle.quorum.specs.Weights.{weightOf, weigh, weigh-counts}
+use Rattle.quorum.specs.Weights.{weightOf, weigh}
 
 -- "n becomes the sum of all weights"
 unfoldable pub wholeOf : ℕ → ℕ → ℕ

@@ -2,7 +2,7 @@
 ghost use mathlib.Core.Path.{_≡_};
 ghost use Prim.Native.Nat.{_+_, _/_, _%_, _^_, min};
 ghost use Rattle.quorum.specs.Marks.{mark, withMark};
-ghost use Rattle.quorum.specs.Total.{share, count};
+ghost use Rattle.quorum.specs.Total.{share};
 ghost use Rattle.quorum.specs.Weights.{weightOf, weigh};
 ghost use Rattle.quorum.specs.Whole.{wholeOf, weightsRight};
 
@@ -46,13 +46,6 @@ fn part(w: u64, base: u16, n: u8) -> u64
         return w >> base;
     }
     (w >> base) % (1 << n)
-}
-
-// How many of the senders 1 to n have the mark `base` above their number.
-pub fn count_marks(w: u64, base: u16, n: u8) -> u64
-    ensures { λ r. ⌜ r ≡ count (λ p. mark w (base + p)) n ⌝ }
-{
-    u64::count_ones(part(w, base, n)) as u64
 }
 
 // x where b, else 0.
