@@ -31,7 +31,7 @@ fn enough_hold(s: &[u64], marks: u16, values: u16, v: u64, n: u8, weights: u64, 
     q <= quorum::weigh_marks(equal & held, 0, n, weights)
 }
 
-// Whether sender p holds a value that q of the senders 1 to n hold.
+// Whether sender p holds a value that senders of weight q hold.
 fn leads(s: &[u64], marks: u16, values: u16, n: u8, weights: u64, q: u64, p: u8) -> bool
     requires { ⌜ q ≤ heldCount weights (now s) marks n ⌝ }
     ensures { λ r. ⌜ r ≡ leads weights (λ k. marked (now (s .entry)) marks k) (λ k. word (now (s .entry)) (values + k)) n q p ⌝ }
@@ -44,7 +44,7 @@ fn leads(s: &[u64], marks: u16, values: u16, n: u8, weights: u64, q: u64, p: u8)
     }
 }
 
-// A value that q of the senders 1 to n hold: of several, the lowest sender's. The senders are looked at one by one.
+// A value that senders of weight q hold: of several, the lowest sender's. The senders are looked at one by one.
 fn leading_of(s: &[u64], marks: u16, values: u16, n: u8, weights: u64, q: u64) -> Output
     requires { ⌜ q ≤ heldCount weights (now s) marks n ⌝ }
     ensures { λ r. ⌜ r ≡ leading weights (λ k. marked (now (s .entry)) marks k) (λ k. word (now (s .entry)) (values + k)) n q ⌝ }
@@ -66,7 +66,7 @@ fn held_count(s: &[u64], marks: u16, n: u8, weights: u64) -> u64
     quorum::weigh_marks(records::word(s, marks as usize), 0, n, weights)
 }
 
-// The READYs of instance i: a value that q senders hold. Where fewer than q are held, nobody's value is looked at.
+// The READYs of instance i: a value that senders of weight q hold. Where less is held, nobody's value is looked at.
 fn leading_ready(s: &[u64], n: u8, weights: u64, q: u64, i: u8) -> Output
     ensures { λ r. ⌜ r ≡ leading weights (readyHeld (now (s .entry)) i) (readyValue (now (s .entry)) i) n q ⌝ }
 {
@@ -78,7 +78,7 @@ fn leading_ready(s: &[u64], n: u8, weights: u64, q: u64, i: u8) -> Output
     leading_of(s, marks, values, n, weights, q)
 }
 
-// The ECHOs of instance i: a value that q senders hold, in the same way.
+// The ECHOs of instance i: a value that senders of weight q hold, in the same way.
 fn leading_echo(s: &[u64], n: u8, weights: u64, q: u64, i: u8) -> Output
     ensures { λ r. ⌜ r ≡ leading weights (echoHeld (now (s .entry)) i) (echoValue (now (s .entry)) i) n q ⌝ }
 {

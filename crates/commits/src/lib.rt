@@ -62,7 +62,7 @@ fn set_holders(s: &[u64], weights: u64, n: u8, p: u8) -> u64
     quorum::weigh_marks(m, 0, n, weights)
 }
 
-// Whether sender p holds a set that k of the senders 1 to n hold.
+// Whether sender p holds a set that senders of weight k hold.
 fn set_leads(s: &[u64], weights: u64, n: u8, k: u64, p: u8) -> bool
     ensures { λ r. ⌜ r ≡ setLeads weights (now (s .entry)) n k p ⌝ }
 {
@@ -81,7 +81,7 @@ fn commits_held(s: &[u64], weights: u64, n: u8) -> u64
     quorum::weigh_marks(!none, 0, n, weights)
 }
 
-// The lowest sender with a set that k of the senders 1 to n hold, and 0 if there is none. The senders are looked at one by one.
+// The lowest sender with a set that senders of weight k hold, and 0 if there is none. The senders are looked at one by one.
 fn leader_of(s: &[u64], weights: u64, n: u8, k: u64) -> u8
     ensures { λ r. ⌜ r ≡ setLeader weights (now (s .entry)) n k ⌝ }
 {
@@ -95,7 +95,7 @@ fn leader_of(s: &[u64], weights: u64, n: u8, k: u64) -> u8
     0
 }
 
-// The same; where fewer than k COMMITs are held, no set is looked at.
+// The same; where COMMITs of less weight are held, no set is looked at.
 pub fn set_leader(s: &[u64], weights: u64, n: u8, k: u64) -> u8
     ensures { λ r. ⌜ r ≡ setLeader weights (now (s .entry)) n k ⌝ }
 {

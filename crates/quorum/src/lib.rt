@@ -1,4 +1,4 @@
-// Marks of concentrators in a word: how many of the senders 1 to n have theirs, and what these weigh.
+// Marks of concentrators in a word, weights in a word, and what the senders 1 to n that have their mark weigh.
 ghost use mathlib.Core.Path.{_≡_};
 ghost use Prim.Native.Nat.{_+_, _/_, _%_, _^_, min};
 ghost use Rattle.quorum.specs.Marks.{mark, withMark};
@@ -55,7 +55,7 @@ pub fn share(b: bool, x: u64) -> u64
     if b { x } else { 0 }
 }
 
-// A group of 16 marks times this is that group four times over.
+// 2^48 + 2^32 + 2^16 + 1: a group of 16 marks times this is that group four times over.
 const FOURFOLD: u64 = 281479271743489;
 
 // The weight of p.
@@ -89,7 +89,7 @@ pub fn weigh_marks(w: u64, base: u16, n: u8, weights: u64) -> u64
     u64::count_ones(marked * FOURFOLD & weights) as u64
 }
 
-// n, or 64 where it is above: a word has 64 marks, so no number above weighs anything.
+// n, or 64 where it is above: a word has 64 marks.
 pub fn mark_end(n: u8) -> u8
     ensures { λ r. ⌜ r ≡ min n 64 ⌝ }
 {

@@ -16,14 +16,14 @@ const AUX_ONE: u16 = 48;
 
 const GROUP: u16 = 16;
 
-// How many senders' ESTs of b are held in round r of vote i.
+// The weight of the senders whose ESTs of b are held in round r of vote i.
 fn est_count(s: &[u64], g: Settings, i: u8, r: u8, b: u8) -> u64
     ensures { λ c. ⌜ c ≡ estCount g (now (s .entry)) i r b ⌝ }
 {
     quorum::weigh_marks(records::votes(s, i, r), GROUP * b as u16, g.n, g.weights)
 }
 
-// How many held AUXs carry b.
+// The weight of the senders whose held AUXs carry b.
 fn aux_count(s: &[u64], g: Settings, i: u8, r: u8, b: u8) -> u64
     ensures { λ c. ⌜ c ≡ auxCount g (now (s .entry)) i r b ⌝ }
 {
@@ -35,14 +35,14 @@ fn aux_count(s: &[u64], g: Settings, i: u8, r: u8, b: u8) -> u64
     )
 }
 
-// Whether 2·ta + 1 senders' ESTs hold b in round r of vote i.
+// Whether ESTs of weight 2·ta + 1 hold b in round r of vote i.
 pub fn accepted(s: &[u64], g: Settings, i: u8, r: u8, b: u8) -> bool
     ensures { λ t. ⌜ t ≡ accepted g (now (s .entry)) i r b ⌝ }
 {
     g.accept() <= est_count(s, g, i, r, b)
 }
 
-// How many votes are decided 1.
+// The weight of the votes decided 1.
 pub fn votes_decided_one(s: &[u64], g: Settings) -> u64
     ensures { λ c. ⌜ c ≡ votesDecidedOne g (now (s .entry)) ⌝ }
 {
@@ -65,7 +65,7 @@ pub fn start_act(s: &[u64], g: Settings, output: bool, ones: u64, i: u8) -> Act
     Act::Idle
 }
 
-// EST b in round r, where it was not sent and ta + 1 senders hold it.
+// EST b in round r, where it was not sent and senders of weight ta + 1 hold it.
 fn relay_value(s: &[u64], g: Settings, i: u8, r: u8, b: u8) -> Act
     ensures { λ a. ⌜ a ≡ relayValue g (now (s .entry)) i r b ⌝ }
 {
@@ -176,7 +176,7 @@ fn view(s: &[u64], g: Settings, i: u8, r: u8, a0: bool, a1: bool) -> acts::View
     view_of(zero, one)
 }
 
-// The move out of round r, where n − ta held AUXs carry accepted values.
+// The move out of round r, where held AUXs of weight n − ta carry accepted values.
 fn move_value(s: &[u64], g: Settings, i: u8, r: u8, a0: bool, a1: bool) -> Act
     ensures { λ a. ⌜ a ≡ moveValue g (now (s .entry)) i r a0 a1 ⌝ }
 {
