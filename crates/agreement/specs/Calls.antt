@@ -176,7 +176,8 @@ pub record DemandThree (M : Machine) : Type 0 where
 
 -- ---- the engine
 
--- the arguments of an opening: the code takes 32 bits for the session number and each coin word, and 64 for the own input
+-- the arguments of an opening: the code takes 32 bits for the session number and each coin word, and 64 for the own input; weights are
+-- any numbers
 pub record Arguments : Type 0 where
   pub n : ℕ
   pub ta : ℕ
