@@ -28,6 +28,7 @@ static struct message sent[MESSAGES];
 static size_t sent_count;
 static uint64_t states[N][PACK_STATE_WORDS];
 static uint32_t coins[N];
+static uint8_t weights[N];
 
 /* The call, its arguments and its answer: the painted stack holds none of them. */
 static enum call call;
@@ -40,7 +41,7 @@ static void run(void)
 {
     switch (call) {
     case CALL_OPEN:
-        answer = pack_open(state, PACK_STATE_WORDS, N, 5, 5, own, 7, own, coins, N);
+        answer = pack_open(state, PACK_STATE_WORDS, N, 5, 5, own, 7, own, coins, N, weights, N);
         break;
     case CALL_DELIVER:
         answer = pack_deliver(state, PACK_STATE_WORDS, delivered->bytes[2], delivered->bytes, delivered->length);
@@ -94,8 +95,10 @@ int main(void)
 {
     static const char *names[CALLS] = {"", "pack_open", "pack_deliver", "pack_turn", "pack_report"};
     measure(CALL_NONE);
-    for (unsigned p = 0; p < N; p++)
+    for (unsigned p = 0; p < N; p++) {
         coins[p] = 0xb5a39d71u << p % 7;
+        weights[p] = 1;
+    }
     for (unsigned p = 0; p < N; p++) {
         state = states[p];
         own = p + 1;

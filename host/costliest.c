@@ -21,7 +21,7 @@ static const char *const usage =
     "usage: costliest N [FILE]\n"
     "\n"
     "Runs the costliest session of N concentrators, 1 to 16, at one of them and prints, fields parted by tabs: its\n"
-    "calls, its turns by what they did, and the messages and bytes that it sent by kind.\n"
+    "calls, its turns by what they did, and the messages and bytes that it sent by kind. All weights are 1.\n"
     "\n"
     "  FILE  takes the session: its opening and its calls, one to a line, fields parted by tabs, the answer last.\n"
     "          O n ta ts own session input coins refusal    input and coins in hexadecimal, coins parted by commas\n"
@@ -74,6 +74,8 @@ static bool open_session(struct session *s)
     enum { SETTINGS = 6 };
     uint64_t settings[SETTINGS];
     uint32_t coins[PACK_CONCENTRATORS];
+    uint8_t weights[PACK_CONCENTRATORS];
+    memset(weights, 1, sizeof weights);
     for (uint64_t k = 0; k < SETTINGS; k++)
         settings[k] = pack_costliest_setting(s->n, k + 1);
     for (uint64_t i = 0; i < s->n; i++)
@@ -81,7 +83,7 @@ static bool open_session(struct session *s)
     /* Opening sets all words, whatever they hold. */
     memset(s->state, 0xa5, sizeof s->state);
     uint64_t answer = pack_open(s->state, PACK_STATE_WORDS, settings[0], settings[1], settings[2], settings[3],
-                                (uint32_t)settings[4], settings[5], coins, s->n);
+                                (uint32_t)settings[4], settings[5], coins, s->n, weights, s->n);
     if (s->calls)
         write_opening(s->calls, settings, coins, s->n, answer);
     return answer == 0 || unexpected(0, "opening", answer);

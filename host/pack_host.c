@@ -15,6 +15,9 @@ struct options {
     uint64_t n, ta, ts;
     uint32_t session, coin;
     uint64_t inputs[PACK_CONCENTRATORS];
+    uint8_t weights[PACK_CONCENTRATORS];
+    /* Weights given; 0 where the option is not there. */
+    size_t weight_count;
 };
 
 struct message {
@@ -44,15 +47,16 @@ static const char *const refusal_names[] = {"ACCEPTED", "SETTINGS", "LENGTH", "K
                                             "FIELD",    "VALUE",    "SHORT",  "NO STATE", "CLOSED",  "HELD"};
 
 static const char *const usage =
-    "usage: pack_host [-s SESSION] [-c COIN] [N TA TS [INPUT ...]]\n"
+    "usage: pack_host [-s SESSION] [-c COIN] [--weights LIST] [N TA TS [INPUT ...]]\n"
     "\n"
     "Runs an agreement session of N concentrators, all honest, and prints a line for each, fields parted by tabs:\n"
     "number, exit (0 for none), closed (0 or 1), turns, the values in force in hexadecimal, or \"-\".\n"
     "\n"
-    "  N TA TS     the settings (4 - 1); TA as \"-\" is unnamed and then 0\n"
-    "  INPUT       the pack number of each concentrator, N of them (5 for each)\n"
-    "  -s SESSION  the session number, 32 bits (1)\n"
-    "  -c COIN     the coin word of every vote, 32 bits; bit r-1 is the coin of round r (0x55555555)\n"
+    "  N TA TS         the settings (4 - 1); TA as \"-\" is unnamed and then 0\n"
+    "  INPUT           the pack number of each concentrator, N of them (5 for each)\n"
+    "  -s SESSION      the session number, 32 bits (1)\n"
+    "  -c COIN         the coin word of every vote, 32 bits; bit r-1 is the coin of round r (0x55555555)\n"
+    "  --weights LIST  the weight of each concentrator, 1 to 4, N of them parted by commas (1 for each)\n"
     "\n"
     "Numbers are decimal, or hexadecimal after 0x. The status is 0, or 1 on an error.\n";
 
@@ -87,20 +91,43 @@ static bool read_number(const char *text, uint64_t limit, uint64_t *number)
     return true;
 }
 
-/* Reads -s and -c; `at` is left at the first argument that is neither. */
+/* Reads numbers parted by commas; `list` is cut at them. Whether they are weights is the engine's to say. */
+static bool read_weights(char *list, struct options *o)
+{
+    o->weight_count = 0;
+    while (list != NULL) {
+        char *item = list;
+        uint64_t weight;
+        list = strchr(item, ',');
+        if (list != NULL)
+            *list++ = '\0';
+        if (*item == '\0')
+            return fail("a weight is missing", "--weights");
+        if (!read_number(item, UINT8_MAX, &weight))
+            return false;
+        if (o->weight_count == PACK_CONCENTRATORS)
+            return fail("more than 16 weights", item);
+        o->weights[o->weight_count++] = (uint8_t)weight;
+    }
+    return true;
+}
+
+/* Reads -s, -c and --weights; `at` is left at the first argument that is none of them. */
 static bool read_flags(int argc, char **argv, int *at, struct options *o)
 {
     while (*at < argc && argv[*at][0] == '-' && argv[*at][1] != '\0') {
         const char *flag = argv[*at];
         uint32_t *place = strcmp(flag, "-s") == 0 ? &o->session : strcmp(flag, "-c") == 0 ? &o->coin : NULL;
+        bool weights = strcmp(flag, "--weights") == 0;
         uint64_t value;
-        if (place == NULL)
+        if (place == NULL && !weights)
             return fail("unknown option, see --help", flag);
         if (*at + 1 == argc)
             return fail("a number is missing", flag);
-        if (!read_number(argv[*at + 1], UINT32_MAX, &value))
+        if (weights ? !read_weights(argv[*at + 1], o) : !read_number(argv[*at + 1], UINT32_MAX, &value))
             return false;
-        *place = (uint32_t)value;
+        if (place != NULL)
+            *place = (uint32_t)value;
         *at += 2;
     }
     return true;
@@ -117,14 +144,9 @@ static bool read_settings(char **argv, struct options *o)
     return strcmp(argv[1], "-") == 0 || read_number(argv[1], UINT64_MAX, &o->ta);
 }
 
-static bool read_options(int argc, char **argv, struct options *o)
+/* Reads what stands behind the options, from `at` on: nothing, N TA TS, or these and the inputs. */
+static bool read_rest(int argc, char **argv, int at, struct options *o)
 {
-    int at = 1;
-    *o = (struct options){.n = 4, .ta = PACK_UNNAMED, .ts = 1, .session = 1, .coin = 0x55555555};
-    for (size_t i = 0; i < PACK_CONCENTRATORS; i++)
-        o->inputs[i] = 5;
-    if (!read_flags(argc, argv, &at, o))
-        return false;
     if (at == argc)
         return true;
     if (argc - at < 3)
@@ -142,6 +164,21 @@ static bool read_options(int argc, char **argv, struct options *o)
     return true;
 }
 
+static bool read_options(int argc, char **argv, struct options *o)
+{
+    int at = 1;
+    *o = (struct options){.n = 4, .ta = PACK_UNNAMED, .ts = 1, .session = 1, .coin = 0x55555555};
+    for (size_t i = 0; i < PACK_CONCENTRATORS; i++) {
+        o->inputs[i] = 5;
+        o->weights[i] = 1;
+    }
+    if (!read_flags(argc, argv, &at, o) || !read_rest(argc, argv, at, o))
+        return false;
+    if (o->weight_count != 0 && o->weight_count != o->n)
+        return fail("not as many weights as concentrators", "--weights");
+    return true;
+}
+
 static bool open_all(struct session *x)
 {
     const struct options *o = &x->options;
@@ -150,7 +187,7 @@ static bool open_all(struct session *x)
         coins[i] = o->coin;
     for (uint64_t p = 1; p <= o->n; p++) {
         uint64_t answer = pack_open(x->all[p - 1].state, PACK_STATE_WORDS, o->n, o->ta, o->ts, p, o->session,
-                                    o->inputs[p - 1], coins, o->n);
+                                    o->inputs[p - 1], coins, o->n, o->weights, o->n);
         if (pack_refusal_of(answer) != PACK_ACCEPTED)
             return refused("opening", p, answer);
     }

@@ -9,6 +9,9 @@
  * all n concentrators, the sender included, by pack_deliver. The turn that answers "in force" closes the session: from
  * then on pack_deliver and pack_turn are refused with PACK_CLOSED, and pack_report gives the set in force.
  *
+ * Every concentrator has a weight. Where a rule wants enough senders, or enough instances, it is their weights that are
+ * summed, and ta and ts limit the weight of those that lie; W is the sum of all n weights.
+ *
  * A count is a number of elements: 64-bit words, 32-bit coin words or bytes.
  * A null pointer with count 0 is an empty buffer. No call keeps a pointer or allocates; of the C library only
  * memcpy and memset are used. Calls on different states may run at the same time.
@@ -35,13 +38,15 @@ extern "C" {
 #define PACK_SET_WORDS 16
 /* Concentrators of a session at most. */
 #define PACK_CONCENTRATORS 16
+/* The largest weight of a concentrator; the smallest is 1. */
+#define PACK_WEIGHT_MAX 4
 /* ta as it is given where none is named; it is then 0. */
 #define PACK_UNNAMED 255
 
 /* The refusals, bits 0 to 7 of an answer. */
 enum pack_refusal {
     PACK_ACCEPTED = 0,
-    /* A setting or own number outside the rules, or not exactly n coin words. */
+    /* A setting, weight or own number outside the rules, or not exactly n coin words and n weights. */
     PACK_SETTINGS = 1,
     /* Under 12 bytes, or not 12 + 8 * count. */
     PACK_LENGTH = 2,
@@ -76,13 +81,15 @@ enum pack_outcome {
 };
 
 /*
- * Opens a session of n concentrators, 1 to 16, with ta <= ts and 2 * ts + ta < n, at the one numbered own, 1 to n.
+ * Opens a session of n concentrators, 1 to 16, with ta <= ts and 2 * ts + ta < W, at the one numbered own, 1 to n.
  * input is the own pack number, any value. coins are n words: bit r - 1 of word i, counted from 1, is the coin of vote
- * i in round r. n, ta, ts, session and coins are the same at all concentrators of a session.
+ * i in round r. weights are n bytes, that of concentrator 1 first, each 1 to PACK_WEIGHT_MAX; where all are 1, W is n.
+ * n, ta, ts, session, coins and weights are the same at all concentrators of a session.
  * Refusals, in this order: PACK_NO_STATE (the word count only), PACK_SETTINGS. The answer has no other bits.
  */
 uint64_t pack_open(uint64_t *state, size_t words, uint64_t n, uint64_t ta, uint64_t ts, uint64_t own, uint32_t session,
-                   uint64_t input, const uint32_t *coins, size_t coin_words);
+                   uint64_t input, const uint32_t *coins, size_t coin_words, const uint8_t *weights,
+                   size_t weight_count);
 
 /*
  * Records a message that came over the link of concentrator `link`.

@@ -19,10 +19,25 @@ impl Engine for Archive {
     }
 
     fn open(&self, state: &mut Vec<u64>, opening: &Opening) -> u64 {
-        let Opening { n, ta, ts, own, session, input, coins } = *opening;
+        let Opening { n, ta, ts, own, session, input, coins, weights } = *opening;
         let (words, count) = (state.as_mut_ptr(), state.len());
+        let (coins, coin_words) = (coins.as_ptr(), coins.len());
+        let (weights, weight_count) = (weights.as_ptr(), weights.len());
         unsafe {
-            pack_open(words, count, n, ta, ts, own, session, input, coins.as_ptr(), coins.len())
+            pack_open(
+                words,
+                count,
+                n,
+                ta,
+                ts,
+                own,
+                session,
+                input,
+                coins,
+                coin_words,
+                weights,
+                weight_count,
+            )
         }
     }
 

@@ -19,7 +19,8 @@ pub enum Kind {
     Equal,
     /// All honest, each its own pack.
     Mixed,
-    /// As many liars as ta, who send a message for every place at the start; the others each their own pack.
+    /// Liars of weight ta at most, the highest numbers, who send a message for every place at the start; the others each
+    /// their own pack.
     Liars,
 }
 
@@ -44,9 +45,12 @@ pub enum Call {
 /// The session of concentrator 1.
 pub struct Trace {
     pub n: u64,
+    pub heaviest: u8,
     pub kind: Kind,
+    tolerated: u64,
     liars_from: u64,
     coins: Vec<u32>,
+    weights: Vec<u8>,
     pub calls: Vec<Call>,
 }
 
@@ -59,13 +63,16 @@ struct Feeder {
 }
 
 impl Trace {
-    /// ta and ts are as large as n allows with ta = ts.
-    pub fn new(n: u64, kind: Kind) -> Trace {
-        let tolerated = (n - 1) / 3;
-        let liars_from = if kind == Kind::Liars { n - tolerated } else { n };
+    /// Weights of 1 to `heaviest`, in turn from the last concentrator on; ta and ts are as large as they allow with
+    /// ta = ts.
+    pub fn new(n: u64, heaviest: u8, kind: Kind) -> Trace {
+        let weights: Vec<u8> = (0..n as u8).rev().map(|back| 1 + back % heaviest).collect();
+        let tolerated = (weights.iter().map(|&weight| u64::from(weight)).sum::<u64>() - 1) / 3;
+        let liars_from = if kind == Kind::Liars { n - liars(&weights, tolerated) } else { n };
         // Different coins, with which no vote takes long.
         let coins = (1..=n as u32).map(|i| 0xb5a3_9d71_u32.rotate_left(i)).collect();
-        let trace = Trace { n, kind, liars_from, coins, calls: Vec::new() };
+        let calls = Vec::new();
+        let trace = Trace { n, heaviest, kind, tolerated, liars_from, coins, weights, calls };
         let states = vec![PlainMasks.blank(); liars_from as usize];
         let closed = vec![false; liars_from as usize];
         let mut feeder = Feeder { states, closed, on_their_way: VecDeque::new(), trace };
@@ -74,10 +81,10 @@ impl Trace {
     }
 
     pub fn opening(&self, own: u64) -> Opening<'_> {
-        let tolerated = (self.n - 1) / 3;
+        let (n, ta, ts) = (self.n, self.tolerated, self.tolerated);
         let input = if self.kind == Kind::Equal { 5 } else { 100 + own };
-        let (n, coins) = (self.n, &self.coins[..]);
-        Opening { n, ta: tolerated, ts: tolerated, own, session: SESSION, input, coins }
+        let (coins, weights) = (&self.coins[..], &self.weights[..]);
+        Opening { n, ta, ts, own, session: SESSION, input, coins, weights }
     }
 
     pub fn deliveries(&self) -> usize {
@@ -139,6 +146,16 @@ impl Feeder {
             }
         }
     }
+}
+
+/// How many of the last concentrators weigh so much at most.
+fn liars(weights: &[u8], tolerated: u64) -> u64 {
+    let mut weight = 0;
+    let fits = |&last: &u8| {
+        weight += u64::from(last);
+        weight <= tolerated
+    };
+    weights.iter().copied().rev().take_while(fits).count() as u64
 }
 
 /// A message for every place of a liar.

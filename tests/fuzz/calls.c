@@ -21,7 +21,7 @@ struct message {
     unsigned next;
 };
 
-static struct lent state[STATES], bytes_lent, named_lent, in_force_lent;
+static struct lent state[STATES], weights_lent, bytes_lent, named_lent, in_force_lent;
 static struct message sent[SENT];
 static size_t sent_count;
 /* Words were planted, or a state was opened again: what one state sends may then be refused by another. */
@@ -91,6 +91,8 @@ struct opening {
     uint64_t n, ta, ts, input;
     uint32_t session, coins[PACK_CONCENTRATORS + 1];
     size_t coin_words;
+    uint8_t weights[PACK_CONCENTRATORS + 1];
+    size_t weight_count;
 };
 
 static void open_state(const struct opening *opening, unsigned p, uint64_t own, uint8_t choice)
@@ -98,11 +100,29 @@ static void open_state(const struct opening *opening, unsigned p, uint64_t own, 
     size_t words = lend_state(p, choice);
     uint32_t before[PACK_CONCENTRATORS + 1];
     memcpy(before, opening->coins, sizeof before);
+    size_t count = opening->weight_count;
+    memcpy(weights_lent.end - count, opening->weights, count);
+    const uint8_t *weights = lend(&weights_lent, count);
     uint64_t answer = pack_open(words_from(p, words), words, opening->n, opening->ta, opening->ts, own, opening->session,
-                                opening->input + p % 3 * (opening->input & 1), opening->coins, opening->coin_words);
+                                opening->input + p % 3 * (opening->input & 1), opening->coins, opening->coin_words,
+                                count == 0 ? NULL : weights, count);
     require(memcmp(before, opening->coins, sizeof before) == 0, "an opening changed the coins");
+    require(lent_kept(&weights_lent, 0), "an opening changed the weights");
     require(!accepted(p, words, answer) || answer == 0, "an opening's answer");
     note(0, (unsigned)answer);
+}
+
+/* n weights, or another number of them; each mostly 1 to 4. */
+static void take_weights(struct input *in, struct opening *opening)
+{
+    static const uint8_t outside[4] = {0, PACK_WEIGHT_MAX + 1, 9, 255};
+    uint8_t count = take(in);
+    bool as_many = count < 0xf0 && opening->n <= PACK_CONCENTRATORS;
+    opening->weight_count = as_many ? opening->n : count % (PACK_CONCENTRATORS + 2);
+    for (size_t i = 0; i < opening->weight_count; i++) {
+        uint8_t weight = take(in);
+        opening->weights[i] = weight < 0xf0 ? 1 + weight % PACK_WEIGHT_MAX : outside[weight & 3];
+    }
 }
 
 static struct opening take_opening(struct input *in)
@@ -118,6 +138,10 @@ static struct opening take_opening(struct input *in)
     opening.coin_words = coins < 0xf0 && opening.n <= PACK_CONCENTRATORS ? opening.n : coins % (PACK_CONCENTRATORS + 2);
     for (size_t i = 0; i < opening.coin_words; i++)
         opening.coins[i] = coins & 1 ? UINT32_MAX : coins & 2 ? 0x55555555u << (i & 1) : coins * 2654435761u >> i;
+    memset(opening.weights, 1, sizeof opening.weights);
+    opening.weight_count = opening.n <= PACK_CONCENTRATORS ? opening.n : PACK_CONCENTRATORS + 1;
+    if (coins & 4)
+        take_weights(in, &opening);
     return opening;
 }
 
@@ -282,12 +306,12 @@ static void deliver_raw(struct input *in)
     deliver(0, link, raw, length, take(in));
 }
 
-/* A word of a state: anywhere, or one of the numbers and marks before word 141. */
+/* A word of a state: anywhere, or one of the numbers, marks and weights before word 142. */
 static void plant(struct input *in)
 {
     unsigned p = take(in) % STATES;
     size_t at = take(in);
-    if (at >= 141)
+    if (at >= 142)
         at = (at << 8 | take(in)) % PACK_STATE_WORDS;
     words_of(p)[at] = take(in) & 1 ? take_word(in) : take_number(in);
     irregular = true;
@@ -328,6 +352,7 @@ int LLVMFuzzerInitialize(int *count, char ***arguments)
     (void)count, (void)arguments;
     for (unsigned p = 0; p < STATES; p++)
         lent_make(&state[p]);
+    lent_make(&weights_lent);
     lent_make(&bytes_lent);
     lent_make(&named_lent);
     lent_make(&in_force_lent);

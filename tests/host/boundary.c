@@ -17,12 +17,24 @@ static void expect(bool held, const char *what)
 
 static uint64_t state[PACK_STATE_WORDS];
 static const uint32_t coins[PACK_CONCENTRATORS] = {1, 1, 1, 1};
+static const uint8_t weights[PACK_CONCENTRATORS] = {1, 1, 1, 1, 1};
 
-/* Opens concentrator 1 of four in session 7 with input 5. */
+/* What opening one of four answers, in session 7 with input 5 and weights of 1. */
+static uint64_t open_four(size_t words, uint64_t ta, uint64_t ts, uint64_t own)
+{
+    return pack_open(words == 0 ? NULL : state, words, 4, ta, ts, own, 7, 5, coins, 4, weights, 4);
+}
+
+/* The same of concentrator 1 with other weights. */
+static uint64_t open_weighted(uint64_t ta, uint64_t ts, const uint8_t *list, size_t count)
+{
+    return pack_open(state, PACK_STATE_WORDS, 4, ta, ts, 1, 7, 5, coins, 4, list, count);
+}
+
 static void open_first(void)
 {
     memset(state, 0xa5, sizeof state);
-    expect(pack_open(state, PACK_STATE_WORDS, 4, 1, 1, 1, 7, 5, coins, 4) == PACK_ACCEPTED, "opening is accepted");
+    expect(open_four(PACK_STATE_WORDS, 1, 1, 1) == PACK_ACCEPTED, "opening is accepted");
 }
 
 static void test_opening(void)
@@ -30,13 +42,31 @@ static void test_opening(void)
     uint64_t old[PACK_STATE_WORDS];
     memset(state, 0xa5, sizeof state);
     memcpy(old, state, sizeof old);
-    expect(pack_open(NULL, 0, 4, 1, 1, 1, 7, 5, coins, 4) == PACK_NO_STATE, "opening, no words");
-    expect(pack_open(state, PACK_STATE_WORDS - 1, 4, 1, 1, 1, 7, 5, coins, 4) == PACK_NO_STATE, "opening, a word short");
-    expect(pack_open(state, PACK_STATE_WORDS, 4, 1, 1, 1, 7, 5, NULL, 0) == PACK_SETTINGS, "opening, no coin words");
-    expect(pack_open(state, PACK_STATE_WORDS, 4, 1, 1, 5, 7, 5, coins, 4) == PACK_SETTINGS, "opening, own above n");
-    expect(pack_open(state, PACK_STATE_WORDS, 4, 1, UINT64_MAX, 1, 7, 5, coins, 4) == PACK_SETTINGS, "opening, huge ts");
+    expect(open_four(0, 1, 1, 1) == PACK_NO_STATE, "opening, no words");
+    expect(open_four(PACK_STATE_WORDS - 1, 1, 1, 1) == PACK_NO_STATE, "opening, a word short");
+    expect(pack_open(state, PACK_STATE_WORDS, 4, 1, 1, 1, 7, 5, NULL, 0, weights, 4) == PACK_SETTINGS, "opening, no coins");
+    expect(open_four(PACK_STATE_WORDS, 1, 1, 5) == PACK_SETTINGS, "opening, own above n");
+    expect(open_four(PACK_STATE_WORDS, 1, UINT64_MAX, 1) == PACK_SETTINGS, "opening, huge ts");
     expect(memcmp(old, state, sizeof old) == 0, "a refused opening leaves the state");
-    expect(pack_open(state, PACK_STATE_WORDS, 4, PACK_UNNAMED, 1, 4, 7, 5, coins, 4) == PACK_ACCEPTED, "opening, ta unnamed");
+    expect(open_four(PACK_STATE_WORDS, PACK_UNNAMED, 1, 4) == PACK_ACCEPTED, "opening, ta unnamed");
+}
+
+static void test_weights(void)
+{
+    static const uint8_t none[4] = {1, 0, 1, 1}, five[4] = {1, 1, 1, 5}, most[4] = {4, 4, 4, 4}, mixed[4] = {4, 3, 2, 1};
+    uint64_t old[PACK_STATE_WORDS];
+    memset(state, 0xa5, sizeof state);
+    memcpy(old, state, sizeof old);
+    expect(open_weighted(0, 0, NULL, 0) == PACK_SETTINGS, "opening, no weights");
+    expect(open_weighted(0, 0, weights, 3) == PACK_SETTINGS, "opening, a weight short");
+    expect(open_weighted(0, 0, weights, 5) == PACK_SETTINGS, "opening, a weight more");
+    expect(open_weighted(0, 0, none, 4) == PACK_SETTINGS, "opening, weight 0");
+    expect(open_weighted(0, 0, five, 4) == PACK_SETTINGS, "opening, weight 5");
+    expect(open_weighted(2, 4, mixed, 4) == PACK_SETTINGS, "opening, 2 * ts + ta is the sum of the weights");
+    expect(open_weighted(5, 5, weights, 4) == PACK_SETTINGS, "opening, ta and ts above n with weights of 1");
+    expect(memcmp(old, state, sizeof old) == 0, "an opening refused by its weights leaves the state");
+    expect(open_weighted(1, 4, mixed, 4) == PACK_ACCEPTED, "opening, 2 * ts + ta is one less");
+    expect(open_weighted(5, 5, most, 4) == PACK_ACCEPTED, "opening, ta and ts above n");
 }
 
 static void test_turn(void)
@@ -86,7 +116,8 @@ static void test_session(void)
     memset(named, 0xa5, sizeof named);
     memset(in_force, 0xa5, sizeof in_force);
     memset(untouched, 0xa5, sizeof untouched);
-    expect(pack_open(state, PACK_STATE_WORDS, 1, 0, 0, 1, 7, UINT64_MAX, coins, 1) == PACK_ACCEPTED, "opening alone");
+    answer = pack_open(state, PACK_STATE_WORDS, 1, 0, 0, 1, 7, UINT64_MAX, coins, 1, weights, 1);
+    expect(answer == PACK_ACCEPTED, "opening alone");
     while (pack_refusal_of(answer = pack_turn(state, PACK_STATE_WORDS, bytes, sizeof bytes)) == PACK_ACCEPTED) {
         if (pack_outcome_of(answer) != PACK_SENT)
             break;
@@ -108,6 +139,7 @@ static void test_session(void)
 int main(void)
 {
     test_opening();
+    test_weights();
     test_turn();
     test_delivery();
     test_session();

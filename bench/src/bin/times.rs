@@ -1,5 +1,5 @@
-//! Times sessions at one concentrator: the archive, the masks, the reference. With the arguments `count N KIND` it runs
-//! each part once, in functions of their own, for a tool that counts instructions.
+//! Times sessions at one concentrator: the archive, the masks, the reference. With the arguments `count N HEAVIEST KIND` it
+//! runs each part once, in functions of their own, for a tool that counts instructions.
 
 use std::hint::black_box;
 use std::time::Instant;
@@ -9,6 +9,8 @@ use pack_bench::trace::{check, replay, Kind, Part, Trace};
 use pack_reference::engine::{Engine, Reference};
 
 const SIZES: [u64; 4] = [4, 7, 10, 16];
+/// The largest weight of a feeder; with 1 all weigh the same.
+const HEAVIEST: [u8; 2] = [1, 4];
 const PARTS: [Part; 3] = [Part::Opening, Part::Deliveries, Part::Whole];
 /// Batches of each part; the median is taken.
 const BATCHES: usize = 21;
@@ -19,17 +21,19 @@ fn main() {
     let arguments: Vec<String> = std::env::args().skip(1).collect();
     match &arguments[..] {
         [] => print_tables(),
-        [count, n, kind] if count == "count" => count_one(n, kind),
+        [count, n, heaviest, kind] if count == "count" => count_one(n, heaviest, kind),
         _ => {
-            eprintln!("usage: times [count N KIND]");
+            eprintln!("usage: times [count N HEAVIEST KIND]");
             std::process::exit(2);
         }
     }
 }
 
 fn traces() -> Vec<Trace> {
-    let traces: Vec<Trace> =
-        SIZES.iter().flat_map(|&n| Kind::ALL.map(|kind| Trace::new(n, kind))).collect();
+    let feeders = HEAVIEST.iter().flat_map(|&heaviest| SIZES.map(|n| (n, heaviest)));
+    let traces: Vec<Trace> = feeders
+        .flat_map(|(n, heaviest)| Kind::ALL.map(|kind| Trace::new(n, heaviest, kind)))
+        .collect();
     for trace in &traces {
         check(&Archive, trace);
         check(&PlainMasks, trace);
@@ -105,17 +109,18 @@ fn time(trace: &Trace) -> [Medians; 3] {
 fn print_tables() {
     println!("Medians of {BATCHES} batches. E the engine, M the masks, R the reference.\n");
     println!(
-        "| n | feeder | deliveries | turns | ns/delivery E | M | R | ns/turn E | M | R | µs/session E | M | R | \
+        "| n | weights | feeder | deliveries | turns | ns/delivery E | M | R | ns/turn E | M | R | µs/session E | M | R | \
          session E/M | E/R |"
     );
-    println!("|{}", "---|".repeat(15));
+    println!("|{}", "---|".repeat(16));
     let mut opening = [0.0; 3];
     for trace in traces() {
         let medians = time(&trace);
         opening = medians.each_ref().map(|engine| engine.opening);
         print!(
-            "| {} | {} | {} | {} |",
+            "| {} | {} | {} | {} | {} |",
             trace.n,
+            weights_name(trace.heaviest),
             trace.kind.name(),
             trace.deliveries(),
             trace.turns()
@@ -128,6 +133,13 @@ fn print_tables() {
     }
     let [archive, masks, reference] = opening;
     println!("\nOpening with n = 16: E {archive:.0} ns, M {masks:.0} ns, R {reference:.0} ns.");
+}
+
+fn weights_name(heaviest: u8) -> String {
+    match heaviest {
+        1 => "1".to_string(),
+        _ => format!("1 to {heaviest}"),
+    }
 }
 
 /// Functions that a tool finds by their names.
@@ -153,10 +165,10 @@ counted!(count_reference_opening, Reference::default(), Part::Opening);
 counted!(count_reference_deliveries, Reference::default(), Part::Deliveries);
 counted!(count_reference_whole, Reference::default(), Part::Whole);
 
-fn count_one(n: &str, kind: &str) {
-    let n = n.parse().expect("a number");
+fn count_one(n: &str, heaviest: &str, kind: &str) {
+    let [n, heaviest] = [n, heaviest].map(|text| text.parse::<u8>().expect("a number"));
     let kind = Kind::ALL.into_iter().find(|known| known.name() == kind).expect("a kind");
-    let trace = &Trace::new(n, kind);
+    let trace = &Trace::new(u64::from(n), heaviest, kind);
     black_box([count_archive_opening(trace), count_archive_deliveries(trace)]);
     black_box(count_archive_whole(trace));
     black_box([count_masks_opening(trace), count_masks_deliveries(trace)]);

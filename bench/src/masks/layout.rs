@@ -29,6 +29,8 @@ pub const READY_SENT: usize = 137;
 pub const DECIDED_ZERO: usize = 138;
 pub const DECIDED_ONE: usize = 139;
 pub const SEND_MARKS: usize = 140;
+/// Four groups of 16 marks: as many of a concentrator's are set as it weighs.
+pub const WEIGHTS: usize = 141;
 
 /// Rows of 16 words, one for each sender or place.
 pub const ECHO_VALUES: usize = 239;

@@ -40,18 +40,36 @@ pub fn open(state: &mut [u64], opening: &Opening) -> u64 {
     let Ok(words) = <&mut Words>::try_from(state) else {
         return refusal::NO_STATE;
     };
-    let Opening { n, ta, ts, own, session, input, coins } = *opening;
+    let Opening { n, ta, ts, own, session, input, coins, weights } = *opening;
     let ta = if ta == UNNAMED { 0 } else { ta };
-    let valid = Session::new(n, ta, ts).is_some() && (1..=n).contains(&own);
+    let Some(weights) = weights_word(n, weights) else {
+        return refusal::SETTINGS;
+    };
+    let valid = Session::new(n, ta, ts, weights).is_some() && (1..=n).contains(&own);
     if !valid || coins.len() as u64 != n {
         return refusal::SETTINGS;
     }
     words.fill(0);
     words[..6].copy_from_slice(&[n, ta, ts, own, u64::from(session), input]);
+    words[WEIGHTS] = weights;
     for (word, &coin) in words[COINS + 1..].iter_mut().zip(coins) {
         *word = u64::from(coin);
     }
     0
+}
+
+/// The word of n weights of at most 4; `None` if there is a larger one, or not n, up to 16.
+#[inline]
+fn weights_word(n: u64, weights: &[u8]) -> Option<u64> {
+    const MARKS: [u64; 5] = [0, 1, 0x1_0001, 0x1_0001_0001, 0x1_0001_0001_0001];
+    if n != weights.len() as u64 || 16 < n {
+        return None;
+    }
+    let mut word = 0;
+    for (place, &weight) in weights.iter().enumerate() {
+        word |= MARKS.get(usize::from(weight))? << place;
+    }
+    Some(word)
 }
 
 /// The words and the session of a state that is not closed, or the number of the refusal.
@@ -141,7 +159,7 @@ pub fn turn(state: &mut [u64], lent: &mut [u8]) -> u64 {
 #[inline]
 fn act(words: &mut Words, session: &Session, lent: &mut [u8]) -> u64 {
     let commits = commits_held(words, session);
-    if set_leader(words, commits, session.quorum()).is_some() {
+    if set_leader(words, commits, session.weights, session.quorum()).is_some() {
         words[FLAGS] |= CLOSED;
         return IN_FORCE;
     }
@@ -176,7 +194,7 @@ fn send_commit(
     let named = Named::of(words, session, outputs);
     let answer = if named.count != 0 {
         wire::send(words, [wire::COMMIT, 0, 0], &named.values[..named.count], lent)
-    } else if let Some(p) = set_leader(words, commits, session.copy()) {
+    } else if let Some(p) = set_leader(words, commits, session.weights, session.copy()) {
         wire::send(words, [wire::COMMIT, 0, 0], set_of(words, p), lent)
     } else {
         return 0;
@@ -211,14 +229,15 @@ fn act_in_broadcasts(words: &mut Words, session: &Session, lent: &mut [u8]) -> u
     0
 }
 
-/// Rule 5: a value with n − ts ECHOs, else one with ts + 1 READYs.
+/// Rule 5: a value with ECHOs of W − ts, else one with READYs of ts + 1.
 #[inline]
 fn ready_due(words: &Words, session: &Session, i: usize) -> Option<u64> {
     let i = i & 31;
     let echoes = words[ECHO_MARKS + i] & session.all;
     let readies = words[READY_MARKS + i] & session.all;
-    leading(row(words, ECHO_VALUES, i), echoes, session.quorum())
-        .or_else(|| leading(row(words, READY_VALUES, i), readies, session.copy()))
+    let weights = session.weights;
+    leading(row(words, ECHO_VALUES, i), echoes, weights, session.quorum())
+        .or_else(|| leading(row(words, READY_VALUES, i), readies, weights, session.copy()))
 }
 
 #[inline(never)]
@@ -236,7 +255,8 @@ pub fn report(state: &[u64], named: &mut [u64], in_force: &mut [u64]) -> u64 {
     named[..exit.count].copy_from_slice(&exit.values[..exit.count]);
     let mut set: &[u64] = &[];
     if words[FLAGS] & CLOSED != 0 {
-        let leader = set_leader(words, commits_held(words, &session), session.quorum());
+        let commits = commits_held(words, &session);
+        let leader = set_leader(words, commits, session.weights, session.quorum());
         set = leader.map_or(set, |p| set_of(words, p));
     }
     in_force[..set.len()].copy_from_slice(set);

@@ -4,6 +4,9 @@ use super::layout::*;
 
 pub type Words = [u64; STATE_WORDS];
 
+/// A group of 16 marks, four times.
+const FOURFOLD: u64 = 0x0001_0001_0001_0001;
+
 /// What every call reads of a state first.
 #[derive(Clone, Copy)]
 pub struct Session {
@@ -12,19 +15,52 @@ pub struct Session {
     pub ts: u64,
     /// Marks 1 to n.
     pub all: u64,
+    pub weights: Weights,
+    /// The sum of all weights.
+    whole: u64,
+}
+
+/// Four groups of 16 marks: each of 1 to n has as many of its four as it weighs.
+#[derive(Clone, Copy)]
+pub struct Weights(u64);
+
+impl Weights {
+    /// Those of 1 to n in a word, and their sum; `None` if one is 0.
+    #[inline]
+    fn of(word: u64, n: u64, all: u64) -> Option<(Weights, u64)> {
+        let weights = Weights(word & all * FOURFOLD);
+        // Mostly all weigh 1.
+        if weights.0 == all {
+            return Some((weights, n));
+        }
+        let some = word | word >> 16 | word >> 32 | word >> 48;
+        (some & all == all).then(|| (weights, u64::from(weights.weigh(all))))
+    }
+
+    /// The weight of the marked numbers.
+    #[inline]
+    pub fn weigh(self, marks: u64) -> u32 {
+        (marks * FOURFOLD & self.0).count_ones()
+    }
 }
 
 impl Session {
-    /// Settings within the rules; ta is as stored, so 255 is refused.
-    pub fn new(n: u64, ta: u64, ts: u64) -> Option<Session> {
-        let good = (1..=16).contains(&n) && ta <= ts && ts < n && 2 * ts + ta < n;
-        good.then(|| Session { n, ta, ts, all: (1 << n) - 1 })
+    /// Settings within the rules; ta is as stored, so 255 is refused, and the weights are a word's.
+    #[inline]
+    pub fn new(n: u64, ta: u64, ts: u64, weights: u64) -> Option<Session> {
+        if !(1..=16).contains(&n) {
+            return None;
+        }
+        let all = (1 << n) - 1;
+        let (weights, whole) = Weights::of(weights, n, all)?;
+        let good = ta <= ts && ts < whole && 2 * ts + ta < whole;
+        good.then_some(Session { n, ta, ts, all, weights, whole })
     }
 
     /// The session that the words hold; `None` is refusal 9.
     #[inline]
     pub fn of(words: &Words) -> Option<Session> {
-        let session = Session::new(words[N], words[TA], words[TS])?;
+        let session = Session::new(words[N], words[TA], words[TS], words[WEIGHTS])?;
         let n = session.n;
         let mut outside = !(1..=n).contains(&words[OWN]) | (99 * n + 3 < words[TURNS]);
         for i in 0..n as usize & 31 {
@@ -34,9 +70,9 @@ impl Session {
         (!outside).then_some(session)
     }
 
-    /// n − ts.
+    /// W − ts.
     pub fn quorum(&self) -> u32 {
-        (self.n - self.ts) as u32
+        (self.whole - self.ts) as u32
     }
 
     /// ts + 1.
@@ -44,9 +80,9 @@ impl Session {
         self.ts as u32 + 1
     }
 
-    /// n − ta.
+    /// W − ta.
     pub fn vote_quorum(&self) -> u32 {
-        (self.n - self.ta) as u32
+        (self.whole - self.ta) as u32
     }
 }
 
@@ -67,15 +103,15 @@ pub fn equal(row: &[u64; 16], among: u64, v: u64) -> u64 {
     marks & among
 }
 
-/// The value that q of the marked numbers hold; of several, the lowest number's.
+/// The value that marked numbers of weight q hold; of several, the lowest number's.
 #[inline]
-pub fn leading(row: &[u64; 16], marked: u64, q: u32) -> Option<u64> {
+pub fn leading(row: &[u64; 16], marked: u64, weights: Weights, q: u32) -> Option<u64> {
     let mut left = marked;
     // q is at least 1; the first test is the cheaper one.
-    while left != 0 && q <= left.count_ones() {
+    while left != 0 && q <= weights.weigh(left) {
         let v = row[left.trailing_zeros() as usize & 15];
         let holders = equal(row, left, v);
-        if q <= holders.count_ones() {
+        if q <= weights.weigh(holders) {
             return Some(v);
         }
         left &= !holders;

@@ -17,7 +17,7 @@ fn groups(words: &Words, session: &Session, i: usize, r: usize) -> [u64; 4] {
 /// The first thing due in the votes; 0 is idle. `held` has the marks of the broadcasts with output.
 #[inline]
 pub fn act(words: &mut Words, session: &Session, held: u64, lent: &mut [u8]) -> u64 {
-    let ones = (words[DECIDED_ONE] & session.all).count_ones();
+    let ones = session.weights.weigh(words[DECIDED_ONE] & session.all);
     let zero_starts = session.vote_quorum() <= ones;
     for i in 1..=session.n as usize & 31 {
         let output = held >> (i - 1) & 1;
@@ -44,7 +44,8 @@ fn act_in_round(words: &mut Words, session: &Session, i: usize, r: usize, lent: 
     }
     let [est_0, est_1, aux_0, aux_1] = groups(words, session, i, r);
     let accept = 2 * session.ta as u32 + 1;
-    let accepted = [est_0, est_1].map(|marks| marks != 0 && accept <= marks.count_ones());
+    let weights = session.weights;
+    let accepted = [est_0, est_1].map(|marks| marks != 0 && accept <= weights.weigh(marks));
     if words[AUX_SENT + i] >> (r - 1) & 1 == 0 {
         if accepted == [false, false] {
             return 0;
@@ -54,13 +55,13 @@ fn act_in_round(words: &mut Words, session: &Session, i: usize, r: usize, lent: 
     }
     let zero = if accepted[0] { aux_0 } else { 0 };
     let one = if accepted[1] { aux_1 } else { 0 };
-    if (zero | one).count_ones() < session.vote_quorum() {
+    if weights.weigh(zero | one) < session.vote_quorum() {
         return 0;
     }
     leave(words, i, r, [zero != 0, one != 0], lent)
 }
 
-/// The lowest round, 0 before 1, with a value that was not sent and that ta + 1 senders hold.
+/// The lowest round, 0 before 1, with a value that was not sent and that senders of ta + 1 hold.
 #[inline]
 fn relay(words: &Words, session: &Session, i: usize, last: usize) -> Option<(usize, usize)> {
     let sent = words[EST_SENT + i];
@@ -71,7 +72,7 @@ fn relay(words: &Words, session: &Session, i: usize, last: usize) -> Option<(usi
         let [est_0, est_1, ..] = groups(words, session, i, r);
         for (value, marks) in [est_0, est_1].into_iter().enumerate() {
             let unsent = sent >> (32 * value + r - 1) & 1 == 0;
-            if unsent && marks != 0 && session.ta < u64::from(marks.count_ones()) {
+            if unsent && marks != 0 && session.ta < u64::from(session.weights.weigh(marks)) {
                 return Some((r, value));
             }
         }

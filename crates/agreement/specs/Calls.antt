@@ -8,13 +8,15 @@ use mathlib.Core.Path.{_≡_}
 use lib.Dec.{eqb}
 use lib.ListN.{length, take}
 use Rattle.settings.specs.Settings.{namedTa}
+use Rattle.quorum.specs.Whole.{wholeOf}
 use Rattle.settings.specs.declared.Settings.{Settings}
 use Rattle.quorum.specs.Marks.{mark}
 use Rattle.records.specs.Words.{word}
 use Rattle.wire.specs.Message.{lengthOf}
 use Rattle.wire.specs.declared.Message as wire
 use Rattle.wire_laws.specs.Proper.{AllBytes}
-use Rattle.opening.specs.Opening.{openAnswer, coinWord}
+use Rattle.opening.specs.Opening.{openAnswer}
+use Rattle.opening.specs.Given.{item, weightsWord}
 use Rattle.opening.specs.Opening as opening-words
 use Rattle.delivery.specs.Delivery.{deliverAnswer}
 use Rattle.delivery.specs.Delivery as delivery-words
@@ -174,7 +176,8 @@ pub record DemandThree (M : Machine) : Type 0 where
 
 -- ---- the engine
 
--- the arguments of an opening: the code takes 32 bits for the session number and each coin word, and 64 for the own input
+-- the arguments of an opening: the code takes 32 bits for the session number and each coin word, and 64 for the own input; weights are
+-- any numbers
 pub record Arguments : Type 0 where
   pub n : ℕ
   pub ta : ℕ
@@ -183,11 +186,16 @@ pub record Arguments : Type 0 where
   pub session : ℕ
   pub input : ℕ
   pub coins : List ℕ
+  pub weights : List ℕ
   pub session-fits : session < 2 ^ 32
   pub input-fits : input < 2 ^ 64
   pub coins-fit : (i : ℕ) → word coins i < 2 ^ 32
 
--- "All these openings agree in n, ts, session number, coin words, and ta once 255 is read."
+-- the weights as one word
+abbrev pub weightsOf : Arguments → ℕ
+weightsOf o = weightsWord (o .n) (o .weights)
+
+-- "All these openings agree in n, ts, session number, coin words, and ta once 255 is read"; the weights are "compared like them" (N11)
 pub record Agreed : Type 0 where
   pub settings : Settings
   pub number : ℕ
@@ -195,7 +203,11 @@ pub record Agreed : Type 0 where
 
 abbrev pub agreed : Arguments → Agreed
 agreed o =
-    record { settings = record { n = o .n; ta = namedTa (o .ta); ts = o .ts }; number = o .session; coins = o .coins }
+    record {
+      settings = record { n = o .n; ta = namedTa (o .ta); ts = o .ts; whole = wholeOf (weightsOf o) (o .n); weights = weightsOf o };
+      number = o .session;
+      coins = o .coins;
+    }
 
 pub record Bytes : Type 0 where
   pub list : List ℕ
@@ -236,9 +248,9 @@ engine =
       Session = Agreed;
       session = agreed;
       settings = λ S. S .settings;
-      coin = λ S i r. mark (coinWord (S .coins) i) r;
-      opens = λ w o. eqb (openAnswer (length w) (o .n) (o .ta) (o .ts) (o .own) (length (o .coins))) 0;
-      opened = λ w o. opening-words.opened w (o .n) (o .ta) (o .ts) (o .own) (o .session) (o .input) (o .coins);
+      coin = λ S i r. mark (item (S .coins) i) r;
+      opens = λ w o. eqb (openAnswer (length w) (o .n) (o .ta) (o .ts) (weightsOf o) (o .own) (length (o .coins))) 0;
+      opened = λ w o. opening-words.opened w (o .n) (o .ta) (o .ts) (weightsOf o) (o .own) (o .session) (o .input) (o .coins);
       Bytes = Bytes;
       accepts = λ w m b. eqb (deliverAnswer w m (b .list)) 0;
       delivered = λ w m b. delivery-words.delivered w m (b .list);

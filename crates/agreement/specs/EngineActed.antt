@@ -9,7 +9,7 @@ use native.Mathlib.Omega.{arith}
 use lib.Dec.{eqb}
 use lib.ListN.{length}
 use borrow.Author.Tests.{eqb-true}
-use Rattle.settings.specs.Bools.{and-right}
+use Rattle.quorum.specs.Bools.{and-right}
 use Rattle.settings.specs.Laws.{Ruled}
 use Rattle.settings.specs.declared.Settings.{Settings}
 use Rattle.quorum.specs.Marks.{mark}
@@ -21,7 +21,7 @@ use Rattle.acts.specs.declared.Act.the-variants as act
 use Rattle.acts.specs.declared.View.{View}
 use Rattle.acts.specs.declared.View.the-variants.{Only, Both}
 use Rattle.votes.specs.Votes.{coinValue, estimate, decides}
-use Rattle.opening.specs.Opening.{coinWord}
+use Rattle.opening.specs.Given.{item}
 use Rattle.turn.specs.Turn.{newDecision, applied}
 use Rattle.turn.specs.Told.{ActTold}
 use Rattle.turn.specs.Frame.{Placed, told-placed, length-applied, applied-kept}

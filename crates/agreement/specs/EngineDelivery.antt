@@ -10,7 +10,7 @@ use native.Mathlib.Nat.{mod-eq-of-lt}
 use lib.ListN.{length, drop}
 use borrow.Author.Tests.{eqb-true, eqb-false}
 use Rattle.quorum.specs.Marks.{mark}
-use Rattle.records.specs.Layout.{nAt, taAt, tsAt, ownAt, sessionAt, inputAt, coinAt, auxSentAt, echoSentAt, decidedZeroAt, decidedOneAt}
+use Rattle.records.specs.Layout.{nAt, taAt, tsAt, ownAt, sessionAt, inputAt, weightsAt, coinAt, auxSentAt, echoSentAt, decidedZeroAt, decidedOneAt}
 use Rattle.records.specs.Records.{commitSet, echoSent, auxSent, decidedZero, decidedOne}
 use Rattle.records.specs.Words.{word, marked}
 use Rattle.commits.specs.Sets.{set-length}
@@ -29,7 +29,7 @@ use Rattle.delivery.specs.Accepting.{Accepting, accepting}
 use Rattle.delivery.specs.Answers.{Taking, answer-accepted, answer-refused}
 use Rattle.delivery.specs.Delivery.{placeHeld, recorded, deliverAnswer}
 use Rattle.delivery.specs.Frame.{InLayout, length-recorded}
-use Rattle.delivery.specs.Kept.{in-layout, SetAfter, before, now, set-after, Untouched, word-untouched, ValueFits, fit-recorded}
+use Rattle.delivery.specs.Kept.{in-layout, SetAfter, before, now, set-after, Untouched, word-untouched, word-free, ValueFits, fit-recorded}
 use Rattle.agreement.specs.History.{Decision, zero, one}
 use Rattle.held.specs.Held.{Message, meaning}
 use Rattle.held.specs.Recording.{held-recorded}
@@ -64,6 +64,7 @@ module _ (o : Arguments) (w : List ℕ) (B : Belongs o w) (v : List ℕ) (p : �
         is-n = same nAt (inl (omega arith)) ∙ B .is-n;
         is-ta = same taAt (inl (omega arith)) ∙ B .is-ta;
         is-ts = same tsAt (inl (omega arith)) ∙ B .is-ts;
+        is-weights = word-free w v p m weightsAt h (omega arith) (omega arith) ∙ B .is-weights;
         is-own = same ownAt (inl (omega arith)) ∙ B .is-own;
         is-session = same sessionAt (inl (omega arith)) ∙ B .is-session;
         is-input = same inputAt (inl (omega arith)) ∙ B .is-input;

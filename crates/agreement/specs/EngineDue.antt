@@ -9,7 +9,7 @@ use native.Mathlib.Omega.{arith}
 use lib.Dec.{eqb, leb}
 use lib.ListN.{length}
 use borrow.Author.Tests.{eqb-true, leb-true}
-use Rattle.settings.specs.Bools.{and-left, and-right}
+use Rattle.quorum.specs.Bools.{and-left, and-right}
 use Rattle.settings.specs.Settings.{quorum, copy, voteQuorum, relay, accept}
 use Rattle.settings.specs.Laws.{Ruled}
 use Rattle.settings.specs.declared.Settings.{Settings}
@@ -64,10 +64,10 @@ module _ (s : List ℕ) (ruled : Ruled (settingsOf s)) (size : length s ≡ 2048
 
   -- ---- broadcasts
 
-  echoes-held : (i v : ℕ) → Numbered i → quorum g ≤ holders (echoHeld s i) (echoValue s i) v (g .n) → HeldFrom W engineSeen s (whole W) (g .ts) (ECHO i v)
+  echoes-held : (i v : ℕ) → Numbered i → quorum g ≤ holders (g .weights) (echoHeld s i) (echoValue s i) v (g .n) → HeldFrom W engineSeen s (whole W) (g .ts) (ECHO i v)
   unfolding holders
   echoes-held i v n h =
-      by-quorum W (λ p. echoHeld s i p && eqb (echoValue s i p) v)
+      by-quorum W ruled (λ p. echoHeld s i p && eqb (echoValue s i p) v)
       (λ m lo hi t. record { instance = n; there = and-left (echoHeld s i m) (eqb (echoValue s i m) v) t; same = eqb-true (echoValue s i m) v (and-right (echoHeld s i m) (eqb (echoValue s i m) v) t) }) h
 
   abbrev readies : ℕ → ℕ → ℕ → Bool
@@ -77,26 +77,26 @@ module _ (s : List ℕ) (ruled : Ruled (settingsOf s)) (size : length s ≡ 2048
   ready-held i v n m t =
       record { instance = n; there = and-left (readyHeld s i m) (eqb (readyValue s i m) v) t; same = eqb-true (readyValue s i m) v (and-right (readyHeld s i m) (eqb (readyValue s i m) v) t) }
 
-  ready-due : (i v : ℕ) → Numbered i → (quorum g ≤ holders (echoHeld s i) (echoValue s i) v (g .n)) ⊎ (copy g ≤ holders (readyHeld s i) (readyValue s i) v (g .n)) → HeldFrom W engineSeen s (whole W) (g .ts) (ECHO i v) ⊎ HeldFrom W engineSeen s (g .ts + 1) 0 (READY i v)
+  ready-due : (i v : ℕ) → Numbered i → (quorum g ≤ holders (g .weights) (echoHeld s i) (echoValue s i) v (g .n)) ⊎ (copy g ≤ holders (g .weights) (readyHeld s i) (readyValue s i) v (g .n)) → HeldFrom W engineSeen s (whole W) (g .ts) (ECHO i v) ⊎ HeldFrom W engineSeen s (g .ts + 1) 0 (READY i v)
   unfolding holders
   ready-due i v n (inl h) = inl (echoes-held i v n h)
-  ready-due i v n (inr h) = inr (by-copy W (readies i v) (λ m lo hi t. ready-held i v n m t) h)
+  ready-due i v n (inr h) = inr (by-copy W ruled (readies i v) (λ m lo hi t. ready-held i v n m t) h)
 
   -- an output has its READYs
   pub outputs-held : OutputsHeld W engineSeen s
   unfolding holders
   outputs-held i v lo hi e =
-      by-quorum W (readies i v) (λ m a b t. ready-held i v (numbered (record { low = lo; high = hi })) m t) (output-holders g s i v e .enough)
+      by-quorum W ruled (readies i v) (λ m a b t. ready-held i v (numbered (record { low = lo; high = hi })) m t) (output-holders g s i v e .enough)
 
   -- ---- votes
 
   relay-due : (i r b : ℕ) → Voting i r b → relay g ≤ estCount g s i r b → HeldFrom W engineSeen s (g .ta + 1) 0 (EST i r b)
   unfolding estCount
-  relay-due i r b v h = by-relay W (estHeld s i r b) (λ m lo hi t. record { vote = v; there = t }) h
+  relay-due i r b v h = by-relay W ruled (estHeld s i r b) (λ m lo hi t. record { vote = v; there = t }) h
 
   accepted-due : (i r b : ℕ) → Voting i r b → accepted g s i r b ≡ true → HeldFrom W engineSeen s (2 * g .ta + 1) 0 (EST i r b)
   unfolding accepted estCount
-  accepted-due i r b v h = by-accept W (estHeld s i r b) (λ m lo hi t. record { vote = v; there = t }) (leb-true (accept g) (estCount g s i r b) h)
+  accepted-due i r b v h = by-accept W ruled (estHeld s i r b) (λ m lo hi t. record { vote = v; there = t }) (leb-true (accept g) (estCount g s i r b) h)
 
   -- an AUX of m that carries b, which the view has
   carried : (i r b : ℕ) (v : View) (m : ℕ) → Voting i r b → Occurs b v → auxHeld s i r b m ≡ true → Carried W engineSeen s i r v m
@@ -116,7 +116,7 @@ module _ (s : List ℕ) (ruled : Ruled (settingsOf s)) (size : length s ≡ 2048
       let y : Voting i r b = voting a (x .low) (x .high) (x .shown .bit) in
       record {
         round = x .low;
-        quorum = by-vote-quorum W (auxHeld s i r b) (λ m lo hi t. carried i r b (Only b) m y refl t) (x .shown .carried);
+        quorum = by-vote-quorum W ruled (auxHeld s i r b) (λ m lo hi t. carried i r b (Only b) m y refl t) (x .shown .carried);
         accepted = λ c e. rw e (accepted-due i r b y (x .shown .is-accepted));
       }
   move-due i r Both a x =
@@ -125,7 +125,7 @@ module _ (s : List ℕ) (ruled : Ruled (settingsOf s)) (size : length s ≡ 2048
       record {
         round = x .low;
         quorum =
-            by-vote-quorum W (λ p. (accepted g s i r 0 && auxHeld s i r 0 p) || (accepted g s i r 1 && auxHeld s i r 1 p))
+            by-vote-quorum W ruled (λ p. (accepted g s i r 0 && auxHeld s i r 0 p) || (accepted g s i r 1 && auxHeld s i r 1 p))
             (λ m lo hi t. either i r m z o (accepted g s i r 0) (accepted g s i r 1) t) (x .enough);
         accepted = λ c e. both-accepted c e z o;
       }
@@ -147,14 +147,14 @@ module _ (s : List ℕ) (ruled : Ruled (settingsOf s)) (size : length s ≡ 2048
         same = same-set s p q size (omega (arith, ruled .few)) (omega (arith, ruled .few)) (and-right (commitHeld s q) (sameSet s p q) t);
       }
 
-  copies-due : (p : ℕ) → SetHeld s (g .n) (copy g) p → HeldFrom W engineSeen s (g .ts + 1) 0 (COMMIT (commitSet s p))
+  copies-due : (p : ℕ) → SetHeld (g .weights) s (g .n) (copy g) p → HeldFrom W engineSeen s (g .ts + 1) 0 (COMMIT (commitSet s p))
   unfolding setHolders
-  copies-due p x = by-copy W (holding p) (λ m lo hi t. commit-held p m (x .high) hi t) (x .enough)
+  copies-due p x = by-copy W ruled (holding p) (λ m lo hi t. commit-held p m (x .high) hi t) (x .enough)
 
   -- n−ts senders hold the set of p
-  pub force-due : (p : ℕ) → SetHeld s (g .n) (quorum g) p → HeldFrom W engineSeen s (whole W) (g .ts) (COMMIT (commitSet s p))
+  pub force-due : (p : ℕ) → SetHeld (g .weights) s (g .n) (quorum g) p → HeldFrom W engineSeen s (whole W) (g .ts) (COMMIT (commitSet s p))
   unfolding setHolders
-  force-due p x = by-quorum W (holding p) (λ m lo hi t. commit-held p m (x .high) hi t) (x .enough)
+  force-due p x = by-quorum W ruled (holding p) (λ m lo hi t. commit-held p m (x .high) hi t) (x .enough)
 
   commit-due : Rests g s → Names g (engineSeen .standing s) (commitDue g s) ⊎ HeldFrom W engineSeen s (g .ts + 1) 0 (COMMIT (commitDue g s))
   unfolding exitNow

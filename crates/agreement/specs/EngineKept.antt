@@ -20,7 +20,7 @@ use Rattle.votes.specs.Votes.{estimate}
 use Rattle.turn.specs.Turn.{counted, entered, decidedAs, newDecision, moveDecided, moved, applied}
 use Rattle.turn.specs.Turn as turn
 use Rattle.turn.specs.Told.{ActTold}
-use Rattle.turn.specs.Frame.{Placed, told-placed, setting, coins, length-applied, applied-kept}
+use Rattle.turn.specs.Frame.{Placed, told-placed, setting, coins, beyond, length-applied, applied-kept}
 use Rattle.agreement.specs.Calls.{Arguments}
 use Rattle.agreement.specs.EngineReading.{Belongs}
 
@@ -102,6 +102,7 @@ belongs-applied o g w x ruled a told few = of (told-placed g w ruled a told)
           is-n = applied-kept w a p 0 (setting (omega arith)) ∙ x .is-n;
           is-ta = applied-kept w a p 1 (setting (omega arith)) ∙ x .is-ta;
           is-ts = applied-kept w a p 2 (setting (omega arith)) ∙ x .is-ts;
+          is-weights = applied-kept w a p 141 (beyond (omega arith)) ∙ x .is-weights;
           is-own = applied-kept w a p 3 (setting (omega arith)) ∙ x .is-own;
           is-session = applied-kept w a p 4 (setting (omega arith)) ∙ x .is-session;
           is-input = applied-kept w a p 5 (setting (omega arith)) ∙ x .is-input;

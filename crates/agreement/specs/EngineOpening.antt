@@ -8,8 +8,8 @@ use native.Mathlib.Omega.{arith}
 use lib.Dec.{leb}
 use lib.ListN.{length}
 use borrow.Author.Tests.{eqb-true, leb-true}
-use Rattle.settings.specs.Bools.{and-left, and-right}
-use Rattle.settings.specs.Laws.{Ruled, valid-rules}
+use Rattle.quorum.specs.Bools.{and-left, and-right}
+use Rattle.settings.specs.Laws.{Ruled, valid-rules, whole-few}
 use Rattle.settings.specs.Settings.{namedTa}
 use Rattle.quorum.specs.Marks.{mark}
 use Rattle.quorum.specs.MarkLaws.{mark-zero}
@@ -20,25 +20,26 @@ use Rattle.commits.specs.Commits.{commitHeld}
 use Rattle.session.specs.Session.{numbered}
 use Rattle.wire.specs.Bytes.{rises}
 use Rattle.opening.specs.Cases.{Accepted, accepted}
-use Rattle.opening.specs.Laws.{coin-below, length-first, first-n, first-ta, first-ts, first-own, first-session, first-input, first-coin, first-zero, fit-first}
+use Rattle.opening.specs.GivenLaws.{weights-fit}
+use Rattle.opening.specs.Laws.{coin-below, length-first, first-n, first-ta, first-ts, first-own, first-session, first-input, first-coin, first-weights, first-zero, fit-first}
 use Rattle.opening.specs.Opening.{openWords, opened}
 use Rattle.agreement.specs.History.{Decision, zero, one}
 use Rattle.held.specs.Held.{Message, SEND, ECHO, READY, EST, AUX, COMMIT, holds}
 use Rattle.agreement.specs.Runs.{Blank}
-use Rattle.agreement.specs.Calls.{Arguments, agreed, engine}
+use Rattle.agreement.specs.Calls.{Arguments, weightsOf, agreed, engine}
 use Rattle.agreement.specs.Laws.{at}
 use Rattle.agreement.specs.EngineSeen.{engineSeen}
 use Rattle.agreement.specs.EngineReading.{Belongs, Sets, Belonging, engineReading}
 
 -- the words after an accepted opening
 abbrev first : Arguments → List ℕ
-first o = openWords (o .n) (o .ta) (o .ts) (o .own) (o .session) (o .input) (o .coins)
+first o = openWords (o .n) (o .ta) (o .ts) (weightsOf o) (o .own) (o .session) (o .input) (o .coins)
 
 -- ---- what an accepted opening tells
 
 module _ (w : List ℕ) (o : Arguments) (e : engine .opens w o ≡ true) where
-  told : Accepted (length w) (o .n) (o .ta) (o .ts) (o .own) (length (o .coins))
-  told = accepted (length w) (o .n) (o .ta) (o .ts) (o .own) (length (o .coins)) (eqb-true _ 0 e)
+  told : Accepted (length w) (o .n) (o .ta) (o .ts) (weightsOf o) (o .own) (length (o .coins))
+  told = accepted (length w) (o .n) (o .ta) (o .ts) (weightsOf o) (o .own) (length (o .coins)) (eqb-true _ 0 e)
 
   own-within : (1 ≤ o .own) × (o .own ≤ o .n)
   unfolding numbered
@@ -52,7 +53,7 @@ module _ (w : List ℕ) (o : Arguments) (e : engine .opens w o ≡ true) where
   opened-first = rw e
 
   pub open-ruled : Ruled (agreed o .settings)
-  open-ruled = valid-rules (o .n) (namedTa (o .ta)) (o .ts) (told .valid)
+  open-ruled = valid-rules (o .n) (namedTa (o .ta)) (o .ts) (weightsOf o) (told .valid)
 
 -- ---- the words of a new state
 
@@ -62,58 +63,60 @@ first-belongs o r lo hi =
       ruled = r;
       own-low = lo;
       own-high = hi;
-      size = length-first (o .n) (o .ta) (o .ts) (o .own) (o .session) (o .input) (o .coins);
-      is-n = first-n (o .n) (o .ta) (o .ts) (o .own) (o .session) (o .input) (o .coins);
-      is-ta = first-ta (o .n) (o .ta) (o .ts) (o .own) (o .session) (o .input) (o .coins);
-      is-ts = first-ts (o .n) (o .ta) (o .ts) (o .own) (o .session) (o .input) (o .coins);
-      is-own = first-own (o .n) (o .ta) (o .ts) (o .own) (o .session) (o .input) (o .coins);
-      is-session = first-session (o .n) (o .ta) (o .ts) (o .own) (o .session) (o .input) (o .coins);
-      is-input = first-input (o .n) (o .ta) (o .ts) (o .own) (o .session) (o .input) (o .coins);
-      is-coin = first-coin (o .n) (o .ta) (o .ts) (o .own) (o .session) (o .input) (o .coins) (r .few);
+      size = length-first (o .n) (o .ta) (o .ts) (weightsOf o) (o .own) (o .session) (o .input) (o .coins);
+      is-n = first-n (o .n) (o .ta) (o .ts) (weightsOf o) (o .own) (o .session) (o .input) (o .coins);
+      is-ta = first-ta (o .n) (o .ta) (o .ts) (weightsOf o) (o .own) (o .session) (o .input) (o .coins);
+      is-ts = first-ts (o .n) (o .ta) (o .ts) (weightsOf o) (o .own) (o .session) (o .input) (o .coins);
+      is-weights = first-weights (o .n) (o .ta) (o .ts) (weightsOf o) (o .own) (o .session) (o .input) (o .coins) (r .few);
+      is-own = first-own (o .n) (o .ta) (o .ts) (weightsOf o) (o .own) (o .session) (o .input) (o .coins);
+      is-session = first-session (o .n) (o .ta) (o .ts) (weightsOf o) (o .own) (o .session) (o .input) (o .coins);
+      is-input = first-input (o .n) (o .ta) (o .ts) (weightsOf o) (o .own) (o .session) (o .input) (o .coins);
+      is-coin = first-coin (o .n) (o .ta) (o .ts) (weightsOf o) (o .own) (o .session) (o .input) (o .coins) (r .few);
       fits =
-          fit-first (o .n) (o .ta) (o .ts) (o .own) (o .session) (o .input) (o .coins)
+          fit-first (o .n) (o .ta) (o .ts) (weightsOf o) (o .own) (o .session) (o .input) (o .coins)
           (omega (arith, r .few))
-          (omega (arith, r .few, r .ordered, r .margin))
-          (omega (arith, r .few, r .margin))
+          (omega (arith, r .few, r .ordered, r .margin, whole-few (agreed o .settings) r))
+          (omega (arith, r .few, r .margin, whole-few (agreed o .settings) r))
           (omega (arith, r .few))
           (omega (arith, o .session-fits))
           (o .input-fits)
+          (weights-fit (o .n) (o .weights))
           (λ i. coin-below (o .coins) i (o .coins-fit));
     }
 
 module _ (o : Arguments) (few : o .n ≤ 16) where
-  zero-at : (a : ℕ) → 24 ≤ a → word (first o) a ≡ 0
-  zero-at = first-zero (o .n) (o .ta) (o .ts) (o .own) (o .session) (o .input) (o .coins) few
+  zero-at : (a : ℕ) → 24 ≤ a → (a ≡ 141 → ⊥) → word (first o) a ≡ 0
+  zero-at = first-zero (o .n) (o .ta) (o .ts) (weightsOf o) (o .own) (o .session) (o .input) (o .coins) few
 
-  no-mark : (a j : ℕ) → 24 ≤ a → marked (first o) a j ≡ true → ⊥
+  no-mark : (a j : ℕ) → 24 ≤ a → (a ≡ 141 → ⊥) → marked (first o) a j ≡ true → ⊥
   unfolding marked
-  no-mark a j h e = true≢false (sym e ∙ ap (λ (x : ℕ). mark x j) (zero-at a h) ∙ mark-zero j)
+  no-mark a j h ne e = true≢false (sym e ∙ ap (λ (x : ℕ). mark x j) (zero-at a h ne) ∙ mark-zero j)
 
-  no-set : (m : ℕ) → commitHeld (first o) m ≡ true → ⊥
+  no-set : (m : ℕ) → m ≤ 16 → commitHeld (first o) m ≡ true → ⊥
   unfolding commitHeld commitCount
-  no-set m e = true≢false (sym e ∙ rw (zero-at (commitCountAt m) (omega arith)))
+  no-set m hi e = true≢false (sym e ∙ rw (zero-at (commitCountAt m) (omega arith) (λ z. omega arith)))
 
   first-sets : Sets o (first o)
   unfolding commitCount commitSet rises
   first-sets =
       record {
-        rising = λ p lo hi. rw (zero-at (commitCountAt p) (omega arith));
-        few = λ p lo hi. rw (zero-at (commitCountAt p) (omega arith)) (omega arith);
+        rising = λ p lo hi. rw (zero-at (commitCountAt p) (omega arith) (λ z. omega arith));
+        few = λ p lo hi. rw (zero-at (commitCountAt p) (omega arith) (λ z. omega arith)) (omega arith);
       }
 
-  none-held : (m : ℕ) (x : Message) → holds (first o) m x → ⊥
+  none-held : (m : ℕ) (x : Message) → m ≤ 16 → holds (first o) m x → ⊥
   unfolding sendHeld echoHeld readyHeld estHeld auxHeld
-  none-held m (SEND v) h = no-mark _ m (omega arith) (h .there)
-  none-held m (ECHO i v) h = no-mark _ m (omega arith) (h .there)
-  none-held m (READY i v) h = no-mark _ m (omega arith) (h .there)
-  none-held m (EST i r b) h = no-mark _ _ (omega arith) (h .there)
-  none-held m (AUX i r b) h = no-mark _ _ (omega arith) (h .there)
-  none-held m (COMMIT X) h = no-set m (h .there)
+  none-held m (SEND v) hi h = no-mark _ m (omega arith) (λ z. omega arith) (h .there)
+  none-held m (ECHO i v) hi h = no-mark _ m (omega arith) (λ z. omega (arith, h .instance .high)) (h .there)
+  none-held m (READY i v) hi h = no-mark _ m (omega arith) (λ z. omega (arith, h .instance .high)) (h .there)
+  none-held m (EST i r b) hi h = no-mark _ _ (omega arith) (λ z. omega arith) (h .there)
+  none-held m (AUX i r b) hi h = no-mark _ _ (omega arith) (λ z. omega arith) (h .there)
+  none-held m (COMMIT X) hi h = no-set m hi (h .there)
 
   none-decided : (i b : ℕ) → Decision (engineSeen .standing (first o)) i b → ⊥
   unfolding decidedZero decidedOne
-  none-decided i b (zero e) = no-mark _ i (omega arith) e
-  none-decided i b (one e) = no-mark _ i (omega arith) e
+  none-decided i b (zero e) = no-mark _ i (omega arith) (λ z. omega arith) e
+  none-decided i b (one e) = no-mark _ i (omega arith) (λ z. omega arith) e
 
 -- ---- the laws
 
@@ -127,7 +130,7 @@ pub open-blank : (H : ℕ → Bool) (w : List ℕ) (o : Arguments) → engine .o
 open-blank H w o e =
     let few = open-ruled w o e .few in
     subst (Blank (at engine engineReading H o) engineSeen) (sym (opened-first w o e))
-    (record { held = λ m x lo hi h. none-held o few m x h; decs = λ i b lo hi d. none-decided o few i b d })
+    (record { held = λ m x lo hi h. none-held o few m x (omega (arith, few)) h; decs = λ i b lo hi d. none-decided o few i b d })
 
 pub open-refused : (w : List ℕ) (o : Arguments) → engine .opens w o ≡ false → engine .opened w o ≡ w
 unfolding opened

@@ -8,7 +8,7 @@ use lib.ListN.{length, drop}
 use Rattle.settings.specs.Laws.{Ruled}
 use Rattle.settings.specs.Settings.{namedTa}
 use Rattle.settings.specs.declared.Settings.{Settings}
-use Rattle.records.specs.Layout.{nAt, taAt, tsAt, ownAt, sessionAt, inputAt, coinAt}
+use Rattle.records.specs.Layout.{nAt, taAt, tsAt, ownAt, sessionAt, inputAt, weightsAt, coinAt}
 use Rattle.records.specs.Words.{word}
 use Rattle.records.specs.Records.{commitCount, commitSet}
 use Rattle.acts.specs.declared.Act as acts
@@ -19,14 +19,14 @@ use Rattle.wire.specs.Reading.{readMessage}
 use Rattle.wire.specs.declared.Message as wire
 use Rattle.wire.specs.declared.Message.the-variants as message
 use Rattle.wire.specs.declared.Parsed.the-variants.{Taken}
-use Rattle.opening.specs.Opening.{coinWord}
+use Rattle.opening.specs.Given.{item}
 use Rattle.turn.specs.Due.{due, commitDue}
 use Rattle.turn.specs.Turn.{admits}
 use Rattle.turn.specs.declared.Admitted.{Admitted}
 use Rattle.turn.specs.declared.Admitted.the-variants as admitted
 use Rattle.held.specs.Held.{Message, meaning}
 use Rattle.agreement.specs.History.{Act, send, echo, ready, start, relay, aux, move, commit}
-use Rattle.agreement.specs.Calls.{Arguments, Agreed, agreed, Bytes, engine}
+use Rattle.agreement.specs.Calls.{Arguments, weightsOf, Agreed, agreed, Bytes, engine}
 use Rattle.agreement.specs.Laws.{Reading}
 use Rattle.agreement.specs.EngineSeen.{engineSeen}
 
@@ -39,10 +39,11 @@ pub record Belongs (o : Arguments) (w : List ℕ) : Type 0 where
   pub is-n : word w nAt ≡ o .n
   pub is-ta : word w taAt ≡ namedTa (o .ta)
   pub is-ts : word w tsAt ≡ o .ts
+  pub is-weights : word w weightsAt ≡ weightsOf o
   pub is-own : word w ownAt ≡ o .own
   pub is-session : word w sessionAt ≡ o .session
   pub is-input : word w inputAt ≡ o .input
-  pub is-coin : (i : ℕ) → 1 ≤ i → i ≤ o .n → word w (coinAt i) ≡ coinWord (o .coins) i
+  pub is-coin : (i : ℕ) → 1 ≤ i → i ≤ o .n → word w (coinAt i) ≡ item (o .coins) i
   pub fits : (j : ℕ) → word w j < 2 ^ 64
 
 -- the COMMITs that are held are as messages have them

@@ -44,7 +44,7 @@ module _ (o : Arguments) (w : List ℕ) (x : Belongs o w) where
 
   pub settings-same : settingsOf w ≡ agreed o .settings
   unfolding settingsOf
-  settings-same = rw (x .is-n, x .is-ta, x .is-ts)
+  settings-same = rw (x .is-n, x .is-ta, x .is-ts, x .is-weights)
 
   session-same : sessionOf w ≡ session
   unfolding sessionOf sessionWith

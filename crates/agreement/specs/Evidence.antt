@@ -6,8 +6,10 @@ use mathlib.Core.Path.{_≡_}
 use native.Mathlib.Omega.{arith}
 use Rattle.settings.specs.Laws.{Ruled}
 use Rattle.settings.specs.declared.Settings.{Settings}
-use Rattle.quorum.specs.Total.{count, everyone}
-use Rattle.quorum.specs.TotalLaws.{HonestCommon, honest-common, count-everyone}
+use Rattle.quorum.specs.Total.{total, everyone}
+use Rattle.quorum.specs.Weights.{weightOf}
+use Rattle.quorum.specs.Whole.{wholeOf}
+use Rattle.quorum.specs.TotalLaws.{HonestCommon, honest-common}
 
 -- the session's settings, who is honest, and the coin of a vote and a round
 pub record World : Type 0 where
@@ -15,9 +17,9 @@ pub record World : Type 0 where
   pub honest : ℕ → Bool
   pub coin : ℕ → ℕ → Bool
 
--- what the members of a set count: each sender counts 1. Every count of senders goes through here.
+-- what the members of a set count: the weights of the senders. Every count of senders goes through here.
 abbrev pub weigh : World → (ℕ → Bool) → ℕ
-weigh W M = count M (W .settings .n)
+weigh W M = total (weightOf (W .settings .weights)) M (W .settings .n)
 
 abbrev pub whole : World → ℕ
 whole W = weigh W everyone
@@ -34,10 +36,11 @@ pub record Sound (W : World) (L : ℕ) : Type 0 where
   pub few : liars W ≤ L
 
 pub sound : (W : World) (L : ℕ) → Ruled (W .settings) → L ≤ W .settings .ts → liars W ≤ L → Sound W L
+unfolding wholeOf
 sound W L r b f =
     record {
       ruled = r;
-      margin = omega (arith, r .margin, count-everyone (W .settings .n));
+      margin = omega (arith, r .margin, r .sum);
       bound = b;
       few = omega arith;
     }
@@ -65,7 +68,7 @@ module _ (W : World) where
 
   -- two sets that together outweigh the whole and the liars have an honest member in common
   pub two-of : {L k l s t : ℕ} {P Q : ℕ → Type 0} → Sound W L → whole W + L + s + t < k + l → Backed k s P → Backed l t Q → Some (λ m. P m × Q m)
-  two-of {P = P} {Q = Q} so lt x y = pick (honest-common (λ p. 1) (W .settings .n) (W .honest) (x .set) (y .set) (omega arith))
+  two-of {P = P} {Q = Q} so lt x y = pick (honest-common (weightOf (W .settings .weights)) (W .settings .n) (W .honest) (x .set) (y .set) (omega arith))
     where
       pick : HonestCommon (W .settings .n) (x .set) (y .set) (W .honest) → Some (λ m. P m × Q m)
       pick c =

@@ -6,11 +6,12 @@ use native.Mathlib.Omega.{arith}
 use Rattle.settings.specs.Settings.{quorum, copy, voteQuorum, relay, accept}
 use Rattle.settings.specs.Thresholds.{quorum-reached, vote-quorum-reached, copy-sum, relay-sum, accept-sum}
 use Rattle.settings.specs.declared.Settings.{Settings}
-use Rattle.quorum.specs.TotalLaws.{count-everyone}
+use Rattle.settings.specs.Laws.{Ruled}
+use Rattle.quorum.specs.Whole.{wholeOf}
 use Rattle.agreement.specs.Evidence.{World, weigh, whole, Backed}
 
 -- the senders that pass a test have P
-module _ (W : World) (test : ℕ → Bool) {P : ℕ → Type 0} (each : (m : ℕ) → 1 ≤ m → m ≤ W .settings .n → test m ≡ true → P m) where
+module _ (W : World) (ruled : Ruled (W .settings)) (test : ℕ → Bool) {P : ℕ → Type 0} (each : (m : ℕ) → 1 ≤ m → m ≤ W .settings .n → test m ≡ true → P m) where
   abbrev g : Settings
   g = W .settings
 
@@ -18,10 +19,12 @@ module _ (W : World) (test : ℕ → Bool) {P : ℕ → Type 0} (each : (m : ℕ
   backed h = record { set = test; enough = h; each = λ m hm t. each m (hm .low) (hm .high) t }
 
   pub by-quorum : quorum g ≤ weigh W test → Backed W (whole W) (g .ts) P
-  by-quorum h = backed (omega (arith, quorum-reached g (weigh W test) h, count-everyone (g .n)))
+  unfolding wholeOf
+  by-quorum h = backed (omega (arith, quorum-reached g (weigh W test) h, ruled .sum))
 
   pub by-vote-quorum : voteQuorum g ≤ weigh W test → Backed W (whole W) (g .ta) P
-  by-vote-quorum h = backed (omega (arith, vote-quorum-reached g (weigh W test) h, count-everyone (g .n)))
+  unfolding wholeOf
+  by-vote-quorum h = backed (omega (arith, vote-quorum-reached g (weigh W test) h, ruled .sum))
 
   pub by-copy : copy g ≤ weigh W test → Backed W (g .ts + 1) 0 P
   by-copy h = backed (omega (arith, copy-sum g))

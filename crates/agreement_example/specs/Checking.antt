@@ -12,7 +12,7 @@ use Rattle.delivery.specs.Delivery.{deliverAnswer, delivered}
 use Rattle.turn.specs.Turn.{turnOutcome, turnWords, turnBytes}
 use Rattle.turn.specs.declared.Outcome.{Outcome}
 use Rattle.turn.specs.declared.Outcome.the-variants as outcome
-use Rattle.agreement.specs.Calls.{Call, opening, delivery, turn, report, engine, Arguments, Agreed, agreed}
+use Rattle.agreement.specs.Calls.{Call, opening, delivery, turn, report, engine, Arguments, weightsOf, Agreed, agreed}
 
 -- a list of a concentrator: the words of its state, or the bytes of a message that it sent
 pub record Entry : Type 0 where
@@ -62,16 +62,18 @@ sameSession a b =
     eqb (a .settings .n) (b .settings .n)
     && (eqb (a .settings .ta) (b .settings .ta)
     && (eqb (a .settings .ts) (b .settings .ts)
+    && (eqb (a .settings .whole) (b .settings .whole)
+    && (eqb (a .settings .weights) (b .settings .weights)
     && (eqb (a .number) (b .number)
-    && sameList (a .coins) (b .coins))))
+    && sameList (a .coins) (b .coins))))))
 
 -- an opening of 2,048 words is accepted
 unfoldable pub opens : Arguments → Bool
-opens o = eqb (openAnswer stateWords (o .n) (o .ta) (o .ts) (o .own) (length (o .coins))) 0
+opens o = eqb (openAnswer stateWords (o .n) (o .ta) (o .ts) (weightsOf o) (o .own) (length (o .coins))) 0
 
 -- the words after it
 unfoldable pub openedWords : Arguments → List ℕ
-openedWords o = openWords (o .n) (o .ta) (o .ts) (o .own) (o .session) (o .input) (o .coins)
+openedWords o = openWords (o .n) (o .ta) (o .ts) (weightsOf o) (o .own) (o .session) (o .input) (o .coins)
 
 unfoldable pub statesAfter : Call engine → List Entry → List Entry
 statesAfter (opening p o) xs = cond (opens o) (record { who = p; list = openedWords o } ∷ xs) xs

@@ -5,7 +5,7 @@ use mathlib.Core.List.{List, [], _∷_}
 use mathlib.Core.Path.{_≡_, refl, sym, ap, _∙_}
 use borrow.Author.Tests.{eqb-true}
 use lib.Dec.{eqb}
-use Rattle.settings.specs.Bools.{and-left, and-right}
+use Rattle.quorum.specs.Bools.{and-left, and-right}
 use Rattle.agreement.specs.Calls.{Agreed}
 use Rattle.agreement_example.specs.Checking.{Entry, isOpened, wordsOf, withWords, sameList, sameSession}
 
@@ -33,15 +33,19 @@ same-session a b e =
     let e1 = and-right (eqb (a .settings .n) (b .settings .n)) _ e in
     let e2 = and-right (eqb (a .settings .ta) (b .settings .ta)) _ e1 in
     let e3 = and-right (eqb (a .settings .ts) (b .settings .ts)) _ e2 in
+    let e4 = and-right (eqb (a .settings .whole) (b .settings .whole)) _ e3 in
+    let e5 = and-right (eqb (a .settings .weights) (b .settings .weights)) _ e4 in
     same
     (eqb-true _ _ (and-left (eqb (a .settings .n) (b .settings .n)) _ e))
     (eqb-true _ _ (and-left (eqb (a .settings .ta) (b .settings .ta)) _ e1))
     (eqb-true _ _ (and-left (eqb (a .settings .ts) (b .settings .ts)) _ e2))
-    (eqb-true _ _ (and-left (eqb (a .number) (b .number)) _ e3))
-    (same-list _ _ (and-right (eqb (a .number) (b .number)) _ e3))
+    (eqb-true _ _ (and-left (eqb (a .settings .whole) (b .settings .whole)) _ e3))
+    (eqb-true _ _ (and-left (eqb (a .settings .weights) (b .settings .weights)) _ e4))
+    (eqb-true _ _ (and-left (eqb (a .number) (b .number)) _ e5))
+    (same-list _ _ (and-right (eqb (a .number) (b .number)) _ e5))
   where
-    same : a .settings .n ≡ b .settings .n → a .settings .ta ≡ b .settings .ta → a .settings .ts ≡ b .settings .ts → a .number ≡ b .number → a .coins ≡ b .coins → a ≡ b
-    same n ta ts k c = λ i. record { settings = record { n = n i; ta = ta i; ts = ts i }; number = k i; coins = c i }
+    same : a .settings .n ≡ b .settings .n → a .settings .ta ≡ b .settings .ta → a .settings .ts ≡ b .settings .ts → a .settings .whole ≡ b .settings .whole → a .settings .weights ≡ b .settings .weights → a .number ≡ b .number → a .coins ≡ b .coins → a ≡ b
+    same n ta ts u w k c = λ i. record { settings = record { n = n i; ta = ta i; ts = ts i; whole = u i; weights = w i }; number = k i; coins = c i }
 
 module _ (p : ℕ) (w : List ℕ) (xs : List Entry) where
   -- the same ones are opened

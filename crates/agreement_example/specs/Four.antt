@@ -1,4 +1,4 @@
--- Four concentrators: n = 4, ta = ts = 1, session 7, coin words of 0. Concentrators 1, 2 and 3 put in 5; 4 lies.
+-- Four concentrators of weight 1: n = 4, ta = ts = 1, session 7, coin words of 0. Concentrators 1, 2 and 3 put in 5; 4 lies.
 use Prim.Native.Nat.{ℕ}
 use mathlib.Core.Bool.{Bool, true}
 use mathlib.Core.List.{List, [], _∷_}
@@ -20,7 +20,7 @@ use Rattle.turn_bound.specs.Computing.{calls}
 use Rattle.agreement_example.specs.Computing.{checks}
 
 abbrev pub session : Agreed
-session = record { settings = record { n = 4; ta = 1; ts = 1 }; number = 7; coins = 0 ∷ 0 ∷ 0 ∷ 0 ∷ [] }
+session = record { settings = record { n = 4; ta = 1; ts = 1; whole = 4; weights = 15 }; number = 7; coins = 0 ∷ 0 ∷ 0 ∷ 0 ∷ [] }
 
 abbrev pub firstThree : ℕ → Bool
 firstThree p = leb p 3

@@ -8,7 +8,8 @@ use lib.ListN.{length, drop}
 use Rattle.records.specs.Layout.{stateWords, coinAt}
 use Rattle.records.specs.Words.{length-put}
 use Rattle.records.specs.Fill.{length-blank, length-storeOf}
-use Rattle.opening.specs.Opening.{openAnswer, openWords, opened, withSettings, withCoins, coinWord}
+use Rattle.opening.specs.Opening.{openAnswer, openWords, opened, withSettings, withCoins}
+use Rattle.opening.specs.Given.{item}
 use Rattle.delivery.specs.Delivery.{verdict, wordsAfter, delivered}
 use Rattle.delivery.specs.Frame.{length-recorded}
 use Rattle.delivery.specs.declared.Verdict.{Verdict}
@@ -18,19 +19,19 @@ use Rattle.turn.specs.Turn.{admits, wordsFor, turnWords}
 use Rattle.turn.specs.Frame.{length-applied}
 use Rattle.turn.specs.declared.Admitted.{Admitted}
 use Rattle.turn.specs.declared.Admitted.the-variants as admitted
-use Rattle.agreement.specs.Calls.{Call, opening, delivery, turn, report, engine, left}
+use Rattle.agreement.specs.Calls.{Call, opening, delivery, turn, report, engine, weightsOf, left}
 
-length-openWords : (n ta ts own session input : ℕ) (coins : List ℕ) → length (openWords n ta ts own session input coins) ≡ stateWords
+length-openWords : (n ta ts w own session input : ℕ) (coins : List ℕ) → length (openWords n ta ts w own session input coins) ≡ stateWords
 unfolding openWords withCoins withSettings
-length-openWords n ta ts own session input coins =
-    length-storeOf (coinWord coins) (coinAt 0) _ n ∙ simp (length-put, length-blank)
+length-openWords n ta ts w own session input coins =
+    length-storeOf (item coins) (coinAt 0) _ n ∙ simp (length-put, length-blank)
 
-length-opened : (s : List ℕ) (n ta ts own session input : ℕ) (coins : List ℕ) → length s ≡ stateWords → length (opened s n ta ts own session input coins) ≡ stateWords
+length-opened : (s : List ℕ) (n ta ts w own session input : ℕ) (coins : List ℕ) → length s ≡ stateWords → length (opened s n ta ts w own session input coins) ≡ stateWords
 unfolding opened
-length-opened s n ta ts own session input coins e = go (eqb (openAnswer (length s) n ta ts own (length coins)) 0)
+length-opened s n ta ts w own session input coins e = go (eqb (openAnswer (length s) n ta ts w own (length coins)) 0)
   where
-    go : (b : Bool) → length (cond b (openWords n ta ts own session input coins) s) ≡ stateWords
-    go true = length-openWords n ta ts own session input coins
+    go : (b : Bool) → length (cond b (openWords n ta ts w own session input coins) s) ≡ stateWords
+    go true = length-openWords n ta ts w own session input coins
     go false = e
 
 length-delivered : (s : List ℕ) (link : ℕ) (b : List ℕ) → length (delivered s link b) ≡ length s
@@ -51,7 +52,7 @@ length-turned s room = go (admits s room)
 
 -- the words that a call leaves of 2,048 words are as many
 pub length-left : (c : Call engine) (w : List ℕ) → length w ≡ stateWords → length (left engine c w) ≡ stateWords
-length-left (opening p o) w e = length-opened w (o .n) (o .ta) (o .ts) (o .own) (o .session) (o .input) (o .coins) e
+length-left (opening p o) w e = length-opened w (o .n) (o .ta) (o .ts) (weightsOf o) (o .own) (o .session) (o .input) (o .coins) e
 length-left (delivery p m b) w e = length-delivered w m (b .list) ∙ e
 length-left (turn p l) w e = length-turned w (length l) ∙ e
 length-left (report p r) w e = e

@@ -9,3 +9,4 @@ pub mod Messages
 pub mod Computing
 pub mod One
 pub mod Four
+pub mod Weighted

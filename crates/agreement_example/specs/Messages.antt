@@ -1,9 +1,10 @@
--- The arguments of the calls in the examples: session 7, and coin words of 0.
+-- The arguments of the calls in the examples: session 7, input 5.
 use Prim.Native.Nat.{ℕ, zero, suc, _<_, _%_, _^_}
 use mathlib.Core.List.{List, [], _∷_}
 use native.Mathlib.Omega.{arith}
 use Rattle.records.specs.Words.{word}
 use Rattle.records.specs.Fill.{blank}
+use Rattle.opening.specs.Ones.{onesGiven}
 use Rattle.wire.specs.Message.{encode}
 use Rattle.wire.specs.declared.Message.{Message}
 use Rattle.wire_laws.specs.Proper.{AllBytes}
@@ -24,20 +25,20 @@ low-bytes (x ∷ xs) (suc i) = low-bytes xs i
 unfoldable pub bytesOf : List ℕ → Bytes
 bytesOf b = record { list = lowBytes b; each = low-bytes b }
 
--- n coin words
-unfoldable pub coinWords : ℕ → List ℕ
-coinWords zero = []
-coinWords (suc n) = 0 ∷ coinWords n
+-- each number by its low 32 bits
+unfoldable pub coinsOf : List ℕ → List ℕ
+coinsOf [] = []
+coinsOf (x ∷ xs) = x % 2 ^ 32 ∷ coinsOf xs
 
-pub coin-words-fit : (n i : ℕ) → word (coinWords n) i < 2 ^ 32
-unfolding word coinWords
-coin-words-fit zero i = omega arith
-coin-words-fit (suc n) zero = omega arith
-coin-words-fit (suc n) (suc i) = coin-words-fit n i
+pub coins-below : (xs : List ℕ) (i : ℕ) → word (coinsOf xs) i < 2 ^ 32
+unfolding word coinsOf
+coins-below [] i = omega arith
+coins-below (x ∷ xs) zero = omega arith
+coins-below (x ∷ xs) (suc i) = coins-below xs i
 
 -- an opening under the number p, with the input 5
-unfoldable pub openingOf : (n ta ts p : ℕ) → Arguments
-openingOf n ta ts p =
+unfoldable pub openingWith : (n ta ts : ℕ) (coins weights : List ℕ) (p : ℕ) → Arguments
+openingWith n ta ts coins weights p =
     record {
       n = n;
       ta = ta;
@@ -45,11 +46,16 @@ openingOf n ta ts p =
       own = p;
       session = 7;
       input = 5;
-      coins = coinWords n;
+      coins = coinsOf coins;
+      weights = weights;
       session-fits = omega arith;
       input-fits = omega arith;
-      coins-fit = coin-words-fit n;
+      coins-fit = coins-below coins;
     }
+
+-- .. with coin words of 0 and weights of 1
+unfoldable pub openingOf : (n ta ts p : ℕ) → Arguments
+openingOf n ta ts p = openingWith n ta ts (blank n) (onesGiven n) p
 
 -- the message m of the link's concentrator p, with the values xs beside a COMMIT, delivered to q
 unfoldable pub deliver : (q p : ℕ) → Message → List ℕ → Call engine

@@ -1,4 +1,4 @@
--- One concentrator: n = 1, ta = ts = 0, session 7, input 5, a coin word of 0. Nobody lies.
+-- One concentrator of weight 1: n = 1, ta = ts = 0, session 7, input 5, a coin word of 0. Nobody lies.
 use Prim.Native.Nat.{ℕ}
 use mathlib.Core.Bool.{Bool, true, false, cond}
 use mathlib.Core.List.{List, [], _∷_}
@@ -26,7 +26,7 @@ use Rattle.turn_bound.specs.Computing.{calls}
 use Rattle.agreement_example.specs.Computing.{checks}
 
 abbrev pub session : Agreed
-session = record { settings = record { n = 1; ta = 0; ts = 0 }; number = 7; coins = 0 ∷ [] }
+session = record { settings = record { n = 1; ta = 0; ts = 0; whole = 1; weights = 1 }; number = 7; coins = 0 ∷ [] }
 
 abbrev pub everyone : ℕ → Bool
 everyone p = true

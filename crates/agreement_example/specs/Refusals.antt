@@ -10,7 +10,7 @@ use Rattle.delivery.specs.Delivery.{deliverAnswer}
 use Rattle.turn.specs.Turn.{turnOutcome}
 use Rattle.turn.specs.declared.Outcome.{Outcome}
 use Rattle.turn.specs.declared.Outcome.the-variants as outcome
-use Rattle.agreement.specs.Calls.{Call, opening, delivery, turn, report, engine, Agreed}
+use Rattle.agreement.specs.Calls.{Call, opening, delivery, turn, report, engine, weightsOf, Agreed}
 use Rattle.agreement_example.specs.Checking.{Entry, Run, isOpened, wordsOf, step, run}
 
 -- the number of a turn's refusal, 0 for none
@@ -23,7 +23,7 @@ refusalOf outcome.InForce = 0
 
 -- the number that a call is refused with, 0 for none; a call at one that is not opened is passed over
 unfoldable pub refusal : Call engine → List Entry → ℕ
-refusal (opening p o) xs = openAnswer stateWords (o .n) (o .ta) (o .ts) (o .own) (length (o .coins))
+refusal (opening p o) xs = openAnswer stateWords (o .n) (o .ta) (o .ts) (weightsOf o) (o .own) (length (o .coins))
 refusal (delivery p m b) xs = cond (isOpened xs p) (deliverAnswer (wordsOf xs p) m (b .list)) 0
 refusal (turn p l) xs = cond (isOpened xs p) (refusalOf (turnOutcome (wordsOf xs p) (length l))) 0
 refusal (report p r) xs = 0

@@ -8,7 +8,7 @@ use mathlib.Core.Path.{_≡_, refl, sym, ap, _∙_}
 use borrow.Author.Tests.{eqb-true, eqb-false, leb-true, not-true}
 use lib.Dec.{eqb, leb}
 use lib.ListN.{length, take}
-use Rattle.settings.specs.Bools.{and-left, and-right}
+use Rattle.quorum.specs.Bools.{and-left, and-right}
 use Rattle.records.specs.Layout.{stateWords}
 use Rattle.wire.specs.Message.{lengthOf}
 use Rattle.wire.specs.declared.Message.{Message}
@@ -19,7 +19,7 @@ use Rattle.turn.specs.declared.Outcome.{Outcome}
 use Rattle.turn.specs.declared.Outcome.the-variants as outcome
 use Rattle.agreement.specs.Evidence.{Honest}
 use Rattle.agreement.specs.Moments.{now}
-use Rattle.agreement.specs.Calls.{Call, opening, delivery, turn, report, engine, Arguments, Agreed, Bytes, agreed, world, place, left, words, Opened, Sent, SendsBytes}
+use Rattle.agreement.specs.Calls.{weightsOf, Call, opening, delivery, turn, report, engine, Arguments, Agreed, Bytes, agreed, world, place, left, words, Opened, Sent, SendsBytes}
 use Rattle.agreement_example.specs.Lists.{not-opened, opened-later, sent-later, opened-before, opened-cases, NoOpening, DeliveryMeets, AllMeet}
 use Rattle.agreement_example.specs.Checking.{Entry, isOpened, wordsOf, withWords, wasSent, sameList, sentBy, sameSession, opens, openedWords, statesAfter, sentAfter, listed, openingRight, deliveryRight, callRight, step, run}
 use Rattle.agreement_example.specs.Lengths.{length-left}
@@ -46,7 +46,7 @@ module _ (start : ℕ → List ℕ) where
       go false e = h q k
 
   -- an opening of 2,048 words
-  opens-sized : (s : List ℕ) (o : Arguments) → length s ≡ stateWords → eqb (openAnswer (length s) (o .n) (o .ta) (o .ts) (o .own) (length (o .coins))) 0 ≡ opens o
+  opens-sized : (s : List ℕ) (o : Arguments) → length s ≡ stateWords → eqb (openAnswer (length s) (o .n) (o .ta) (o .ts) (weightsOf o) (o .own) (length (o .coins))) 0 ≡ opens o
   unfolding opens
   opens-sized s o e = rw e
 
@@ -133,7 +133,7 @@ module _ (start : ℕ → List ℕ) where
 
       module _ (p : ℕ) (o : Arguments) (honest : Honest (world engine S H) p) where
         -- whether the opening is accepted depends on its arguments alone
-        answered : eqb (openAnswer (length (words engine start cs p)) (o .n) (o .ta) (o .ts) (o .own) (length (o .coins))) 0 ≡ opens o
+        answered : eqb (openAnswer (length (words engine start cs p)) (o .n) (o .ta) (o .ts) (weightsOf o) (o .own) (length (o .coins))) 0 ≡ opens o
         answered = opens-sized (words engine start cs p) o (x .size p honest)
 
         -- the words of p after it
@@ -153,10 +153,10 @@ module _ (start : ℕ → List ℕ) where
               meet = (honest, record { agree = λ e t. absurd (no-opening t); once = λ u. answered ∙ f; put-in = λ e t. absurd (no-opening t) }, x .meet);
             }
           where
-            no-opening : eqb (openAnswer (length (words engine start cs p)) (o .n) (o .ta) (o .ts) (o .own) (length (o .coins))) 0 ≡ true → ⊥
+            no-opening : eqb (openAnswer (length (words engine start cs p)) (o .n) (o .ta) (o .ts) (weightsOf o) (o .own) (length (o .coins))) 0 ≡ true → ⊥
             no-opening t = false≢true (sym f ∙ sym answered ∙ t)
 
-            not-new : (q : ℕ) → isOpened xs q ≡ false → ((q ≡ p) × (eqb (openAnswer (length (words engine start cs p)) (o .n) (o .ta) (o .ts) (o .own) (length (o .coins))) 0 ≡ true)) ⊎ Opened engine start cs q → ⊥
+            not-new : (q : ℕ) → isOpened xs q ≡ false → ((q ≡ p) × (eqb (openAnswer (length (words engine start cs p)) (o .n) (o .ta) (o .ts) (weightsOf o) (o .own) (length (o .coins))) 0 ≡ true)) ⊎ Opened engine start cs q → ⊥
             not-new q k (inl u) = no-opening (u .1)
             not-new q k (inr u) = x .none q k u
 
@@ -177,7 +177,7 @@ module _ (start : ℕ → List ℕ) where
               meet = (honest, record { agree = λ e t. agree; once = λ u. absurd (x .none p none u); put-in = λ e t. put-in }, x .meet);
             }
           where
-            not-other : (q : ℕ) (b : Bool) → eqb q p ≡ b → cond b true (isOpened xs q) ≡ false → ((q ≡ p) × (eqb (openAnswer (length (words engine start cs p)) (o .n) (o .ta) (o .ts) (o .own) (length (o .coins))) 0 ≡ true)) ⊎ Opened engine start cs q → ⊥
+            not-other : (q : ℕ) (b : Bool) → eqb q p ≡ b → cond b true (isOpened xs q) ≡ false → ((q ≡ p) × (eqb (openAnswer (length (words engine start cs p)) (o .n) (o .ta) (o .ts) (weightsOf o) (o .own) (length (o .coins))) 0 ≡ true)) ⊎ Opened engine start cs q → ⊥
             not-other q true e k u = false≢true (sym k)
             not-other q false e k (inl u) = eqb-false q p e (u .0)
             not-other q false e k (inr u) = x .none q k u

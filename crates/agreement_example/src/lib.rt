@@ -2,6 +2,7 @@
 // it in force. The functions do nothing: their contracts state what is proved in specs/.
 ghost use Rattle.agreement_example.specs.One.{OneMeets};
 ghost use Rattle.agreement_example.specs.Four.{FourMeet};
+ghost use Rattle.agreement_example.specs.Weighted.{HeavyDecides};
 
 // One concentrator closes with the set of its own input.
 pub fn one_concentrator()
@@ -11,4 +12,9 @@ pub fn one_concentrator()
 // Three honest concentrators close with the set of their common input, beside a liar.
 pub fn four_concentrators()
     ensures { λ _. ⌜ FourMeet ⌝ }
+{}
+
+// A heavy and a light honest concentrator close by Exit 2, whose majority is the heavy one's weight.
+pub fn weighted_concentrators()
+    ensures { λ _. ⌜ HeavyDecides ⌝ }
 {}

@@ -1,22 +1,22 @@
 -- The paths of the code.
-use Prim.Native.Nat.{ℕ, _+_, _-_, _/_, _%_, _^_, _≤_, _<_}
-use mathlib.Core.Bool.{Bool, true, false, _&&_, and-false}
+use Prim.Native.Nat.{ℕ, _+_, _-_, _^_, _≤_, _<_}
+use mathlib.Core.Bool.{Bool, true, false, _&&_, and-false, and-comm}
 use mathlib.Core.List.{List}
 use mathlib.Core.Path.{_≡_, sym, ap, _∙_}
 use native.Mathlib.Omega.{arith}
 use native.Mathlib.Nat.{zero-add}
-use lib.Pow.{shr-shr}
+use lib.Bits.{bitAnd}
 use lib.Dec.{leb, eqb}
-use borrow.Author.Tests.{ne-eqb, lt-leb}
+use borrow.Author.Tests.{ne-eqb, lt-leb, le-leb}
 use Rattle.settings.specs.Settings.{quorum, copy}
 use Rattle.settings.specs.declared.Settings.{Settings}
-use Rattle.settings.specs.Bools.{and-left}
+use Rattle.quorum.specs.Bools.{and-left}
 use Rattle.quorum.specs.Marks.{mark}
-use Rattle.quorum.specs.MarkLaws.{mark-digit}
-use Rattle.quorum.specs.Total.{count}
+use Rattle.quorum.specs.Marking.{MarksOf, marks-weighed, marks-both, marks-agree}
+use Rattle.quorum.specs.Weights.{weightOf, weigh}
 use Rattle.quorum.specs.TotalLaws.{total-mono, total-agree}
 use Rattle.quorum.specs.Lowest.{lowest, none-lowest, Passed, passed-found, passed-missing}
-use Rattle.records.specs.Words.{word, marked}
+use Rattle.records.specs.Words.{word, marked, equalAt}
 use Rattle.records.specs.Records.{echoSent, readySent, sendHeld, sendValue, echoHeld, echoValue, readyHeld, readyValue}
 use Rattle.acts.specs.declared.Act.the-variants.{Idle, Echo, Ready}
 use Rattle.broadcasts.specs.Leading.{heldCount, holders, leads, valueOf, leading}
@@ -24,62 +24,71 @@ use Rattle.broadcasts.specs.Broadcasts.{readyDue, echoAct, readyAct}
 use Rattle.broadcasts.specs.declared.Output.{Output}
 use Rattle.broadcasts.specs.declared.Output.the-variants.{Value, Nothing}
 
--- the marks of word w that are left after p of them
-pub marks-all : (w left : ℕ) → left ≡ w → left ≡ w / 2 ^ 0
-marks-all w left e = omega arith
+-- the senders that hold v, by their marks; `held` and `value` stand as arguments, so that a search reads them
+module _ (s : List ℕ) (k b v n w q m x : ℕ) (held : ℕ → Bool) (value : ℕ → ℕ) (i : MarksOf (equalAt s (b + 1) v) n m) (e : x ≡ word s k) (h : w < 2 ^ 64) (g : (λ p. marked s k p) ≡ held) (j : (λ p. word s (b + p)) ≡ value) where
+  holders-weighed : weigh w (λ p. mark (bitAnd m x) (0 + p)) n ≡ holders w held value v n
+  unfolding holders marked equalAt
+  holders-weighed =
+      rw (← g, ← j)
+      (marks-weighed (λ p. marked s k p && eqb (word s (b + p)) v) n (bitAnd m x) w
+      (marks-agree (λ p. eqb (word s (b + 1 + (p - 1))) v && mark x p) (λ p. marked s k p && eqb (word s (b + p)) v) n (bitAnd m x) (marks-both (λ p. eqb (word s (b + 1 + (p - 1))) v) n m x i) same) h)
+    where
+      same : (p : ℕ) → 1 ≤ p → p ≤ n → eqb (word s (b + 1 + (p - 1))) v && mark x p ≡ mark (word s k) p && eqb (word s (b + p)) v
+      same p lo hi =
+          let at : b + 1 + (p - 1) ≡ b + p = omega arith in
+          rw (at, e) (and-comm (eqb (word s (b + p)) v) (mark (word s k) p))
 
-pub marks-next : (w p left : ℕ) → left ≡ w / 2 ^ p → left / 2 ≡ w / 2 ^ (p + 1)
-marks-next w p left e = ap (λ (x : ℕ). x / 2) e ∙ shr-shr w p 1
+  pub some-hold : (c : ℕ) → c ≡ weigh w (λ p. mark (bitAnd m x) (0 + p)) n → leb q c ≡ leb q (holders w held value v n)
+  some-hold c f = ap (leb q) (f ∙ holders-weighed)
 
-pub mark-left : (s : List ℕ) (k a v p left : ℕ) (b : Bool) → left ≡ word s k / 2 ^ p → b ≡ (eqb (left % 2) 1 && eqb (word s a) v) → b ≡ (marked s k (p + 1) && eqb (word s a) v)
-unfolding marked
-mark-left s k a v p left b e f =
-    let same : p + 1 - 1 ≡ p = omega arith in
-    let digit : mark (word s k) (p + 1) ≡ eqb (left % 2) 1 = mark-digit (word s k) (p + 1) (omega arith) ∙ rw (same, ← e) in
-    f ∙ ap (λ (x : Bool). x && eqb (word s a) v) (sym digit)
+  pub all-hold : bitAnd m x ≡ x → q ≤ heldCount w s k n → true ≡ leb q (holders w held value v n)
+  unfolding heldCount marked
+  all-hold z l =
+      let whole : weigh w (λ p. mark (bitAnd m x) (0 + p)) n ≡ weigh w (mark (word s k)) n = total-agree (weightOf w) (λ p. mark (bitAnd m x) (0 + p)) (mark (word s k)) n (λ p lo hi. rw (z, e, zero-add)) in
+      sym (le-leb q (holders w held value v n) (omega (arith, holders-weighed, whole)))
 
-pub ruleset shifting = (marks-all, marks-next, mark-left)
+pub ruleset held-enough = (some-hold, all-hold)
 
-module _ (held : ℕ → Bool) (value : ℕ → ℕ) (n q : ℕ) where
-  pub leads-held : (p w c : ℕ) (b : Bool) → b ≡ held p → b ≡ true → w ≡ value p → c ≡ holders held value w n → leb q c ≡ leads held value n q p
+module _ (w : ℕ) (held : ℕ → Bool) (value : ℕ → ℕ) (n q : ℕ) where
+  pub leads-held : (p u : ℕ) (b d : Bool) → b ≡ held p → b ≡ true → u ≡ value p → d ≡ leb q (holders w held value u n) → d ≡ leads w held value n q p
   unfolding leads
-  leads-held p w c b e t s h = rw (← e, t, h, s)
+  leads-held p u b d e t s h = rw (← e, t, ← s) h
 
-  pub leads-missing : (p : ℕ) (b : Bool) → b ≡ held p → b ≡ false → false ≡ leads held value n q p
+  pub leads-missing : (p : ℕ) (b : Bool) → b ≡ held p → b ≡ false → false ≡ leads w held value n q p
   unfolding leads
   leads-missing p b e t = rw (← e, t)
 
   -- the loop of `leading`
-  pub leading-found : (k w : ℕ) (b : Bool) → Passed (leads held value n q) n k → k < n → b ≡ leads held value n q (k + 1) → b ≡ true → w ≡ value (k + 1) → Value w ≡ leading held value n q
+  pub leading-found : (k u : ℕ) (b : Bool) → Passed (leads w held value n q) n k → k < n → b ≡ leads w held value n q (k + 1) → b ≡ true → u ≡ value (k + 1) → Value u ≡ leading w held value n q
   unfolding leading valueOf
-  leading-found k w b i l e t s =
-      let p : k + 1 ≡ lowest (leads held value n q) n = passed-found (leads held value n q) n k b i l e t in
+  leading-found k u b i l e t s =
+      let p : k + 1 ≡ lowest (leads w held value n q) n = passed-found (leads w held value n q) n k b i l e t in
       rw (← p, ne-eqb (k + 1) 0 (λ z. omega arith), s)
 
-  pub leading-missing : (k : ℕ) → Passed (leads held value n q) n k → n ≤ k → Nothing ≡ leading held value n q
+  pub leading-missing : (k : ℕ) → Passed (leads w held value n q) n k → n ≤ k → Nothing ≡ leading w held value n q
   unfolding leading valueOf
   leading-missing k i l =
-      let p : 0 ≡ lowest (leads held value n q) n = passed-missing (leads held value n q) n k i l in
+      let p : 0 ≡ lowest (leads w held value n q) n = passed-missing (leads w held value n q) n k i l in
       rw (← p)
 
   -- fewer than q hold anything
-  pub leading-few : (c : ℕ) → c ≡ count held n → c < q → Nothing ≡ leading held value n q
+  pub leading-few : (c : ℕ) → c ≡ weigh w held n → c < q → Nothing ≡ leading w held value n q
   unfolding leading valueOf leads holders
-  leading-few c e l = rw (none-lowest (leads held value n q) n none)
+  leading-few c e l = rw (none-lowest (leads w held value n q) n none)
     where
-      fewer : (v : ℕ) → count (λ p. held p && eqb (value p) v) n ≤ count held n
-      fewer v = total-mono (λ p. 1) (λ p. held p && eqb (value p) v) held n (λ p a b h. and-left (held p) (eqb (value p) v) h)
+      fewer : (v : ℕ) → weigh w (λ p. held p && eqb (value p) v) n ≤ weigh w held n
+      fewer v = total-mono (weightOf w) (λ p. held p && eqb (value p) v) held n (λ p a b h. and-left (held p) (eqb (value p) v) h)
 
-      none : (p : ℕ) → 1 ≤ p → p ≤ n → leads held value n q p ≡ false
-      none p a b = rw (lt-leb q (count (λ k. held k && eqb (value k) (value p)) n) (omega (arith, fewer (value p)))) (and-false (held p))
+      none : (p : ℕ) → 1 ≤ p → p ≤ n → leads w held value n q p ≡ false
+      none p a b = rw (lt-leb q (weigh w (λ k. held k && eqb (value k) (value p)) n) (omega (arith, fewer (value p)))) (and-false (held p))
 
 pub ruleset leaders = (leads-held, leads-missing)
 
 pub ruleset leading-ends = (leading-found, leading-missing)
 
-pub held-counted : (s : List ℕ) (k n w c : ℕ) → w ≡ word s k → c ≡ count (λ p. mark w (0 + p)) n → c ≡ heldCount s k n
+pub held-counted : (s : List ℕ) (k n x w c : ℕ) → x ≡ word s k → c ≡ weigh w (λ p. mark x (0 + p)) n → c ≡ heldCount w s k n
 unfolding heldCount marked
-held-counted s k n w c e f = f ∙ total-agree (λ p. 1) (λ p. mark w (0 + p)) (λ p. mark (word s k) p) n (λ p a b. rw (e, zero-add))
+held-counted s k n x w c e f = f ∙ total-agree (weightOf w) (λ p. mark x (0 + p)) (λ p. mark (word s k) p) n (λ p a b. rw (e, zero-add))
 
 module _ (s : List ℕ) (i : ℕ) where
   pub echo-was-sent : (a : Bool) → a ≡ echoSent s i → a ≡ true → Idle ≡ echoAct s i
@@ -97,11 +106,11 @@ module _ (s : List ℕ) (i : ℕ) where
 pub ruleset echo-cases = (echo-was-sent, echo-due, echo-not-due)
 
 module _ (g : Settings) (s : List ℕ) (i : ℕ) where
-  pub due-by-echoes : (o : Output) (q v : ℕ) → q ≡ quorum g → o ≡ leading (echoHeld s i) (echoValue s i) (g .n) q → o ≡ Value v → Value v ≡ readyDue g s i
+  pub due-by-echoes : (o : Output) (q v : ℕ) → q ≡ quorum g → o ≡ leading (g .weights) (echoHeld s i) (echoValue s i) (g .n) q → o ≡ Value v → Value v ≡ readyDue g s i
   unfolding readyDue
   due-by-echoes o q v e f h = rw (← e, ← f, h)
 
-  pub due-by-readies : (o r : Output) (q k : ℕ) → q ≡ quorum g → o ≡ leading (echoHeld s i) (echoValue s i) (g .n) q → o ≡ Nothing → k ≡ copy g → r ≡ leading (readyHeld s i) (readyValue s i) (g .n) k → r ≡ readyDue g s i
+  pub due-by-readies : (o r : Output) (q k : ℕ) → q ≡ quorum g → o ≡ leading (g .weights) (echoHeld s i) (echoValue s i) (g .n) q → o ≡ Nothing → k ≡ copy g → r ≡ leading (g .weights) (readyHeld s i) (readyValue s i) (g .n) k → r ≡ readyDue g s i
   unfolding readyDue
   due-by-readies o r q k e f h u w = rw (← e, ← f, h, ← u, ← w)
 

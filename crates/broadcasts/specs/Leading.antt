@@ -1,33 +1,34 @@
 -- A value that enough senders hold. The senders are 1 to n; `held p` tells whether one is held from sender p, `value p` which.
+-- Senders count by their weights w (request N11).
 use Prim.Native.Nat.{ℕ}
 use mathlib.Core.Bool.{Bool, true, false, _&&_, cond}
 use mathlib.Core.List.{List}
 use lib.Dec.{eqb, leb}
-use Rattle.quorum.specs.Total.{count}
+use Rattle.quorum.specs.Weights.{weigh}
 use Rattle.quorum.specs.Lowest.{lowest}
 use Rattle.records.specs.Words.{marked}
 use Rattle.broadcasts.specs.declared.Output.{Output}
 use Rattle.broadcasts.specs.declared.Output.the-variants.{Value, Nothing}
 
--- how many senders have their mark in word k
-unfoldable pub heldCount : List ℕ → ℕ → ℕ → ℕ
-heldCount s k n = count (marked s k) n
+-- the weight of the senders that have their mark in word k
+unfoldable pub heldCount : ℕ → List ℕ → ℕ → ℕ → ℕ
+heldCount w s k n = weigh w (marked s k) n
 
--- how many senders hold v
-unfoldable pub holders : (ℕ → Bool) → (ℕ → ℕ) → ℕ → ℕ → ℕ
-holders held value v n = count (λ p. held p && eqb (value p) v) n
+-- the weight of the senders that hold v
+unfoldable pub holders : ℕ → (ℕ → Bool) → (ℕ → ℕ) → ℕ → ℕ → ℕ
+holders w held value v n = weigh w (λ p. held p && eqb (value p) v) n
 
--- sender p holds a value that q senders hold
-unfoldable pub leads : (ℕ → Bool) → (ℕ → ℕ) → ℕ → ℕ → ℕ → Bool
-leads held value n q p = held p && leb q (holders held value (value p) n)
+-- sender p holds a value that senders of weight q hold
+unfoldable pub leads : ℕ → (ℕ → Bool) → (ℕ → ℕ) → ℕ → ℕ → ℕ → Bool
+leads w held value n q p = held p && leb q (holders w held value (value p) n)
 
 -- the value of a sender, and nothing of none
 unfoldable pub valueOf : (ℕ → ℕ) → ℕ → Output
 valueOf value p = cond (eqb p 0) Nothing (Value (value p))
 
--- a value that q senders hold: "of several, the lowest sender's"
-unfoldable pub leading : (ℕ → Bool) → (ℕ → ℕ) → ℕ → ℕ → Output
-leading held value n q = valueOf value (lowest (leads held value n q) n)
+-- a value that senders of weight q hold: "of several, the lowest sender's"
+unfoldable pub leading : ℕ → (ℕ → Bool) → (ℕ → ℕ) → ℕ → ℕ → Output
+leading w held value n q = valueOf value (lowest (leads w held value n q) n)
 
 -- the first, or else the second
 abbrev pub orOutput : Output → Output → Output

@@ -3,9 +3,8 @@ use acts::Act;
 use records::layout;
 use settings::Settings;
 ghost use mathlib.Core.Path.{_≡_};
-ghost use Prim.Native.Nat.{_+_, _%_, _≤_};
-ghost use mathlib.Core.Bool.{_&&_};
-ghost use lib.Dec.{eqb};
+ghost use Prim.Native.Nat.{_+_, _≤_};
+ghost use lib.Dec.{leb};
 ghost use Rattle.records.specs.Records.{readyHeld, readyValue, echoHeld, echoValue};
 ghost use Rattle.records.specs.Words.{word, marked};
 ghost use Rattle.broadcasts.specs.Leading.{heldCount, holders, leads, leading};
@@ -18,94 +17,84 @@ pub enum Output {
     Nothing,
 }
 
-// Whether the lowest of the marks left is set and word at holds v.
-fn holds(s: &[u64], left: u64, at: usize, v: u64) -> bool
-    ensures { λ r. ⌜ r ≡ (eqb (left % 2) 1 && eqb (word (now (s .entry)) at) v) ⌝ }
+// Whether senders of weight q hold v: the marks of those that do are collected, then weighed at once. Those held have the weight q
+// together, so nothing is weighed where all of them hold v.
+fn enough_hold(s: &[u64], marks: u16, values: u16, v: u64, n: u8, weights: u64, q: u64) -> bool
+    requires { ⌜ q ≤ heldCount weights (now s) marks n ⌝ }
+    ensures { λ r. ⌜ r ≡ leb q (holders weights (λ p. marked (now (s .entry)) marks p) (λ p. word (now (s .entry)) (values + p)) v n) ⌝ }
 {
-    (left % 2 == 1) & (records::word(s, at) == v)
-}
-
-// How many of the senders 1 to n hold v. The marks are shifted along, since asking for each by its number costs more.
-fn holders(s: &[u64], marks: u16, values: u16, v: u64, n: u8) -> u64
-    ensures { λ r. ⌜ r ≡ holders (λ p. marked (now (s .entry)) marks p) (λ p. word (now (s .entry)) (values + p)) v n ⌝ }
-{
-    let mut left = records::word(s, marks as usize);
-    let mut c: u64 = 0;
-    let mut p: u8 = 0;
-    while p < n {
-        p += 1;
-        c += holds(s, left, values as usize + p as usize, v) as u64;
-        left = left / 2;
+    let equal = records::equal_marks(s, values as u32 + 1, n, v);
+    let held = records::word(s, marks as usize);
+    if equal & held == held {
+        return true;
     }
-    c
+    q <= quorum::weigh_marks(equal & held, 0, n, weights)
 }
 
-// Whether sender p holds a value that q of the senders 1 to n hold.
-fn leads(s: &[u64], marks: u16, values: u16, n: u8, q: u64, p: u8) -> bool
-    ensures { λ r. ⌜ r ≡ leads (λ k. marked (now (s .entry)) marks k) (λ k. word (now (s .entry)) (values + k)) n q p ⌝ }
+// Whether sender p holds a value that senders of weight q hold.
+fn leads(s: &[u64], marks: u16, values: u16, n: u8, weights: u64, q: u64, p: u8) -> bool
+    requires { ⌜ q ≤ heldCount weights (now s) marks n ⌝ }
+    ensures { λ r. ⌜ r ≡ leads weights (λ k. marked (now (s .entry)) marks k) (λ k. word (now (s .entry)) (values + k)) n q p ⌝ }
 {
     if records::marked(s, marks as usize, p as u64) {
         let v = records::word(s, values as usize + p as usize);
-        q <= holders(s, marks, values, v, n)
+        enough_hold(s, marks, values, v, n, weights, q)
     } else {
         false
     }
 }
 
-// A value that q of the senders 1 to n hold: of several, the lowest sender's. The senders are looked at one by one.
-fn leading_of(s: &[u64], marks: u16, values: u16, n: u8, q: u64) -> Output
-    ensures { λ r. ⌜ r ≡ leading (λ k. marked (now (s .entry)) marks k) (λ k. word (now (s .entry)) (values + k)) n q ⌝ }
+// A value that senders of weight q hold: of several, the lowest sender's. The senders are looked at one by one.
+fn leading_of(s: &[u64], marks: u16, values: u16, n: u8, weights: u64, q: u64) -> Output
+    requires { ⌜ q ≤ heldCount weights (now s) marks n ⌝ }
+    ensures { λ r. ⌜ r ≡ leading weights (λ k. marked (now (s .entry)) marks k) (λ k. word (now (s .entry)) (values + k)) n q ⌝ }
 {
     let mut p: u8 = 0;
     while p < n {
         p += 1;
-        if leads(s, marks, values, n, q, p) {
+        if leads(s, marks, values, n, weights, q, p) {
             return Output::Value(records::word(s, values as usize + p as usize));
         }
     }
     Output::Nothing
 }
 
-// How many of the senders 1 to n have their mark in word marks.
-fn held_count(s: &[u64], marks: u16, n: u8) -> u64
-    ensures { λ r. ⌜ r ≡ heldCount (now (s .entry)) marks n ⌝ }
+// The weight of the senders 1 to n that have their mark in word marks.
+fn held_count(s: &[u64], marks: u16, n: u8, weights: u64) -> u64
+    ensures { λ r. ⌜ r ≡ heldCount weights (now (s .entry)) marks n ⌝ }
 {
-    quorum::count_marks(records::word(s, marks as usize), 0, n)
+    quorum::weigh_marks(records::word(s, marks as usize), 0, n, weights)
 }
 
-// The same; where fewer than q hold anything, nobody's value is looked at.
-fn leading(s: &[u64], marks: u16, values: u16, n: u8, q: u64) -> Output
-    ensures { λ r. ⌜ r ≡ leading (λ k. marked (now (s .entry)) marks k) (λ k. word (now (s .entry)) (values + k)) n q ⌝ }
-{
-    if held_count(s, marks, n) < q {
-        return Output::Nothing;
-    }
-    leading_of(s, marks, values, n, q)
-}
-
-// The READYs of instance i: a value that q senders hold.
-fn leading_ready(s: &[u64], n: u8, q: u64, i: u8) -> Output
-    ensures { λ r. ⌜ r ≡ leading (readyHeld (now (s .entry)) i) (readyValue (now (s .entry)) i) n q ⌝ }
+// The READYs of instance i: a value that senders of weight q hold. Where less is held, nobody's value is looked at.
+fn leading_ready(s: &[u64], n: u8, weights: u64, q: u64, i: u8) -> Output
+    ensures { λ r. ⌜ r ≡ leading weights (readyHeld (now (s .entry)) i) (readyValue (now (s .entry)) i) n q ⌝ }
 {
     let marks = layout::READY_MARKS as u16 + i as u16;
     let values = layout::READY_VALUES as u16 + 16 * i as u16;
-    leading(s, marks, values, n, q)
+    if held_count(s, marks, n, weights) < q {
+        return Output::Nothing;
+    }
+    leading_of(s, marks, values, n, weights, q)
 }
 
-// The ECHOs of instance i: a value that q senders hold.
-fn leading_echo(s: &[u64], n: u8, q: u64, i: u8) -> Output
-    ensures { λ r. ⌜ r ≡ leading (echoHeld (now (s .entry)) i) (echoValue (now (s .entry)) i) n q ⌝ }
+// The ECHOs of instance i: a value that senders of weight q hold, in the same way.
+fn leading_echo(s: &[u64], n: u8, weights: u64, q: u64, i: u8) -> Output
+    ensures { λ r. ⌜ r ≡ leading weights (echoHeld (now (s .entry)) i) (echoValue (now (s .entry)) i) n q ⌝ }
 {
     let marks = layout::ECHO_MARKS as u16 + i as u16;
     let values = layout::ECHO_VALUES as u16 + 16 * i as u16;
-    leading(s, marks, values, n, q)
+    if held_count(s, marks, n, weights) < q {
+        return Output::Nothing;
+    }
+    leading_of(s, marks, values, n, weights, q)
 }
 
 // The output of broadcast i.
 pub fn output_of(s: &[u64], g: Settings, i: u8) -> Output
     ensures { λ r. ⌜ r ≡ output g (now (s .entry)) i ⌝ }
 {
-    leading_ready(s, g.n, g.quorum(), i)
+    leading_ready(s, g.n, g.weights, g.quorum(), i)
 }
 
 // Broadcast i has output o: its mark in the answer, its value at place i − 1.
@@ -169,10 +158,10 @@ pub fn echo_act(s: &[u64], i: u8) -> Act
 fn ready_due(s: &[u64], g: Settings, i: u8) -> Output
     ensures { λ r. ⌜ r ≡ readyDue g (now (s .entry)) i ⌝ }
 {
-    let o = leading_echo(s, g.n, g.quorum(), i);
+    let o = leading_echo(s, g.n, g.weights, g.quorum(), i);
     match o {
         Output::Value(v) => Output::Value(v),
-        Output::Nothing => leading_ready(s, g.n, g.copy(), i),
+        Output::Nothing => leading_ready(s, g.n, g.weights, g.copy(), i),
     }
 }
 

@@ -5,6 +5,7 @@ use turn::Outcome;
 ghost use mathlib.Core.Path.{_≡_};
 ghost use Prim.Native.Nat.{_<_, _≤_};
 ghost use lib.ListN.{length};
+ghost use Rattle.opening.specs.Given.{weightsWord};
 ghost use Rattle.opening.specs.Opening.{openAnswer, opened};
 ghost use Rattle.delivery.specs.Delivery.{deliverAnswer, delivered};
 ghost use Rattle.report.specs.Report.{reportAnswer, reportNamed, reportInForce};
@@ -22,11 +23,12 @@ pub extern "C" fn pack_open(
     session: u32,
     input: u64,
     coins: &[u32],
+    weights: &[u8],
 ) -> u64
-    ensures answer { λ r. ⌜ r ≡ openAnswer (length (now (state .entry))) n ta ts own (length (now (coins .entry))) ⌝ }
-    ensures words { λ _. ⌜ now (state .exit) ≡ opened (now (state .entry)) n ta ts own session input (now (coins .entry)) ⌝ }
+    ensures answer { λ r. ⌜ r ≡ openAnswer (length (now (state .entry))) n ta ts (weightsWord n (now (weights .entry))) own (length (now (coins .entry))) ⌝ }
+    ensures words { λ _. ⌜ now (state .exit) ≡ opened (now (state .entry)) n ta ts (weightsWord n (now (weights .entry))) own session input (now (coins .entry)) ⌝ }
 {
-    opening::open(state, n, ta, ts, own, session, input, coins)
+    opening::open(state, n, ta, ts, own, session, input, coins, weights)
 }
 
 // Delivers a message that came over the link of a concentrator.

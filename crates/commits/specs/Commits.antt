@@ -1,9 +1,9 @@
--- The sets that COMMITs hold: rules 1 and 2 of the turn order.
+-- The sets that COMMITs hold: rules 1 and 2 of the turn order. Senders count by their weights w (request N11).
 use Prim.Native.Nat.{ℕ}
 use mathlib.Core.Bool.{Bool, _&&_, not, cond}
 use mathlib.Core.List.{List, []}
 use lib.Dec.{eqb, leb, ltb}
-use Rattle.quorum.specs.Total.{count}
+use Rattle.quorum.specs.Weights.{weigh}
 use Rattle.quorum.specs.Lowest.{lowest}
 use Rattle.quorum.specs.Every.{every}
 use Rattle.records.specs.Records.{commitCount, commitValue, commitSet}
@@ -12,9 +12,9 @@ use Rattle.records.specs.Records.{commitCount, commitValue, commitSet}
 unfoldable pub commitHeld : List ℕ → ℕ → Bool
 commitHeld s p = ltb 0 (commitCount s p)
 
--- how many of the senders 1 to n have a COMMIT held
-unfoldable pub commitsHeld : List ℕ → ℕ → ℕ
-commitsHeld s n = count (λ p. commitHeld s p) n
+-- the weight of the senders 1 to n of whom a COMMIT is held
+unfoldable pub commitsHeld : ℕ → List ℕ → ℕ → ℕ
+commitsHeld w s n = weigh w (λ p. commitHeld s p) n
 
 -- the COMMITs of senders p and q hold the same set: sets are compared as their words
 unfoldable pub sameSet : List ℕ → ℕ → ℕ → Bool
@@ -22,22 +22,22 @@ sameSet s p q =
     eqb (commitCount s p) (commitCount s q)
     && every (λ k. eqb (commitValue s p k) (commitValue s q k)) (commitCount s p)
 
--- how many of the senders 1 to n hold the set of sender p
-unfoldable pub setHolders : List ℕ → ℕ → ℕ → ℕ
-setHolders s n p = count (λ q. commitHeld s q && sameSet s p q) n
+-- the weight of the senders 1 to n that hold the set of sender p
+unfoldable pub setHolders : ℕ → List ℕ → ℕ → ℕ → ℕ
+setHolders w s n p = weigh w (λ q. commitHeld s q && sameSet s p q) n
 
--- sender p holds a set that k senders hold
-unfoldable pub setLeads : List ℕ → ℕ → ℕ → ℕ → Bool
-setLeads s n k p = commitHeld s p && leb k (setHolders s n p)
+-- sender p holds a set that senders of weight k hold
+unfoldable pub setLeads : ℕ → List ℕ → ℕ → ℕ → ℕ → Bool
+setLeads w s n k p = commitHeld s p && leb k (setHolders w s n p)
 
--- the lowest sender with a set that k of the senders 1 to n hold, and 0 if there is none
-unfoldable pub setLeader : List ℕ → ℕ → ℕ → ℕ
-setLeader s n k = lowest (setLeads s n k) n
+-- the lowest sender with a set that senders of weight k hold, and 0 if there is none
+unfoldable pub setLeader : ℕ → List ℕ → ℕ → ℕ → ℕ
+setLeader w s n k = lowest (setLeads w s n k) n
 
 -- the set of a sender, and none of nobody
 unfoldable pub setOf : List ℕ → ℕ → List ℕ
 setOf s p = cond (eqb p 0) [] (commitSet s p)
 
 -- "a set held from .. senders (of several, the lowest sender's)"
-unfoldable pub leadingSet : List ℕ → ℕ → ℕ → List ℕ
-leadingSet s n k = setOf s (setLeader s n k)
+unfoldable pub leadingSet : ℕ → List ℕ → ℕ → ℕ → List ℕ
+leadingSet w s n k = setOf s (setLeader w s n k)

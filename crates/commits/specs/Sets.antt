@@ -8,7 +8,7 @@ use lib.Dec.{eqb}
 use lib.ListN.{length, take, drop}
 use lib.Seq.{drop-cons}
 use borrow.Author.Tests.{eqb-true, eq-eqb}
-use Rattle.settings.specs.Bools.{and-left, and-right, and-both}
+use Rattle.quorum.specs.Bools.{and-left, and-right, and-both}
 use Rattle.quorum.specs.Every.{every, every-each, each-every}
 use Rattle.records.specs.Layout.{commitRowAt}
 use Rattle.records.specs.Words.{word}

@@ -1,4 +1,5 @@
 // COMMITs: the sets that senders hold, and the lowest sender whose set enough of them hold.
+use records::layout;
 ghost use mathlib.Core.Path.{_≡_};
 ghost use mathlib.Core.Bool.{_&&_};
 ghost use lib.Dec.{eqb};
@@ -48,63 +49,58 @@ fn holds_set(s: &[u64], p: u8, q: u8) -> bool
     }
 }
 
-// How many of the senders 1 to n hold the set of sender p.
-fn set_holders(s: &[u64], n: u8, p: u8) -> u64
-    ensures { λ r. ⌜ r ≡ setHolders (now (s .entry)) n p ⌝ }
+// The weight of the senders 1 to n that hold the set of sender p: their marks are collected, then weighed at once.
+fn set_holders(s: &[u64], weights: u64, n: u8, p: u8) -> u64
+    ensures { λ r. ⌜ r ≡ setHolders weights (now (s .entry)) n p ⌝ }
 {
-    let mut c: u64 = 0;
-    let mut q: u8 = 0;
-    while q < n {
-        q += 1;
-        c += holds_set(s, p, q) as u64;
+    let mut m: u64 = 0;
+    let mut q = quorum::mark_end(n);
+    while 0 < q {
+        m = 2 * m + holds_set(s, p, q) as u64;
+        q -= 1;
     }
-    c
+    quorum::weigh_marks(m, 0, n, weights)
 }
 
-// Whether sender p holds a set that k of the senders 1 to n hold.
-fn set_leads(s: &[u64], n: u8, k: u64, p: u8) -> bool
-    ensures { λ r. ⌜ r ≡ setLeads (now (s .entry)) n k p ⌝ }
+// Whether sender p holds a set that senders of weight k hold.
+fn set_leads(s: &[u64], weights: u64, n: u8, k: u64, p: u8) -> bool
+    ensures { λ r. ⌜ r ≡ setLeads weights (now (s .entry)) n k p ⌝ }
 {
     if commit_held(s, p) {
-        k <= set_holders(s, n, p)
+        k <= set_holders(s, weights, n, p)
     } else {
         false
     }
 }
 
-// How many of the senders 1 to n have a COMMIT held.
-fn commits_held(s: &[u64], n: u8) -> u64
-    ensures { λ r. ⌜ r ≡ commitsHeld (now (s .entry)) n ⌝ }
+// The weight of the senders 1 to n of whom a COMMIT is held: those whose count is not 0.
+fn commits_held(s: &[u64], weights: u64, n: u8) -> u64
+    ensures { λ r. ⌜ r ≡ commitsHeld weights (now (s .entry)) n ⌝ }
 {
-    let mut c: u64 = 0;
-    let mut p: u8 = 0;
-    while p < n {
-        p += 1;
-        c += commit_held(s, p) as u64;
-    }
-    c
+    let none = records::equal_marks(s, layout::COMMIT_COUNTS as u32 + 1, n, 0);
+    quorum::weigh_marks(!none, 0, n, weights)
 }
 
-// The lowest sender with a set that k of the senders 1 to n hold, and 0 if there is none. The senders are looked at one by one.
-fn leader_of(s: &[u64], n: u8, k: u64) -> u8
-    ensures { λ r. ⌜ r ≡ setLeader (now (s .entry)) n k ⌝ }
+// The lowest sender with a set that senders of weight k hold, and 0 if there is none. The senders are looked at one by one.
+fn leader_of(s: &[u64], weights: u64, n: u8, k: u64) -> u8
+    ensures { λ r. ⌜ r ≡ setLeader weights (now (s .entry)) n k ⌝ }
 {
     let mut p: u8 = 0;
     while p < n {
         p += 1;
-        if set_leads(s, n, k, p) {
+        if set_leads(s, weights, n, k, p) {
             return p;
         }
     }
     0
 }
 
-// The same; where fewer than k COMMITs are held, no set is looked at.
-pub fn set_leader(s: &[u64], n: u8, k: u64) -> u8
-    ensures { λ r. ⌜ r ≡ setLeader (now (s .entry)) n k ⌝ }
+// The same; where COMMITs of less weight are held, no set is looked at.
+pub fn set_leader(s: &[u64], weights: u64, n: u8, k: u64) -> u8
+    ensures { λ r. ⌜ r ≡ setLeader weights (now (s .entry)) n k ⌝ }
 {
-    if commits_held(s, n) < k {
+    if commits_held(s, weights, n) < k {
         return 0;
     }
-    leader_of(s, n, k)
+    leader_of(s, weights, n, k)
 }

@@ -1,16 +1,18 @@
 -- Turns after all messages are held: each acts, until nothing is due.
-use Prim.Native.Nat.{ℕ, zero, suc, _+_, _≤_}
+use Prim.Native.Nat.{ℕ, zero, suc, _+_, _-_, _^_, _≤_}
 use mathlib.Core.Bool.{Bool, true, false, _&&_, true≢false}
 use mathlib.Core.List.{List}
 use mathlib.Core.Logic.{_⊎_, inl, inr}
 use mathlib.Core.Path.{_≡_, refl, sym, ap, _∙_}
 use native.Mathlib.Omega.{arith}
 use lib.ListN.{length}
-use Rattle.settings.specs.Bools.{and-left}
+use Rattle.quorum.specs.Bools.{and-left}
 use Rattle.settings.specs.Settings.{quorum}
 use Rattle.quorum.specs.Marks.{mark}
 use Rattle.quorum.specs.MarkLaws.{mark-other}
+use Rattle.quorum.specs.Total.{count}
 use Rattle.quorum.specs.TotalLaws.{count-all, count-le}
+use Rattle.quorum.specs.Whole.{ones-count, ones-whole}
 use Rattle.records.specs.Layout.{turnsAt, sessionAt}
 use Rattle.records.specs.Words.{word, marked}
 use Rattle.records.specs.Fill.{blank, length-blank}
@@ -83,8 +85,9 @@ module _ (n : ℕ) (two : 2 ≤ n) (low : 1 ≤ n) (few : n ≤ 16) (s : List �
   unfolding setHolders quorum
   not-in-force h =
       let p = h .sender in
-      let all : setHolders s n p ≡ n = omega (arith, h .holds .enough, count-le (λ q. commitHeld s q && sameSet s p q) n) in
-      let there : commitHeld s 2 ≡ true = and-left (commitHeld s 2) (sameSet s p 2) (count-all (λ q. commitHeld s q && sameSet s p q) n 2 all (omega arith) two) in
+      let same : setHolders (2 ^ n - 1) s n p ≡ count (λ q. commitHeld s q && sameSet s p q) n = ones-count n (λ q. commitHeld s q && sameSet s p q) few in
+      let all : setHolders (2 ^ n - 1) s n p ≡ n = omega (arith, h .holds .enough, count-le (λ q. commitHeld s q && sameSet s p q) n, ones-whole n few) in
+      let there : commitHeld s 2 ≡ true = and-left (commitHeld s 2) (sameSet s p 2) (count-all (λ q. commitHeld s q && sameSet s p q) n 2 (sym same ∙ all) (omega arith) two) in
       let one = x .allowed 2 (COMMIT (commitSet s 2)) (record { low = omega arith; high = omega arith }) (record { there = there; same = refl }) in
       omega (arith, one .1)
 

@@ -4,6 +4,7 @@ use mathlib.Core.Bool.{cond}
 use mathlib.Core.List.{List, [], _∷_}
 use lib.Dec.{eqb}
 use Rattle.records.specs.Fill.{blank}
+use Rattle.opening.specs.Ones.{onesGiven}
 use Rattle.wire.specs.Message.{encode}
 use Rattle.wire.specs.declared.Message.{Message}
 use Rattle.wire.specs.declared.Message.the-variants.{Send, Echo, Ready, Est, Aux, Commit}
@@ -14,9 +15,9 @@ unfoldable pub coinWords : ℕ → List ℕ
 coinWords zero = []
 coinWords (suc n) = 0 ∷ coinWords n
 
--- the opening: ta = ts = 0, own number 1
+-- the opening: ta = ts = 0, own number 1, weights all 1
 unfoldable pub opens : ℕ → Arguments
-opens n = record { n = n; ta = 0; ts = 0; own = 1; session = 7; input = 5; coins = coinWords n }
+opens n = record { n = n; ta = 0; ts = 0; own = 1; session = 7; input = 5; coins = coinWords n; weights = onesGiven n }
 
 -- f 1 to f n, one after another, after the calls cs
 unfoldable pub each : (ℕ → List Step → List Step) → ℕ → List Step → List Step

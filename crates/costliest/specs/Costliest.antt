@@ -1,5 +1,5 @@
 -- For n from 2 to 16 the costliest session takes exactly 99·n+3 turns.
-use Prim.Native.Nat.{ℕ, zero, suc, _+_, _*_, _-_, _≤_}
+use Prim.Native.Nat.{ℕ, zero, suc, _+_, _*_, _-_, _^_, _≤_}
 use mathlib.Core.Bool.{true, false, _&&_, true≢false}
 use mathlib.Core.List.{List}
 use mathlib.Core.Logic.{_≢_, _⊎_, inl, inr}
@@ -8,13 +8,14 @@ use native.Mathlib.Omega.{arith}
 use native.Mathlib.Decide.{ℕ-discrete}
 use lib.ListN.{length, take}
 use borrow.Author.Tests.{eq-eqb, ne-eqb, le-leb}
-use Rattle.settings.specs.Bools.{and-both}
+use Rattle.quorum.specs.Bools.{and-both}
 use Rattle.settings.specs.Laws.{rules-valid}
 use Rattle.settings.specs.Thresholds.{turn-bound-sum}
 use Rattle.settings.specs.Settings.{quorum, namedTa}
 use Rattle.quorum.specs.Marks.{mark}
 use Rattle.quorum.specs.MarkLaws.{mark-zero}
 use Rattle.quorum.specs.TotalLaws.{all-count}
+use Rattle.quorum.specs.Whole.{ones-count, ones-whole}
 use Rattle.quorum.specs.Lowest.{lowest-none}
 use Rattle.records.specs.Layout.{turnsAt, commitCountAt}
 use Rattle.records.specs.Words.{word, marked}
@@ -35,6 +36,7 @@ use Rattle.turn_bound.specs.Sound.{sound-bound}
 use Rattle.turn_bound.specs.Turning.{turn-sound}
 use Rattle.turn_bound.specs.Count.{turn-count}
 use Rattle.held.specs.Held.{Message, SEND, ECHO, READY, EST, AUX, COMMIT, Numbered, holds}
+use Rattle.opening.specs.Ones.{ones-word}
 use Rattle.costliest.specs.Calls.{coinWords, opens, packs, each, say, turns, commit, heard, acted, costly, costliestCalls}
 use Rattle.costliest.specs.Statement.{Costliest}
 use Rattle.costliest.specs.Saying.{settings, Allowed, Good, ruled}
@@ -50,52 +52,60 @@ length-coins zero = refl
 length-coins (suc n) = ap suc (length-coins n)
 
 module _ (n : ℕ) (two : 2 ≤ n) (low : 1 ≤ n) (few : n ≤ 16) (s : List ℕ) (size : length s ≡ 2048) where
-  accepted : answer s (opens n) ≡ 0
-  unfolding opens openAnswer namedTa numbered
-  accepted =
+  accepted-word : openAnswer (length s) n 0 0 (2 ^ n - 1) 1 (length (coinWords n)) ≡ 0
+  unfolding openAnswer namedTa numbered
+  accepted-word =
       rw (
         size,
-        rules-valid n 0 0 (ruled n 1 low few),
+        rules-valid n 0 0 (2 ^ n - 1) (ruled n 1 low few),
         le-leb 1 n low,
         length-coins n,
         eq-eqb n n refl,
       )
 
+  accepted : answer s (opens n) ≡ 0
+  unfolding opens
+  accepted = rw (ones-word n low few) accepted-word
+
   abbrev first : List ℕ
   first = openedBy s (opens n)
 
-  first-is : first ≡ openWords n 0 0 1 7 5 (coinWords n)
-  unfolding opens opened
-  first-is = rw (eq-eqb (answer s (opens n)) 0 accepted)
+  first-opened : first ≡ opened s n 0 0 (2 ^ n - 1) 1 7 5 (coinWords n)
+  unfolding opens
+  first-opened = ap (λ (w : ℕ). opened s n 0 0 w 1 7 5 (coinWords n)) (ones-word n low few)
 
-  zero-at : (k : ℕ) → 24 ≤ k → word first k ≡ 0
-  zero-at k l = rw first-is (first-zero n 0 0 1 7 5 (coinWords n) few k l)
+  first-is : first ≡ openWords n 0 0 (2 ^ n - 1) 1 7 5 (coinWords n)
+  unfolding opened
+  first-is = first-opened ∙ rw (eq-eqb (openAnswer (length s) n 0 0 (2 ^ n - 1) 1 (length (coinWords n))) 0 accepted-word)
 
-  no-mark : (k q : ℕ) → 24 ≤ k → marked first k q ≡ true → ⊥
+  zero-at : (k : ℕ) → 24 ≤ k → (k ≡ 141 → ⊥) → word first k ≡ 0
+  zero-at k l ne = rw first-is (first-zero n 0 0 (2 ^ n - 1) 1 7 5 (coinWords n) few k l ne)
+
+  no-mark : (k q : ℕ) → 24 ≤ k → (k ≡ 141 → ⊥) → marked first k q ≡ true → ⊥
   unfolding marked
-  no-mark k q l e = true≢false (sym e ∙ ap (λ (w : ℕ). mark w q) (zero-at k l) ∙ mark-zero q)
+  no-mark k q l ne e = true≢false (sym e ∙ ap (λ (w : ℕ). mark w q) (zero-at k l ne) ∙ mark-zero q)
 
-  no-set : (p : ℕ) → commitHeld first p ≡ true → ⊥
+  no-set : (p : ℕ) → p ≤ 16 → commitHeld first p ≡ true → ⊥
   unfolding commitHeld commitCount
-  no-set p e = true≢false (sym e ∙ rw (zero-at (commitCountAt p) (omega arith)))
+  no-set p hi e = true≢false (sym e ∙ rw (zero-at (commitCountAt p) (omega arith) (λ z. omega arith)))
 
-  none-held : (k : ℕ) (y : Message) → holds first k y → ⊥
+  none-held : (k : ℕ) (y : Message) → k ≤ 16 → holds first k y → ⊥
   unfolding sendHeld echoHeld readyHeld estHeld auxHeld
-  none-held k (SEND v) h = no-mark _ k (omega arith) (h .there)
-  none-held k (ECHO i v) h = no-mark _ k (omega arith) (h .there)
-  none-held k (READY i v) h = no-mark _ k (omega arith) (h .there)
-  none-held k (EST i r b) h = no-mark _ _ (omega arith) (h .there)
-  none-held k (AUX i r b) h = no-mark _ _ (omega arith) (h .there)
-  none-held k (COMMIT X) h = no-set k (h .there)
+  none-held k (SEND v) hi h = no-mark _ k (omega arith) (λ z. omega arith) (h .there)
+  none-held k (ECHO i v) hi h = no-mark _ k (omega arith) (λ z. omega (arith, h .instance .high)) (h .there)
+  none-held k (READY i v) hi h = no-mark _ k (omega arith) (λ z. omega (arith, h .instance .high)) (h .there)
+  none-held k (EST i r b) hi h = no-mark _ _ (omega arith) (λ z. omega arith) (h .there)
+  none-held k (AUX i r b) hi h = no-mark _ _ (omega arith) (λ z. omega arith) (h .there)
+  none-held k (COMMIT X) hi h = no-set k hi (h .there)
 
   first-good : Good n 1 first
-  unfolding opens closed marked namedTa
+  unfolding closed marked namedTa
   first-good =
       record {
-        sound = opened-sound s (coinWords n) n 0 0 1 7 5 accepted;
-        session = rw first-is (first-session n 0 0 1 7 5 (coinWords n));
-        unclosed = rw first-is (ap (λ (w : ℕ). mark w 1) (first-flags n 0 0 1 7 5 (coinWords n)) ∙ mark-zero 1);
-        allowed = λ k y num h. absurd (none-held k y h);
+        sound = rw first-opened (opened-sound s (coinWords n) n 0 0 (2 ^ n - 1) 1 7 5 accepted-word);
+        session = rw first-is (first-session n 0 0 (2 ^ n - 1) 1 7 5 (coinWords n));
+        unclosed = rw first-is (ap (λ (w : ℕ). mark w 1) (first-flags n 0 0 (2 ^ n - 1) 1 7 5 (coinWords n)) ∙ mark-zero 1);
+        allowed = λ k y num h. absurd (none-held k y (num .high) h);
       }
 
   -- ---- all turns but the last
@@ -153,28 +163,28 @@ module _ (n : ℕ) (two : 2 ≤ n) (low : 1 ≤ n) (few : n ≤ 16) (s : List �
   set-of p lo hi =
       good .allowed p (COMMIT (commitSet (after first last) p)) (record { low = lo; high = omega arith }) (record { there = all-committed p lo hi; same = refl }) .0
 
-  leads : setLeads (after first last) n n 1 ≡ true
+  leads : setLeads (2 ^ n - 1) (after first last) n n 1 ≡ true
   unfolding setLeads setHolders
   leads =
       and-both (commitHeld (after first last) 1) _ (all-committed 1 (omega arith) low)
-      (le-leb n (setHolders (after first last) n 1) (omega (
+      (le-leb n (setHolders (2 ^ n - 1) (after first last) n 1) (omega (
         arith,
-        all-count (λ q. commitHeld (after first last) q && sameSet (after first last) 1 q) n
+        ones-count n (λ q. commitHeld (after first last) q && sameSet (after first last) 1 q) few ∙ all-count (λ q. commitHeld (after first last) q && sameSet (after first last) 1 q) n
             (λ q lo hi. and-both (commitHeld (after first last) q) (sameSet (after first last) 1 q) (all-committed q lo hi)
             (set-same (after first last) 1 q (good .sound .size) (omega arith) (omega arith) (set-of q lo hi ∙ sym (set-of 1 (omega arith) low)))),
       )))
 
   quorum-all : quorum (settings n) ≡ n
   unfolding quorum
-  quorum-all = omega arith
+  quorum-all = omega (arith, ones-whole n few)
 
-  leader : setLeader (after first last) n n ≢ 0
+  leader : setLeader (2 ^ n - 1) (after first last) n n ≢ 0
   unfolding setLeader
-  leader z = true≢false (sym leads ∙ lowest-none (setLeads (after first last) n n) n z 1 (omega arith) low)
+  leader z = true≢false (sym leads ∙ lowest-none (setLeads (2 ^ n - 1) (after first last) n n) n z 1 (omega arith) low)
 
   rule : inForceRule (settings n) (after first last) ≡ InForce
   unfolding inForceRule
-  rule = rw (quorum-all, ne-eqb (setLeader (after first last) n n) 0 leader)
+  rule = rw (quorum-all, ne-eqb (setLeader (2 ^ n - 1) (after first last) n n) 0 leader)
 
   in-force : isDue (due (settings n) (after first last)) ≡ true
   unfolding due orAct

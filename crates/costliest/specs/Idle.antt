@@ -1,5 +1,5 @@
 -- Where all messages are held and nothing is due, everything was sent but the set in force.
-use Prim.Native.Nat.{ℕ, zero, suc, _+_, _*_, _-_, _≤_, min}
+use Prim.Native.Nat.{ℕ, zero, suc, _+_, _*_, _-_, _^_, _≤_, min}
 use mathlib.Core.Bool.{true, false, _&&_, cond, true≢false}
 use mathlib.Core.List.{List, [], _∷_}
 use mathlib.Core.Logic.{_≢_}
@@ -9,13 +9,15 @@ use native.Mathlib.Decide.{decLe, ℕ-discrete}
 use lib.Dec.{eqb}
 use lib.ListN.{length}
 use borrow.Author.Tests.{eq-eqb, ne-eqb, eqb-true, le-leb, ltb-true}
-use Rattle.settings.specs.Bools.{and-both}
+use Rattle.quorum.specs.Bools.{and-both}
 use Rattle.settings.specs.Settings.{quorum, copy, voteQuorum, relay, accept}
 use Rattle.settings.specs.declared.Settings.{Settings}
 use Rattle.quorum.specs.Marks.{mark}
 use Rattle.quorum.specs.Total.{total, count, everyone}
 use Rattle.quorum.specs.TotalLaws.{member-total, all-count, count-all, count-le}
 use Rattle.quorum.specs.Lowest.{lowest-none}
+use Rattle.quorum.specs.Weights.{weightOf}
+use Rattle.quorum.specs.Whole.{ones-weight, ones-count, ones-whole}
 use Rattle.records.specs.Layout.{roundAt, estSentAt, auxSentAt, voteAt, estMark}
 use Rattle.records.specs.Words.{word, marked}
 use Rattle.records.specs.Records.{sendSent, commitSent, echoSent, readySent, sendHeld, sendValue, readyHeld, readyValue, echoHeld, echoValue, estHeld, auxHeld, round, estSent, auxSent, commitCount, commitSet, decidedZero, decidedOne}
@@ -65,37 +67,38 @@ module _ (n : ℕ) (two : 2 ≤ n) (few : n ≤ 16) (low : 1 ≤ n) (begin : Lis
       x .allowed p (READY i (readyValue s i p)) (record { low = l; high = omega arith })
       (record { instance = record { low = lo; high = omega arith }; there = h .readied i lo hi p l k; same = refl })
 
-  holders-all : (i : ℕ) → 1 ≤ i → i ≤ n → holders (readyHeld s i) (readyValue s i) i n ≡ n
+  holders-all : (i : ℕ) → 1 ≤ i → i ≤ n → holders (g .weights) (readyHeld s i) (readyValue s i) i n ≡ n
   unfolding holders readyHeld
   holders-all i lo hi =
-      all-count (λ p. readyHeld s i p && eqb (readyValue s i p) i) n
+      ones-count n (λ p. readyHeld s i p && eqb (readyValue s i p) i) few
+      ∙ all-count (λ p. readyHeld s i p && eqb (readyValue s i p) i) n
       (λ p l k. and-both (readyHeld s i p) (eqb (readyValue s i p) i) (h .readied i lo hi p l k) (eq-eqb (readyValue s i p) i (value-is i p lo hi l k)))
 
   ready-done : isDue (readyRule g s) ≡ false → (i : ℕ) → 1 ≤ i → i ≤ n → readySent s i ≡ true
   unfolding readyRule readyAct readyDue copy
-  ready-done e i lo hi = of (leading (echoHeld s i) (echoValue s i) n (quorum g)) (leading (readyHeld s i) (readyValue s i) n 1) refl (first-idle (readyAct g s) n e i lo hi)
+  ready-done e i lo hi = of (leading (g .weights) (echoHeld s i) (echoValue s i) n (quorum g)) (leading (g .weights) (readyHeld s i) (readyValue s i) n 1) refl (first-idle (readyAct g s) n e i lo hi)
     where
-      of : (u v : Output) → leading (readyHeld s i) (readyValue s i) n 1 ≡ v → isDue (cond (readySent s i) Idle (readyOf i (orOutput u v))) ≡ false → readySent s i ≡ true
+      of : (u v : Output) → leading (g .weights) (readyHeld s i) (readyValue s i) n 1 ≡ v → isDue (cond (readySent s i) Idle (readyOf i (orOutput u v))) ≡ false → readySent s i ≡ true
       of (Value a) v f d = passed-test (readySent s i) (Ready i a) refl d
       of Nothing (Value a) f d = passed-test (readySent s i) (Ready i a) refl d
-      of Nothing Nothing f d = absurd (leading-some (readyHeld s i) (readyValue s i) n 1 i (omega arith) (omega (arith, holders-all i lo hi)) f)
+      of Nothing Nothing f d = absurd (leading-some (g .weights) (readyHeld s i) (readyValue s i) n 1 i (omega arith) (omega (arith, holders-all i lo hi)) f)
 
   output-is : (i : ℕ) → 1 ≤ i → i ≤ n → output g s i ≡ Value i
   unfolding quorum
-  output-is i lo hi = output-unique g s i i (ruled n 1 low few) (omega (arith, holders-all i lo hi))
+  output-is i lo hi = output-unique g s i i (ruled n 1 low few) (omega (arith, holders-all i lo hi, ones-whole n few))
 
   -- ---- Exit 1 does not hold
 
   has-own : (v i : ℕ) → 1 ≤ i → i ≤ n → withOutput g (output g s) everyBroadcast v ≡ n → i ≡ v
   unfolding withOutput
   has-own v i lo hi e =
-      let y : hasValue (output g s i) v ≡ true = count-all (λ j. hasValue (output g s j) v) n i e lo hi in
+      let y : hasValue (output g s i) v ≡ true = count-all (λ j. hasValue (output g s j) v) n i (sym (ones-count n (λ j. hasValue (output g s j) v) few) ∙ e) lo hi in
       eqb-true i v (rw (output-is i lo hi) at y)
 
   not-first : (v : ℕ) → First g (output g s) v → ⊥
   unfolding quorum withOutput
   not-first v f =
-      let all : withOutput g (output g s) everyBroadcast v ≡ n = omega (arith, f .many, count-le (λ j. hasValue (output g s j) v) n) in
+      let all : withOutput g (output g s) everyBroadcast v ≡ n = omega (arith, f .many, ones-count n (λ j. hasValue (output g s j) v) few, count-le (λ j. hasValue (output g s j) v) n, ones-whole n few) in
       omega (arith, has-own v 1 (omega arith) low all, has-own v 2 (omega arith) two all)
 
   not-exit1 : eqb (exitNow g s .number) 1 ≡ false
@@ -112,7 +115,7 @@ module _ (n : ℕ) (two : 2 ≤ n) (few : n ≤ 16) (low : 1 ≤ n) (begin : Lis
 
   est-one : (i r b : ℕ) → 1 ≤ i → i ≤ n → 1 ≤ r → r ≤ 32 → b ≤ 1 → 1 ≤ estCount g s i r b
   unfolding estCount estHeld
-  est-one i r b lo hi rl rh bit = member-total (λ q. 1) (estHeld s i r b) n 1 (omega arith) low (at b bit)
+  est-one i r b lo hi rl rh bit = omega (arith, ones-weight n 1 (omega arith) low few, member-total (weightOf (2 ^ n - 1)) (estHeld s i r b) n 1 (omega arith) low (at b bit))
     where
       at : (c : ℕ) → c ≤ 1 → marked s (voteAt i r) (estMark c 1) ≡ true
       at zero l = h .estimated i lo hi r rl rh .0
@@ -125,7 +128,7 @@ module _ (n : ℕ) (two : 2 ≤ n) (few : n ≤ 16) (low : 1 ≤ n) (begin : Lis
 
   all-carry : (i r : ℕ) → 1 ≤ i → i ≤ n → 1 ≤ r → r ≤ 32 → carriers g s i r true true ≡ n
   unfolding carriers carries auxHeld
-  all-carry i r lo hi rl rh = all-count (carries s i r true true) n (λ p l k. rw (h .voted i lo hi r rl rh p l k))
+  all-carry i r lo hi rl rh = ones-count n (carries s i r true true) few ∙ all-count (carries s i r true true) n (λ p l k. rw (h .voted i lo hi r rl rh p l k))
 
   record VoteDone (i : ℕ) : Type 0 where
     out : word s (roundAt i) ≡ 33
@@ -161,7 +164,7 @@ module _ (n : ℕ) (two : 2 ≤ n) (few : n ≤ 16) (low : 1 ≤ n) (begin : Lis
     moves : (r : ℕ) → 1 ≤ r → r ≤ 32 → auxSent s i r ≡ true → isDue (cond (auxSent s i r) (moveValue g s i r (accepted g s i r 0) (accepted g s i r 1)) Idle) ≡ true
     unfolding moveValue voteQuorum
     moves r rl rh a =
-        rw (a, is-accepted i r 0 lo hi rl rh (omega arith), is-accepted i r 1 lo hi rl rh (omega arith), le-leb (voteQuorum g) (carriers g s i r true true) (omega (arith, all-carry i r lo hi rl rh)))
+        rw (a, is-accepted i r 0 lo hi rl rh (omega arith), is-accepted i r 1 lo hi rl rh (omega arith), le-leb (voteQuorum g) (carriers g s i r true true) (omega (arith, all-carry i r lo hi rl rh, ones-whole n few)))
 
     not-running : isDue (roundAct g s i) ≡ false → 1 ≤ round s i → 33 ≤ round s i
     unfolding roundAct running auxAct moveAct
@@ -189,28 +192,28 @@ module _ (n : ℕ) (two : 2 ≤ n) (few : n ≤ 16) (low : 1 ≤ n) (begin : Lis
 
   -- ---- COMMIT
 
-  leads-one : setLeads s n 1 1 ≡ true
+  leads-one : setLeads (g .weights) s n 1 1 ≡ true
   unfolding setLeads setHolders
   leads-one =
       and-both (commitHeld s 1) _ (h .committed)
-      (le-leb 1 (setHolders s n 1) (member-total (λ q. 1) (λ q. commitHeld s q && sameSet s 1 q) n 1 (omega arith) low (and-both (commitHeld s 1) (sameSet s 1 1) (h .committed) (set-same s 1 1 size (omega arith) (omega arith) refl))))
+      (le-leb 1 (setHolders (g .weights) s n 1) (omega (arith, ones-weight n 1 (omega arith) low few, member-total (weightOf (2 ^ n - 1)) (λ q. commitHeld s q && sameSet s 1 q) n 1 (omega arith) low (and-both (commitHeld s 1) (sameSet s 1 1) (h .committed) (set-same s 1 1 size (omega arith) (omega arith) refl)))))
 
-  leader-there : setLeader s n 1 ≢ 0
+  leader-there : setLeader (g .weights) s n 1 ≢ 0
   unfolding setLeader
-  leader-there z = true≢false (sym leads-one ∙ lowest-none (setLeads s n 1) n z 1 (omega arith) low)
+  leader-there z = true≢false (sym leads-one ∙ lowest-none (setLeads (g .weights) s n 1) n z 1 (omega arith) low)
 
-  set-there : 1 ≤ length (leadingSet s n 1)
+  set-there : 1 ≤ length (leadingSet (g .weights) s n 1)
   unfolding leadingSet setOf commitHeld
-  set-there = of (leader-holds s n 1 leader-there)
+  set-there = of (leader-holds (g .weights) s n 1 leader-there)
     where
-      of : SetHeld s n 1 (setLeader s n 1) → 1 ≤ length (cond (eqb (setLeader s n 1) 0) [] (commitSet s (setLeader s n 1)))
+      of : SetHeld (g .weights) s n 1 (setLeader (g .weights) s n 1) → 1 ≤ length (cond (eqb (setLeader (g .weights) s n 1) 0) [] (commitSet s (setLeader (g .weights) s n 1)))
       of y =
-          rw (ne-eqb (setLeader s n 1) 0 leader-there)
-          (omega (arith, set-length s (setLeader s n 1) size (omega (arith, y .high)), ltb-true 0 (commitCount s (setLeader s n 1)) (y .held)))
+          rw (ne-eqb (setLeader (g .weights) s n 1) 0 leader-there)
+          (omega (arith, set-length s (setLeader (g .weights) s n 1) size (omega (arith, y .high)), ltb-true 0 (commitCount s (setLeader (g .weights) s n 1)) (y .held)))
 
   commit-done : isDue (commitRule g s) ≡ false → commitSent s ≡ true
   unfolding commitRule commitDue copy commitOf orSet
-  commit-done e = of (exitNow g s .names) (leadingSet s n 1) set-there e
+  commit-done e = of (exitNow g s .names) (leadingSet (g .weights) s n 1) set-there e
     where
       of : (xs ys : List ℕ) → 1 ≤ length ys → isDue (cond (commitSent s) Idle (commitOf (orSet xs ys))) ≡ false → commitSent s ≡ true
       of xs [] l d = absurd (omega arith)

@@ -3,7 +3,7 @@ use Prim.Native.Nat.{ℕ, _≤_}
 use mathlib.Core.Bool.{Bool, true, false, cond}
 use mathlib.Core.List.{List, [], _∷_}
 use mathlib.Core.Logic.{_≢_, inl, inr}
-use mathlib.Core.Path.{_≡_, refl, ap, _∙_}
+use mathlib.Core.Path.{_≡_, refl, ap, ap₂, _∙_}
 use native.Mathlib.Omega.{arith}
 use lib.Dec.{eqb}
 use lib.ListN.{length}
@@ -16,6 +16,8 @@ use Rattle.quorum.specs.MarkLaws.{mark-zero}
 use Rattle.quorum.specs.Total.{share, total, count}
 use Rattle.quorum.specs.TotalLaws.{total-none, count-le}
 use Rattle.quorum.specs.Lowest.{lowest}
+use Rattle.quorum.specs.Weights.{weightOf}
+use Rattle.quorum.specs.Whole.{wholeOf}
 use Rattle.records.specs.Layout.{turnsAt, roundAt, estSentAt, auxSentAt, decidedOneAt}
 use Rattle.records.specs.Words.{word, marked}
 use Rattle.records.specs.Records.{round, commitSent, sendSent, decidedZero, decidedOne}
@@ -40,7 +42,7 @@ use Rattle.turn.specs.Frame.{applied-other}
 use Rattle.turn.specs.Admitting.{admitted-settings}
 use Rattle.turn.specs.Laws.{Way, refused, taken, way}
 use Rattle.delivery.specs.Delivery.{delivered}
-use Rattle.turn_bound.specs.TurnBound.{Arguments, answer, openedBy, settingsBy, Step, opening, delivery, turn, report, after, acting, current}
+use Rattle.turn_bound.specs.TurnBound.{weightsBy, Arguments, answer, openedBy, settingsBy, Step, opening, delivery, turn, report, after, acting, current}
 use Rattle.turn_bound.specs.Sums.{share-few, zero-count}
 use Rattle.turn_bound.specs.Potential.{instancePart, potential}
 use Rattle.turn_bound.specs.Sound.{Sound}
@@ -57,7 +59,7 @@ record Quiet (s : List ℕ) : Type 0 where
   ones : word s decidedOneAt ≡ 0
 
 abbrev alone : Settings
-alone = record { n = 1; ta = 0; ts = 0 }
+alone = record { n = 1; ta = 0; ts = 0; whole = 1; weights = 1 }
 
 -- ---- no vote is due
 
@@ -75,13 +77,13 @@ NoVote (Move i r v) = ⊥
 
 -- a broadcast with output is Exit 1
 exit-one : (o : ℕ → Output) (as0 as1 : ℕ → Bool) (v : ℕ) → o 1 ≡ Value v → exitOf alone o as0 as1 .number ≡ 1
-unfolding exitOf exit1At naming lowest withOutput total quorum
+unfolding exitOf exit1At naming lowest withOutput total weightOf mark quorum
 exit-one o as0 as1 v e = rw (e, eq-eqb v v refl)
 
 module _ (s : List ℕ) (q : Quiet s) where
   no-ones : votesDecidedOne alone s ≡ 0
   unfolding votesDecidedOne decidedOne marked
-  no-ones = total-none (λ p. 1) (decidedOne s) 1 (λ p a b. ap (λ (w : ℕ). mark w p) (q .ones) ∙ mark-zero p)
+  no-ones = total-none (weightOf 1) (decidedOne s) 1 (λ p a b. ap (λ (w : ℕ). mark w p) (q .ones) ∙ mark-zero p)
 
   before : round s 1 ≡ 0
   unfolding round
@@ -109,7 +111,7 @@ module _ (s : List ℕ) (q : Quiet s) where
   due-no-vote : NoVote (due alone s)
   unfolding due inForceRule commitRule commitOf sendRule
   due-no-vote =
-      all-or NoVote (inForceRule alone s) _ (all-cond NoVote (eqb (setLeader s 1 (quorum alone)) 0) Idle InForce (λ e. tt) (λ e. tt))
+      all-or NoVote (inForceRule alone s) _ (all-cond NoVote (eqb (setLeader 1 s 1 (quorum alone)) 0) Idle InForce (λ e. tt) (λ e. tt))
       (all-or NoVote (commitRule alone s) _ (all-cond NoVote (commitSent s) Idle (commitOf (commitDue alone s)) (λ e. tt) (λ e. set (commitDue alone s)))
       (all-or NoVote (sendRule s) _ (all-cond NoVote (sendSent s) Idle (Send (word s 5)) (λ e. tt) (λ e. tt))
       (all-or NoVote (echoRule alone s) _ (echo-rule-holds NoVote alone s tt (λ i a b e f. tt))
@@ -145,11 +147,14 @@ module _ (s : List ℕ) where
         ones = spared a h 139 (λ e. omega arith) (λ e. omega arith) (λ e. omega arith) (λ e. omega arith) ∙ q .ones;
       }
 
-only-alone : (g : Settings) → Ruled g → g .n ≡ 1 → g ≡ alone
-only-alone g r e = same e (omega (arith, r .margin)) (omega (arith, r .margin))
+only-alone : (g : Settings) → Ruled g → g .n ≡ 1 → g .weights ≡ 1 → g ≡ alone
+unfolding wholeOf total weightOf mark
+only-alone g r e f =
+    let w : g .whole ≡ 1 = r .sum ∙ ap₂ wholeOf f e in
+    same e (omega (arith, r .margin)) (omega (arith, r .margin)) w f
   where
-    same : g .n ≡ 1 → g .ta ≡ 0 → g .ts ≡ 0 → g ≡ alone
-    same a b c = λ i. record { n = a i; ta = b i; ts = c i }
+    same : g .n ≡ 1 → g .ta ≡ 0 → g .ts ≡ 0 → g .whole ≡ 1 → g .weights ≡ 1 → g ≡ alone
+    same a b c d e = λ i. record { n = a i; ta = b i; ts = c i; whole = d i; weights = e i }
 
 module _ (s : List ℕ) (q : Quiet s) where
   part-few : instancePart s 1 ≤ 2
@@ -162,14 +167,14 @@ module _ (s : List ℕ) (q : Quiet s) where
   unfolding potential total
   quiet-potential = omega (arith, count-le (mark (word s 7)) 3, part-few)
 
-module _ (g : Settings) (ruled : Ruled g) (s : List ℕ) (h : Sound g s) (one : g .n ≡ 1) (q : Quiet s) where
+module _ (g : Settings) (ruled : Ruled g) (s : List ℕ) (h : Sound g s) (one : g .n ≡ 1) (light : g .weights ≡ 1) (q : Quiet s) where
   turn-quiet : (out : List ℕ) → Quiet (turnWords s (length out))
   turn-quiet out = of (way s out)
     where
       of : Way s out → Quiet (turnWords s (length out))
       of (refused k r) = rw (r .words) q
       of (taken y t) =
-          let same : y .settings ≡ alone = admitted-settings s (length out) y (t .admits) ∙ h .settings ∙ only-alone g ruled one in
+          let same : y .settings ≡ alone = admitted-settings s (length out) y (t .admits) ∙ h .settings ∙ only-alone g ruled one light in
           rw (t .words, same) (act-quiet s (due alone s) (due-no-vote s q) q)
 
   delivery-quiet : (link : ℕ) (b : List ℕ) → Quiet (delivered s link b)
@@ -192,10 +197,10 @@ module _ (g : Settings) (ruled : Ruled g) (s : List ℕ) (h : Sound g s) (one : 
 opening-quiet : (w : List ℕ) (o : Arguments) → answer w o ≡ 0 → Quiet (openedBy w o)
 unfolding opened
 opening-quiet w o e =
-    let few = opened-ruled w (o .coins) (o .n) (o .ta) (o .ts) (o .own) (o .session) (o .input) e .few in
-    let z = first-zero (o .n) (o .ta) (o .ts) (o .own) (o .session) (o .input) (o .coins) few in
+    let few = opened-ruled w (o .coins) (o .n) (o .ta) (o .ts) (weightsBy o) (o .own) (o .session) (o .input) e .few in
+    let z = first-zero (o .n) (o .ta) (o .ts) (weightsBy o) (o .own) (o .session) (o .input) (o .coins) few in
     rw (eq-eqb (answer w o) 0 e)
-    (record { round = z 24 (omega arith); ests = z 40 (omega arith); auxs = z 56 (omega arith); ones = z 139 (omega arith) })
+    (record { round = z 24 (omega arith) (λ e. omega arith); ests = z 40 (omega arith) (λ e. omega arith); auxs = z 56 (omega arith) (λ e. omega arith); ones = z 139 (omega arith) (λ e. omega arith) })
 
 module _ (s : List ℕ) (o : Arguments) (e : answer s o ≡ 0) where
   abbrev first : List ℕ
@@ -204,27 +209,27 @@ module _ (s : List ℕ) (o : Arguments) (e : answer s o ≡ 0) where
   abbrev now : List Step → Settings
   now cs = current (settingsBy o) first cs
 
-  quiet : (cs : List Step) → now cs .n ≡ 1 → Quiet (after first cs)
+  quiet : (cs : List Step) → now cs .n ≡ 1 → now cs .weights ≡ 1 → Quiet (after first cs)
   unfolding current after
-  quiet [] one = opening-quiet s o e
-  quiet (opening p ∷ cs) one = at (eqb (answer (after first cs) p) 0) refl one (λ d. quiet cs d)
+  quiet [] one lit = opening-quiet s o e
+  quiet (opening p ∷ cs) one lit = at (eqb (answer (after first cs) p) 0) refl one lit (λ d k. quiet cs d k)
     where
-      at : (b : Bool) → eqb (answer (after first cs) p) 0 ≡ b → cond b (settingsBy p) (now cs) .n ≡ 1 → (now cs .n ≡ 1 → Quiet (after first cs)) → Quiet (openedBy (after first cs) p)
-      at true d f x = opening-quiet (after first cs) p (eqb-true (answer (after first cs) p) 0 d)
-      at false d f x = rw (refused-words (after first cs) p d) (x f)
-  quiet (delivery link b ∷ cs) one =
+      at : (b : Bool) → eqb (answer (after first cs) p) 0 ≡ b → cond b (settingsBy p) (now cs) .n ≡ 1 → cond b (settingsBy p) (now cs) .weights ≡ 1 → (now cs .n ≡ 1 → now cs .weights ≡ 1 → Quiet (after first cs)) → Quiet (openedBy (after first cs) p)
+      at true d f k x = opening-quiet (after first cs) p (eqb-true (answer (after first cs) p) 0 d)
+      at false d f k x = rw (refused-words (after first cs) p d) (x f k)
+  quiet (delivery link b ∷ cs) one lit =
       let y = going (settingsBy o) first (opening-going s o e) cs in
-      delivery-quiet (now cs) (y .ruled) (after first cs) (y .sound) one (quiet cs one) link b
-  quiet (turn out ∷ cs) one =
+      delivery-quiet (now cs) (y .ruled) (after first cs) (y .sound) one lit (quiet cs one lit) link b
+  quiet (turn out ∷ cs) one lit =
       let y = going (settingsBy o) first (opening-going s o e) cs in
-      turn-quiet (now cs) (y .ruled) (after first cs) (y .sound) one (quiet cs one) out
-  quiet (report ∷ cs) one = quiet cs one
+      turn-quiet (now cs) (y .ruled) (after first cs) (y .sound) one lit (quiet cs one lit) out
+  quiet (report ∷ cs) one lit = quiet cs one lit
 
-  few-turns : (cs : List Step) → now cs .n ≡ 1 → acting first cs ≤ 5
-  few-turns cs one =
+  few-turns : (cs : List Step) → now cs .n ≡ 1 → now cs .weights ≡ 1 → acting first cs ≤ 5
+  few-turns cs one lit =
       let y = going (settingsBy o) first (opening-going s o e) cs in
-      omega (arith, y .count, quiet-few (now cs) (y .ruled) (after first cs) (y .sound) one (quiet cs one))
+      omega (arith, y .count, quiet-few (now cs) (y .ruled) (after first cs) (y .sound) one lit (quiet cs one lit))
 
 pub at-most-five : AtMostFive
 unfolding AtMostFive
-at-most-five s o e cs one = few-turns s o e cs one
+at-most-five s o e cs one lit = few-turns s o e cs one lit

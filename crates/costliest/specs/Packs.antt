@@ -7,7 +7,7 @@ use native.Mathlib.Omega.{arith}
 use lib.Dec.{ltb}
 use lib.ListN.{length, take}
 use borrow.Author.Tests.{ltb-true}
-use Rattle.settings.specs.Bools.{and-left, and-right}
+use Rattle.quorum.specs.Bools.{and-left, and-right}
 use Rattle.quorum.specs.Every.{every, every-each}
 use Rattle.wire.specs.Bytes.{risesFrom, rises}
 use Rattle.wire_laws.specs.Proper.{Fitting}

@@ -1,5 +1,5 @@
 -- A message that is delivered in the costliest session is held after it, and all that was held stays.
-use Prim.Native.Nat.{ℕ, _≤_, _%_, _^_}
+use Prim.Native.Nat.{ℕ, _-_, _≤_, _%_, _^_}
 use mathlib.Core.Bool.{Bool, true, false, _||_, cond, false≢true}
 use mathlib.Core.List.{List}
 use mathlib.Core.Logic.{_⊎_, inl, inr}
@@ -9,6 +9,8 @@ use lib.ListN.{take, drop}
 use Rattle.settings.specs.Laws.{Ruled}
 use Rattle.settings.specs.declared.Settings.{Settings}
 use Rattle.quorum.specs.Marks.{mark}
+use Rattle.quorum.specs.Every.{each-every}
+use Rattle.quorum.specs.Whole.{wholeOf, weightRight, weightsRight, ones-weight, ones-whole}
 use Rattle.records.specs.Layout.{flagsAt, sessionAt}
 use Rattle.records.specs.Words.{word, marked}
 use Rattle.records.specs.Records.{closed, sendHeld, echoHeld, readyHeld, estHeld, auxHeld}
@@ -39,7 +41,7 @@ use Rattle.costliest.specs.Packs.{packs-many, packs-fit, packs-rise}
 
 -- ta = ts = 0
 abbrev pub settings : ℕ → Settings
-settings n = record { n = n; ta = 0; ts = 0 }
+settings n = record { n = n; ta = 0; ts = 0; whole = wholeOf (2 ^ n - 1) n; weights = 2 ^ n - 1 }
 
 -- what is said in the session, COMMITs from 1 to c only
 abbrev pub Allowed : ℕ → ℕ → ℕ → Message → Type 0
@@ -61,7 +63,16 @@ pub record Good (n c : ℕ) (s : List ℕ) : Type 0 where
 
 module _ (n c : ℕ) (low : 1 ≤ n) (few : n ≤ 16) where
   pub ruled : Ruled (settings n)
-  ruled = record { some = low; few = few; ordered = omega arith; margin = omega arith }
+  unfolding weightsRight weightRight
+  ruled =
+      record {
+        some = low;
+        few = few;
+        right = each-every (λ p. weightRight (2 ^ n - 1) p) n (λ p lo hi. rw (ones-weight n p lo hi few));
+        sum = refl;
+        ordered = omega arith;
+        margin = omega (arith, ones-whole n few);
+      }
 
   module _ (s : List ℕ) (x : Good n c s) (p : ℕ) (lo : 1 ≤ p) (hi : p ≤ n) (m : wire-message.Message) (proper : Proper n p m packs) where
     abbrev b : List ℕ

@@ -25,11 +25,12 @@ unfoldable pub FiveTurns : Type 0
 FiveTurns = (s : List ℕ) → length s ≡ 2048 → Takes 1 5 s
 
 -- and there no calls bring more: after every accepted opening and every list of calls, further openings among them, at most 5 turns have
--- acted since the last accepted one, where that has n = 1
+-- acted since the last accepted one, where that has n = 1 and the weight 1
 unfoldable pub AtMostFive : Type 0
 AtMostFive =
     (s : List ℕ) (o : Arguments) → answer s o ≡ 0 →
-    (cs : List Step) → current (settingsBy o) (openedBy s o) cs .n ≡ 1 → acting (openedBy s o) cs ≤ 5
+    (cs : List Step) → current (settingsBy o) (openedBy s o) cs .n ≡ 1 → current (settingsBy o) (openedBy s o) cs .weights ≡ 1 →
+    acting (openedBy s o) cs ≤ 5
 
 -- a turn that answers "sent"
 abbrev pub sentOne : Outcome → ℕ

@@ -57,6 +57,22 @@ apart a (inr u) (inr c) = omega arith
 pub word-untouched : (s v : List ℕ) (p : ℕ) (m : Message) (a : ℕ) → InLayout p m → Untouched a → word (recorded s p m v) a ≡ word s a
 word-untouched s v p m a h u = word-recorded s v p m a (λ c. apart a u (changed-where p m a h c))
 
+-- free words, which settings of later requests take
+no-free : (p : ℕ) (m : Message) (a : ℕ) → InLayout p m → 141 ≤ a → a ≤ 255 → Changed p m a → ⊥
+no-free p (Send i x) a h lo hi (inl e) = omega arith
+no-free p (Send i x) a h lo hi (inr e) = omega arith
+no-free p (Echo i x) a h lo hi (inl e) = omega arith
+no-free p (Echo i x) a h lo hi (inr e) = omega arith
+no-free p (Ready i x) a h lo hi (inl e) = omega arith
+no-free p (Ready i x) a h lo hi (inr e) = omega arith
+no-free p (Est i r b) a h lo hi e = omega arith
+no-free p (Aux i r b) a h lo hi e = omega arith
+no-free p (Commit k) a h lo hi (inl e) = omega arith
+no-free p (Commit k) a h lo hi (inr e) = omega arith
+
+pub word-free : (s v : List ℕ) (p : ℕ) (m : Message) (a : ℕ) → InLayout p m → 141 ≤ a → a ≤ 255 → word (recorded s p m v) a ≡ word s a
+word-free s v p m a h lo hi = word-recorded s v p m a (no-free p m a h lo hi)
+
 -- ---- words of 64 bits
 
 -- the value that is recorded of a message fits

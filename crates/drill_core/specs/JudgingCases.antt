@@ -1,20 +1,27 @@
 -- The cases of the code: numbers that were judged fit the bytes that hold them, and a line goes by its letter.
-use Prim.Native.Nat.{ℕ, _≤_, _^_}
+use Prim.Native.Nat.{ℕ, zero, suc, _*_, _-_, _%_, _^_, _≤_, _<_}
 use mathlib.Core.Bool.{Bool, true, false, not, _&&_}
 use mathlib.Core.Path.{_≡_, refl, sym, _∙_}
 use native.Mathlib.Omega.{arith}
 use lib.Dec.{leb, ltb}
+use lib.Pow.{pow-pos}
 use mir.Val.{Fits}
 use mir.Syntax.{w8, w16, w32}
 use borrow.Author.Tests.{le-leb, eq-eqb, leb-true, ltb-true}
-use Rattle.settings.specs.Bools.{and-left, and-right, not-passed}
+use Rattle.quorum.specs.Bools.{and-left, and-right, not-passed}
 use Rattle.settings.specs.Settings.{validSettings, namedTa, checkSettings}
-use Rattle.settings.specs.Laws.{check-taken, check-refused, rules-valid, valid-rules}
+use Rattle.settings.specs.Laws.{check-taken, check-refused, valid-rules}
 use Rattle.settings.specs.declared.Settings.{Settings}
 use Rattle.settings.specs.declared.Checked.{Checked}
 use Rattle.settings.specs.declared.Checked.the-variants.{Valid, Invalid}
+use Rattle.quorum.specs.Every.{every}
 use Rattle.quorum.specs.Marks.{mark}
+use Rattle.quorum.specs.Ones.{machine-power}
+use Rattle.quorum.specs.Packed.{packed}
 use Rattle.session.specs.Session.{numbered}
+use Rattle.opening.specs.Given.{weightsGiven, weightsWord}
+use Rattle.opening.specs.GivenCases.{weights-many}
+use Rattle.opening.specs.Ones.{onesGiven, ones-word}
 use Rattle.opening.specs.Opening.{openAnswer}
 use Rattle.drill_feeder.specs.declared.Members.{Members}
 use Rattle.drill_lines.specs.declared.Line.{Line}
@@ -24,24 +31,40 @@ use Rattle.drill_core.specs.declared.State.{State}
 use Rattle.drill_core.specs.declared.Verdict.{Verdict}
 use Rattle.drill_core.specs.declared.Verdict.the-variants as verdict
 
+-- the word of n weights of 1
+pub power-some : (n : ℕ) → n ≤ 16 → 1 ≤ (1 * 2 ^ n) % 2 ^ 64
+power-some n h = rw (machine-power n (omega arith)) (pow-pos n)
+
+pub ones-few : (n : ℕ) → n ≤ 16 → (1 * 2 ^ n) % 2 ^ 64 - 1 ≡ weightsWord n (onesGiven n)
+unfolding weightsWord weightsGiven onesGiven every packed
+ones-few zero h = refl
+ones-few (suc n) h = rw (machine-power (suc n) (omega arith)) (sym (ones-word (suc n) (omega arith) h))
+
+pub ones-many : (n : ℕ) → 16 < n → 0 ≡ weightsWord n (onesGiven n)
+unfolding weightsWord
+ones-many n h = rw (← weights-many n (onesGiven n) h)
+
+pub ruleset ones-cases = (power-some, ones-few, ones-many)
+
 -- settings within the rules are taken by opening, and no others
-opens : (n ta ts : ℕ) → validSettings n (namedTa ta) ts ≡ true → openAnswer 2048 n ta ts 1 n ≡ 0
+opens : (n ta ts w : ℕ) → validSettings n (namedTa ta) ts w ≡ true → openAnswer 2048 n ta ts w 1 n ≡ 0
 unfolding openAnswer numbered
-opens n ta ts e =
-    let low : leb 1 n ≡ true = le-leb 1 n (valid-rules n (namedTa ta) ts e .some) in
+opens n ta ts w e =
+    let low : leb 1 n ≡ true = le-leb 1 n (valid-rules n (namedTa ta) ts w e .some) in
     rw (e, low, eq-eqb n n refl)
 
-pub valid-opens : (n ta ts m : ℕ) (c : Checked) (g : Settings) → m ≡ namedTa ta → c ≡ checkSettings n m ts → c ≡ Valid g → true ≡ settingsOpen n ta ts
-unfolding settingsOpen
-valid-opens n ta ts m c g d e f =
-    let v : validSettings n (namedTa ta) ts ≡ true = rw (← d) (rules-valid n m ts (check-taken n m ts g (sym e ∙ f) .rules)) in
-    rw (opens n ta ts v)
+module _ (n ta ts m w : ℕ) (c : Checked) (d : m ≡ namedTa ta) (o : w ≡ weightsWord n (onesGiven n)) (e : c ≡ checkSettings n m ts w) where
+  pub valid-opens : (g : Settings) → c ≡ Valid g → true ≡ settingsOpen n ta ts
+  unfolding settingsOpen
+  valid-opens g f =
+      let v : validSettings n (namedTa ta) ts w ≡ true = rw (← d) (check-taken n m ts w g (sym e ∙ f) .valid) in
+      rw (← o, opens n ta ts w v)
 
-pub invalid-refused : (n ta ts m : ℕ) (c : Checked) → m ≡ namedTa ta → c ≡ checkSettings n m ts → c ≡ Invalid → false ≡ settingsOpen n ta ts
-unfolding settingsOpen openAnswer
-invalid-refused n ta ts m c d e f =
-    let v : validSettings n (namedTa ta) ts ≡ false = rw (← d) (check-refused n m ts (sym e ∙ f)) in
-    rw v
+  pub invalid-refused : c ≡ Invalid → false ≡ settingsOpen n ta ts
+  unfolding settingsOpen openAnswer
+  invalid-refused f =
+      let v : validSettings n (namedTa ta) ts w ≡ false = rw (← d) (check-refused n m ts w (sym e ∙ f)) in
+      rw (← o, v)
 
 pub ruleset open-cases = (valid-opens, invalid-refused)
 

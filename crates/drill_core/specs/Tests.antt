@@ -4,7 +4,7 @@ use mathlib.Core.Bool.{Bool, true, false, not, cond}
 use mathlib.Core.Path.{_≡_, refl, sym, _∙_}
 use lib.Dec.{eqb, ltb}
 use borrow.Author.Tests.{lt-ltb, le-ltb, eq-eqb, ne-eqb}
-use Rattle.settings.specs.Bools.{not-passed, not-refused}
+use Rattle.quorum.specs.Bools.{not-passed, not-refused}
 
 module _ {A : Type 0} (u v z : A) where
   module _ (a b : Bool) (e : a ≡ b) where

@@ -9,6 +9,8 @@ use drill_lines::Line;
 use settings::Checked;
 use settings::Settings;
 ghost use mathlib.Core.Path.{_≡_};
+ghost use Rattle.opening.specs.Given.{weightsWord};
+ghost use Rattle.opening.specs.Ones.{onesGiven};
 ghost use Rattle.drill_core.specs.Judging.{isFirst, isSetup, afterSettings, isBad, isHonest, isLiar, settingsOpen, settingsTaken, judgedN, judgedC, judgedP, judgedT, judgedD, bytesFit, judgedL, judgedR, judged};
 
 fn is_first(x: Phase) -> bool
@@ -67,11 +69,21 @@ fn is_liar(g: Members, p: u64) -> bool
     session::numbered(g.n as u64, p) & !quorum::mark(g.honest, p)
 }
 
+// The word of n weights of 1, and 0 above 16.
+fn ones_word(n: u64) -> u64
+    ensures { λ r. ⌜ r ≡ weightsWord n (onesGiven n) ⌝ }
+{
+    if 16 < n {
+        return 0;
+    }
+    (1 << n) - 1
+}
+
 // Whether opening takes the three numbers as settings.
 fn settings_open(n: u64, ta: u64, ts: u64) -> bool
     ensures { λ r. ⌜ r ≡ settingsOpen n ta ts ⌝ }
 {
-    let c = Settings::check(n, Settings::named_ta(ta), ts);
+    let c = Settings::check(n, Settings::named_ta(ta), ts, ones_word(n));
     match c {
         Checked::Valid(_) => true,
         Checked::Invalid => false,

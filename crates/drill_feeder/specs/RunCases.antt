@@ -7,7 +7,7 @@ use native.Mathlib.Omega.{arith}
 use lib.ListN.{length, drop-of-length-le}
 use lib.Dec.{leb}
 use borrow.Author.Tests.{lt-ltb, le-ltb, le-leb}
-use Rattle.settings.specs.Bools.{not-passed, not-refused}
+use Rattle.quorum.specs.Bools.{not-passed, not-refused}
 use Rattle.quorum.specs.Marks.{mark}
 use Rattle.wire.specs.Bytes.{bytes2, bytes4, bytes8, valueBytes}
 use Rattle.wire.specs.Message.{headerWith, frontBytes, headerBytes, messageBytes, fitting, atFront, Wrote}

@@ -36,7 +36,7 @@ pub fn deliver_to(words: &mut [u64], q: u8, link: u64, bytes: &[u8])
     delivery::deliver(&mut words[from..to], link, bytes);
 }
 
-// Opens session p.
+// Opens session p, with weights of 1.
 pub fn open_at(
     words: &mut [u64],
     p: u8,
@@ -52,6 +52,10 @@ pub fn open_at(
     let a = parts::part_of(words.len(), parts::state_at(p), layout::STATE_WORDS);
     let from = a.start;
     let to = a.end;
+    let ones = [1u8; 16];
+    let b = parts::part_of(16, 0, n as usize);
+    let first = b.start;
+    let last = b.end;
     opening::open(
         &mut words[from..to],
         n,
@@ -61,6 +65,7 @@ pub fn open_at(
         session,
         input,
         coins,
+        &ones[first..last],
     );
 }
 

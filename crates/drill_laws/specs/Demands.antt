@@ -5,6 +5,8 @@ use mathlib.Core.List.{List}
 use mathlib.Core.Path.{_≡_}
 use lib.ListN.{length, take}
 use Rattle.wire.specs.declared.Message.{Message}
+use Rattle.opening.specs.Given.{weightsWord}
+use Rattle.opening.specs.Ones.{onesGiven}
 use Rattle.opening.specs.Opening.{openAnswer}
 use Rattle.turn.specs.Turn.{turnOutcome}
 use Rattle.turn.specs.declared.Outcome.the-variants as outcome
@@ -70,11 +72,12 @@ rounds-end input t k l g =
     let h : SoundDrill x = input-sound input in
     ran-same (membersOf x) (members-few x h) t l k (callMemory x) g (call-sound x h)
 
--- the opening of any of 1 to n with what the N and C lines gave is accepted
+-- the opening of any of 1 to n with what the N and C lines gave, and weights of 1, is accepted
 abbrev OpensAll : Drilling → Type 0
 OpensAll (drilling w m d) =
     afterSettings (d .state .phase) ≡ true → (p : ℕ) → 1 ≤ p → p ≤ d .state .given .members .n →
-    openAnswer (length (stateOf w p)) (d .state .given .members .n) (d .state .given .ta) (d .state .given .ts) p (length (take (d .state .given .members .n) (d .state .given .coins))) ≡ 0
+    openAnswer (length (stateOf w p)) (d .state .given .members .n) (d .state .given .ta) (d .state .given .ts)
+    (weightsWord (d .state .given .members .n) (onesGiven (d .state .given .members .n))) p (length (take (d .state .given .members .n) (d .state .given .coins))) ≡ 0
 
 pub OpeningsAccepted : Type 0
 OpeningsAccepted = (input : List ℕ) → OpensAll (fedBytes startDrilling input)

@@ -9,15 +9,17 @@ use lib.ListN.{length, take, drop}
 use lib.Seq.{getD-take, getD-drop, length-take-le}
 use lib.Dec.{eqb, leb, ltb}
 use borrow.Author.Tests.{le-leb, leb-true, eq-eqb, eqb-true}
-use Rattle.settings.specs.Bools.{and-left, and-right}
-use Rattle.settings.specs.Settings.{namedTa}
+use Rattle.quorum.specs.Bools.{and-left, and-right}
 use Rattle.quorum.specs.Marks.{mark}
 use Rattle.records.specs.Layout.{nAt, turnsAt}
-use Rattle.records.specs.Words.{word, length-put, word-put-same, word-put-other}
-use Rattle.records.specs.Fill.{blank, length-blank, word-blank, length-storeOf, store-other}
+use Rattle.records.specs.Words.{word, length-put}
+use Rattle.records.specs.Fill.{blank, length-blank, word-blank}
 use Rattle.session.specs.Session.{numbered}
-use Rattle.opening.specs.Opening.{openAnswer, coinWord, withSettings, withCoins, openWords, opened}
+use Rattle.opening.specs.Given.{weightsWord}
+use Rattle.opening.specs.Ones.{onesGiven}
+use Rattle.opening.specs.Opening.{openAnswer, openWords, opened}
 use Rattle.opening.specs.Cases.{accepted}
+use Rattle.opening.specs.Laws.{length-first, first-n, first-turns}
 use Rattle.drill_lines.specs.Automaton as lines
 use Rattle.drill_lines.specs.declared.Line.{Line}
 use Rattle.drill_lines.specs.declared.Line.the-variants as line
@@ -41,39 +43,6 @@ use Rattle.drill_laws.specs.States.{length-stateOf, length-withState, st
 use Rattle.drill_laws.specs.Sound.{turnsOf, Sound, deliver-sound}
 use Rattle.drill_laws.specs.Turns.{SoundIn, turned-sound}
 use Rattle.drill_laws.specs.Runs.{steps-keep, if-keep, ran-sound}
-
--- the words of a new state
-module _ (n ta ts own session input : ℕ) (coins : List ℕ) where
-  new-length : length (openWords n ta ts own session input coins) ≡ 2048
-  unfolding openWords withCoins withSettings
-  new-length = length-storeOf _ _ _ n ∙ simp length-put (length-blank 2048)
-
-  new-word : (k : ℕ) → k ≤ 6 → word (openWords n ta ts own session input coins) k ≡ word (withSettings (blank 2048) n (namedTa ta) ts own session input) k
-  unfolding openWords withCoins
-  new-word k l = store-other (coinWord coins) 7 (withSettings (blank 2048) n (namedTa ta) ts own session input) n k (λ j lo hi e. omega arith)
-
-  new-n : word (openWords n ta ts own session input coins) nAt ≡ n
-  unfolding withSettings
-  new-n =
-      new-word 0 (omega arith)
-      ∙ word-put-other _ 5 _ 0 (λ e. omega arith)
-      ∙ word-put-other _ 4 _ 0 (λ e. omega arith)
-      ∙ word-put-other _ 3 _ 0 (λ e. omega arith)
-      ∙ word-put-other _ 2 _ 0 (λ e. omega arith)
-      ∙ word-put-other _ 1 _ 0 (λ e. omega arith)
-      ∙ word-put-same (blank 2048) 0 n (rw length-blank (omega arith))
-
-  new-turns : word (openWords n ta ts own session input coins) turnsAt ≡ 0
-  unfolding withSettings
-  new-turns =
-      new-word 6 (omega arith)
-      ∙ word-put-other _ 5 _ 6 (λ e. omega arith)
-      ∙ word-put-other _ 4 _ 6 (λ e. omega arith)
-      ∙ word-put-other _ 3 _ 6 (λ e. omega arith)
-      ∙ word-put-other _ 2 _ 6 (λ e. omega arith)
-      ∙ word-put-other _ 1 _ 6 (λ e. omega arith)
-      ∙ word-put-other _ 0 _ 6 (λ e. omega arith)
-      ∙ word-blank 2048 6 (omega arith)
 
 -- before a message is sent a state may be replaced by any that is within the bounds
 reset : (w m : List ℕ) (c : Counts) (p : ℕ) → 1 ≤ p → p ≤ 4 → Sound w m c → c .sent ≡ 0 → (s : List ℕ) → length s ≡ 2048 → word s nAt ≤ 4 → word s turnsAt ≤ 400 →
@@ -99,10 +68,15 @@ reset w m c p lo hi h z s size n turns =
 open-sound : (w m coins : List ℕ) (c : Counts) (p n ta ts session input : ℕ) → 1 ≤ p → p ≤ 4 → n ≤ 4 → Sound w m c → c .sent ≡ 0 →
     Sound (openedAt w p n ta ts session input coins) m c
 unfolding openedAt opened turnsOf
-open-sound w m coins c p n ta ts session input lo hi few h z = go (eqb (openAnswer (length (stateOf w p)) n ta ts p (length coins)) 0)
+open-sound w m coins c p n ta ts session input lo hi few h z = go (eqb (openAnswer (length (stateOf w p)) n ta ts ones p (length coins)) 0)
   where
-    go : (b : Bool) → Sound (withState w p (cond b (openWords n ta ts p session input coins) (stateOf w p))) m c
-    go true = reset w m c p lo hi h z (openWords n ta ts p session input coins) (new-length n ta ts p session input coins) (rw new-n few) (rw new-turns (omega arith))
+    ones : ℕ
+    ones = weightsWord n (onesGiven n)
+
+    go : (b : Bool) → Sound (withState w p (cond b (openWords n ta ts ones p session input coins) (stateOf w p))) m c
+    go true =
+        reset w m c p lo hi h z (openWords n ta ts ones p session input coins) (length-first n ta ts ones p session input coins)
+        (rw first-n few) (rw first-turns (omega arith))
     go false = reset w m c p lo hi h z (stateOf w p) (length-stateOf w p (h .words) lo hi) (h .few p lo hi) (h .bound p lo hi)
 
 opened-sound : (w m : List ℕ) (c : Counts) (g : Given) → g .members .n ≤ 4 → Sound w m c → c .sent ≡ 0 → Sound (openedAll g w) m c
@@ -344,9 +318,10 @@ input-sound input = all-fed-sound startDrilling input start-sound
 
 -- the openings of the honest ones are accepted
 pub opening-accepted : (w : List ℕ) (g : Given) (p : ℕ) → length w ≡ 8192 → g .members .n ≤ 4 → Openable g → 1 ≤ p → p ≤ g .members .n →
-    openAnswer (length (stateOf w p)) (g .members .n) (g .ta) (g .ts) p (length (take (g .members .n) (g .coins))) ≡ 0
+    openAnswer (length (stateOf w p)) (g .members .n) (g .ta) (g .ts) (weightsWord (g .members .n) (onesGiven (g .members .n))) p (length (take (g .members .n) (g .coins))) ≡ 0
 unfolding settingsOpen openAnswer numbered
 opening-accepted w g p size few o lo hi =
     let n : ℕ = g .members .n in
-    let v = accepted 2048 n (g .ta) (g .ts) 1 n (eqb-true (openAnswer 2048 n (g .ta) (g .ts) 1 n) 0 (o .settings)) .valid in
+    let ones : ℕ = weightsWord n (onesGiven n) in
+    let v = accepted 2048 n (g .ta) (g .ts) ones 1 n (eqb-true (openAnswer 2048 n (g .ta) (g .ts) ones 1 n) 0 (o .settings)) .valid in
     rw (length-stateOf w p size lo (omega arith), v, le-leb 1 p lo, le-leb p n hi, length-take-le n (g .coins) (omega (arith, o .coins)), eq-eqb n n refl)

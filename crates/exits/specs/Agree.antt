@@ -6,13 +6,15 @@ use mathlib.Core.Path.{_≡_, refl, sym, ap, _∙_}
 use native.Mathlib.Omega.{arith}
 use lib.Dec.{leb, ltb}
 use borrow.Author.Tests.{leb-true, lt-ltb, eqb-true, eq-eqb}
-use Rattle.settings.specs.Bools.{and-left, and-right, and-both}
+use Rattle.quorum.specs.Bools.{and-left, and-right, and-both}
 use Rattle.settings.specs.Settings.{voteQuorum}
 use Rattle.settings.specs.Laws.{Ruled}
 use Rattle.settings.specs.Thresholds.{quorum-reached, vote-quorum-reached}
 use Rattle.settings.specs.declared.Settings.{Settings}
-use Rattle.quorum.specs.Total.{count, everyone}
-use Rattle.quorum.specs.TotalLaws.{Member, total-member, total-meet, total-meet-in, total-mono, count-everyone}
+use Rattle.quorum.specs.Total.{everyone}
+use Rattle.quorum.specs.Weights.{weightOf, weigh}
+use Rattle.quorum.specs.Whole.{wholeOf}
+use Rattle.quorum.specs.TotalLaws.{Member, total-member, total-meet, total-meet-in, total-mono}
 use Rattle.quorum.specs.Lowest.{lowest-none}
 use Rattle.quorum.specs.Every.{every, every-each}
 use Rattle.broadcasts.specs.Leading.{present}
@@ -84,7 +86,7 @@ both s v i = s .as1 i && hasValue (s .out i) v
 
 module _ (g : Settings) where
   abbrev pub C : (ℕ → Bool) → ℕ
-  C M = count M (g .n)
+  C M = weigh (g .weights) M (g .n)
 
   abbrev pub Done : Standing → Type 0
   Done s = votesDone g (s .as0) (s .as1) ≡ true
@@ -96,7 +98,7 @@ module _ (g : Settings) where
   NoMajority s = exit2At g (s .out) (s .as1) ≡ 0
 
   module _ (s : Standing) where
-    pub first-many : (v : ℕ) → First g (s .out) v → g .n ≤ C (holding s v) + g .ts
+    pub first-many : (v : ℕ) → First g (s .out) v → g .whole ≤ C (holding s v) + g .ts
     unfolding withOutput
     first-many v f = quorum-reached g (C (holding s v)) (f .many)
 
@@ -104,7 +106,7 @@ module _ (g : Settings) where
     unfolding withOutput sizeS
     second-more v f = f .more
 
-    pub done-size : Done s → g .n ≤ C (s .as1) + g .ta
+    pub done-size : Done s → g .whole ≤ C (s .as1) + g .ta
     unfolding votesDone sizeS
     done-size d = vote-quorum-reached g (C (s .as1)) (leb-true (voteQuorum g) (C (s .as1)) (and-left _ (every (λ i. s .as0 i || s .as1 i) (g .n)) d))
 
@@ -119,7 +121,7 @@ module _ (g : Settings) where
     -- no majority, and yet one
     pub no-majority : NoMajority s → (v : ℕ) → C (s .as1) < 2 * C (both s v) → ⊥
     unfolding exit2At withOutput sizeS
-    no-majority z v l = at (total-member (λ p. 1) (both s v) (g .n) (omega arith))
+    no-majority z v l = at (total-member (weightOf (g .weights)) (both s v) (g .n) (omega arith))
       where
         test : ℕ → Bool
         test i = s .as1 i && (present (s .out i) && ltb (sizeS g (s .as1)) (2 * withOutput g (s .out) (s .as1) (valueIn (s .out i))))
@@ -135,8 +137,8 @@ module _ (g : Settings) where
 -- both standings at once
 module _ (g : Settings) (s t : Standing) (c : Compatible (g .n) s t) where
   -- a number that two sets of broadcasts share has one output
-  meets : (u v : ℕ) (M K : ℕ → Bool) → ((i : ℕ) → M i ≡ true → holding s u i ≡ true) → ((i : ℕ) → K i ≡ true → holding t v i ≡ true) → 0 < count (λ i. M i && K i) (g .n) → u ≡ v
-  meets u v M K f k l = at (total-member (λ p. 1) (λ i. M i && K i) (g .n) l)
+  meets : (u v : ℕ) (M K : ℕ → Bool) → ((i : ℕ) → M i ≡ true → holding s u i ≡ true) → ((i : ℕ) → K i ≡ true → holding t v i ≡ true) → 0 < weigh (g .weights) (λ i. M i && K i) (g .n) → u ≡ v
+  meets u v M K f k l = at (total-member (weightOf (g .weights)) (λ i. M i && K i) (g .n) l)
     where
       at : Member (g .n) (λ i. M i && K i) → u ≡ v
       at m =
@@ -155,18 +157,19 @@ module _ (g : Settings) (s t : Standing) (c : Compatible (g .n) s t) where
       and-both (t .as1 i) (holding t v i) x (value-has (t .out i) v (output ∙ ap Value (sym e)))
 
 module _ (g : Settings) (r : Ruled g) (s t : Standing) (c : Compatible (g .n) s t) where
-  whole : count everyone (g .n) ≡ g .n
-  whole = count-everyone (g .n)
+  whole : weigh (g .weights) everyone (g .n) ≡ g .whole
+  unfolding wholeOf
+  whole = sym (r .sum)
 
   case11 : (u v : ℕ) → First g (s .out) u → First g (t .out) v → u ≡ v
   case11 u v x y =
       meets g s t c u v (holding s u) (holding t v) (λ i k. k) (λ i k. k)
-      (omega (arith, r .margin, whole, first-many g s u x, first-many g t v y, total-meet (λ p. 1) (holding s u) (holding t v) (g .n)))
+      (omega (arith, r .margin, whole, first-many g s u x, first-many g t v y, total-meet (weightOf (g .weights)) (holding s u) (holding t v) (g .n)))
 
   case12 : (u v : ℕ) → First g (s .out) u → Done g t → Second g (t .out) (t .as1) v → u ≡ v
   case12 u v x d y =
       meets g s t c u v (holding s u) (both t v) (λ i k. k) (λ i k. and-right (t .as1 i) (holding t v i) k)
-      (omega (arith, r .margin, whole, first-many g s u x, second-more g t v y, done-size g t d, total-meet (λ p. 1) (holding s u) (both t v) (g .n)))
+      (omega (arith, r .margin, whole, first-many g s u x, second-more g t v y, done-size g t d, total-meet (weightOf (g .weights)) (holding s u) (both t v) (g .n)))
 
   case13 : (u : ℕ) → First g (s .out) u → Done g t → NoMajority g t → Full g t → ⊥
   case13 u x d z f =
@@ -177,8 +180,8 @@ module _ (g : Settings) (r : Ruled g) (s t : Standing) (c : Compatible (g .n) s 
         whole,
         first-many g s u x,
         done-size g t d,
-        total-meet (λ p. 1) (t .as1) (holding s u) (g .n),
-        total-mono (λ p. 1) (λ i. t .as1 i && holding s u i) (both t u) (g .n)
+        total-meet (weightOf (g .weights)) (t .as1) (holding s u) (g .n),
+        total-mono (weightOf (g .weights)) (λ i. t .as1 i && holding s u i) (both t u) (g .n)
             (λ i a b k. carried g s t c f u i a b (and-left (t .as1 i) (holding s u i) k) (and-right (t .as1 i) (holding s u i) k)),
       ))
 
@@ -193,8 +196,8 @@ module _ (g : Settings) (r : Ruled g) (s t : Standing) (c : Compatible (g .n) s 
         arith,
         second-more g s u x,
         second-more g t v y,
-        total-meet-in (λ p. 1) (both s u) (both t v) (t .as1) (g .n) (λ i a b k. into-s g s t c e i a b (and-left (s .as1 i) (holding s u i) k)) (λ i a b k. and-left (t .as1 i) (holding t v i) k),
-        total-mono (λ p. 1) (t .as1) (s .as1) (g .n) (into-s g t s (turned c) d),
+        total-meet-in (weightOf (g .weights)) (both s u) (both t v) (t .as1) (g .n) (λ i a b k. into-s g s t c e i a b (and-left (s .as1 i) (holding s u i) k)) (λ i a b k. and-left (t .as1 i) (holding t v i) k),
+        total-mono (weightOf (g .weights)) (t .as1) (s .as1) (g .n) (into-s g t s (turned c) d),
       ))
 
   case23 : (u : ℕ) → Done g s → Second g (s .out) (s .as1) u → Done g t → NoMajority g t → Full g t → ⊥
@@ -203,8 +206,8 @@ module _ (g : Settings) (r : Ruled g) (s t : Standing) (c : Compatible (g .n) s 
       (omega (
         arith,
         second-more g s u x,
-        total-mono (λ p. 1) (t .as1) (s .as1) (g .n) (into-s g t s (turned c) d),
-        total-mono (λ p. 1) (both s u) (both t u) (g .n)
+        total-mono (weightOf (g .weights)) (t .as1) (s .as1) (g .n) (into-s g t s (turned c) d),
+        total-mono (weightOf (g .weights)) (both s u) (both t u) (g .n)
             (λ i a b k. carried g s t c f u i a b (into-s g s t c e i a b (and-left (s .as1 i) (holding s u i) k)) (and-right (s .as1 i) (holding s u i) k)),
       ))
 

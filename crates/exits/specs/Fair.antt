@@ -2,13 +2,15 @@
 use Prim.Native.Nat.{ℕ, _+_, _<_, _≤_}
 use mathlib.Core.Bool.{Bool, true, not, _&&_}
 use mathlib.Core.List.{List, [], _∷_, List·Memᴰ, List·Memᴰ·head}
-use mathlib.Core.Path.{_≡_, refl, ap, _∙_}
+use mathlib.Core.Path.{_≡_, refl, sym, ap, _∙_}
 use native.Mathlib.Omega.{arith}
-use Rattle.settings.specs.Bools.{and-left, and-right, and-both}
+use Rattle.quorum.specs.Bools.{and-left, and-right, and-both}
 use Rattle.settings.specs.Laws.{Ruled}
 use Rattle.settings.specs.declared.Settings.{Settings}
-use Rattle.quorum.specs.Total.{count, everyone}
-use Rattle.quorum.specs.TotalLaws.{Member, total-member, total-meet, total-mono, total-not, count-everyone}
+use Rattle.quorum.specs.Total.{everyone}
+use Rattle.quorum.specs.Weights.{weightOf, weigh}
+use Rattle.quorum.specs.Whole.{wholeOf}
+use Rattle.quorum.specs.TotalLaws.{Member, total-member, total-meet, total-mono, total-not}
 use Rattle.broadcasts.specs.declared.Output.the-variants.{Value}
 use Rattle.exits.specs.Exits.{valueIn, outputsOfS}
 use Rattle.exits.specs.Rising.{outputs-has}
@@ -29,16 +31,17 @@ pub record Witness (g : Settings) (good : ℕ → Bool) (s : Standing) (X : List
   pub source : Fair g good s value
   pub holds : List·Memᴰ value X
 
-module _ (g : Settings) (r : Ruled g) (good : ℕ → Bool) (few : count (λ i. not (good i)) (g .n) ≤ g .ts) (s : Standing) where
-  whole : count everyone (g .n) ≡ g .n
-  whole = count-everyone (g .n)
+module _ (g : Settings) (r : Ruled g) (good : ℕ → Bool) (few : weigh (g .weights) (λ i. not (good i)) (g .n) ≤ g .ts) (s : Standing) where
+  whole : weigh (g .weights) everyone (g .n) ≡ g .whole
+  unfolding wholeOf
+  whole = sym (r .sum)
 
-  heavy : g .n ≤ count good (g .n) + g .ts
-  heavy = omega (arith, total-not (λ p. 1) good (g .n), whole)
+  heavy : g .whole ≤ weigh (g .weights) good (g .n) + g .ts
+  heavy = omega (arith, total-not (weightOf (g .weights)) good (g .n), whole)
 
   -- more than ts broadcasts with output v have a good one among them
-  fair-holder : (v : ℕ) (M : ℕ → Bool) → ((i : ℕ) → M i ≡ true → holding s v i ≡ true) → g .ts < count M (g .n) → Fair g good s v
-  fair-holder v M f l = at (total-member (λ p. 1) (λ i. M i && good i) (g .n) (omega (arith, total-meet (λ p. 1) M good (g .n), heavy, whole)))
+  fair-holder : (v : ℕ) (M : ℕ → Bool) → ((i : ℕ) → M i ≡ true → holding s v i ≡ true) → g .ts < weigh (g .weights) M (g .n) → Fair g good s v
+  fair-holder v M f l = at (total-member (weightOf (g .weights)) (λ i. M i && good i) (g .n) (omega (arith, total-meet (weightOf (g .weights)) M good (g .n), heavy, whole)))
     where
       at : Member (g .n) (λ i. M i && good i) → Fair g good s v
       at m =
@@ -58,7 +61,7 @@ module _ (g : Settings) (r : Ruled g) (good : ℕ → Bool) (few : count (λ i. 
 
   fair3 : Done g s → Full g s → Witness g good s (outputsOfS (s .out) (s .as1) (g .n))
   fair3 d f =
-      at (total-member (λ p. 1) (λ i. s .as1 i && good i) (g .n) (omega (arith, r .margin, total-meet (λ p. 1) (s .as1) good (g .n), heavy, whole, done-size g s d)))
+      at (total-member (weightOf (g .weights)) (λ i. s .as1 i && good i) (g .n) (omega (arith, r .margin, total-meet (weightOf (g .weights)) (s .as1) good (g .n), heavy, whole, done-size g s d)))
     where
       at : Member (g .n) (λ i. s .as1 i && good i) → Witness g good s (outputsOfS (s .out) (s .as1) (g .n))
       at m =
@@ -105,8 +108,8 @@ module _ (g : Settings) (r : Ruled g) (good : ℕ → Bool) (few : count (λ i. 
         (omega (
           arith,
           r .margin,
-          total-meet (λ p. 1) (s .as1) good (g .n),
-          total-mono (λ p. 1) (λ i. s .as1 i && good i) (both s v) (g .n) (good-holds f),
+          total-meet (weightOf (g .weights)) (s .as1) good (g .n),
+          total-mono (weightOf (g .weights)) (λ i. s .as1 i && good i) (both s v) (g .n) (good-holds f),
           heavy,
           whole,
           done-size g s d,

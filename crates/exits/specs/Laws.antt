@@ -8,10 +8,10 @@ use native.Mathlib.Omega.{arith}
 use lib.Dec.{eqb, leb, ltb}
 use lib.ListN.{length}
 use borrow.Author.Tests.{leb-true, ne-eqb, eqb-false}
-use Rattle.settings.specs.Bools.{and-left}
+use Rattle.quorum.specs.Bools.{and-left}
 use Rattle.settings.specs.Settings.{quorum, voteQuorum}
 use Rattle.settings.specs.declared.Settings.{Settings}
-use Rattle.quorum.specs.Total.{count}
+use Rattle.quorum.specs.Weights.{weightOf, weigh}
 use Rattle.quorum.specs.TotalLaws.{Member, total-agree, total-member}
 use Rattle.quorum.specs.Lowest.{lowest-agree, lowest-le}
 use Rattle.quorum.specs.Every.{every, every-each, every-agree}
@@ -92,7 +92,7 @@ module _ (g : Settings) (o : ℕ → Output) (as0 as1 : ℕ → Bool) where
   -- and, where S cannot be empty, at least one
   outputs-there : 1 ≤ voteQuorum g → votesDone g as0 as1 ≡ true → exit3Full g o as1 ≡ true → 1 ≤ length (outputsOfS o as1 (g .n))
   unfolding votesDone sizeS exit3Full
-  outputs-there q d f = of (total-member (λ p. 1) as1 (g .n) (omega (arith, leb-true (voteQuorum g) (count as1 (g .n)) (and-left _ _ d))))
+  outputs-there q d f = of (total-member (weightOf (g .weights)) as1 (g .n) (omega (arith, leb-true (voteQuorum g) (weigh (g .weights) as1 (g .n)) (and-left _ _ d))))
     where
       of : Member (g .n) as1 → 1 ≤ length (outputsOfS o as1 (g .n))
       of m =
@@ -121,11 +121,11 @@ exit2-le g o as1 = lowest-le _ (g .n)
 module _ (g : Settings) (o p : ℕ → Output) (as0 as1 bs0 bs1 : ℕ → Bool) (same : (i : ℕ) → 1 ≤ i → i ≤ g .n → o i ≡ p i) (same1 : (i : ℕ) → 1 ≤ i → i ≤ g .n → as1 i ≡ bs1 i) where
   with-agree : (test rest : ℕ → Bool) (v : ℕ) → ((i : ℕ) → 1 ≤ i → i ≤ g .n → test i ≡ rest i) → withOutput g o test v ≡ withOutput g p rest v
   unfolding withOutput
-  with-agree test rest v h = total-agree (λ k. 1) (λ i. test i && hasValue (o i) v) (λ i. rest i && hasValue (p i) v) (g .n) (λ i a b. rw (same i a b, h i a b))
+  with-agree test rest v h = total-agree (weightOf (g .weights)) (λ i. test i && hasValue (o i) v) (λ i. rest i && hasValue (p i) v) (g .n) (λ i a b. rw (same i a b, h i a b))
 
   size-agree : sizeS g as1 ≡ sizeS g bs1
   unfolding sizeS
-  size-agree = total-agree (λ k. 1) as1 bs1 (g .n) same1
+  size-agree = total-agree (weightOf (g .weights)) as1 bs1 (g .n) same1
 
   pub exit1-agree : exit1At g o ≡ exit1At g p
   unfolding exit1At

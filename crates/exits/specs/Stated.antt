@@ -8,7 +8,7 @@ use lib.Dec.{eqb, leb, ltb}
 use lib.ListN.{length, take}
 use lib.Seq.{length-take-le}
 use borrow.Author.Tests.{not-true, not-false, ne-eqb, eqb-true, eqb-false}
-use Rattle.settings.specs.Bools.{and-left, and-right}
+use Rattle.quorum.specs.Bools.{and-left, and-right}
 use Rattle.settings.specs.Settings.{quorum}
 use Rattle.settings.specs.declared.Settings.{Settings}
 use Rattle.quorum.specs.Lowest.{lowest, Lowest, lowest-is}

@@ -6,7 +6,7 @@ use mathlib.Core.Path.{_≡_, refl}
 use native.Mathlib.Omega.{arith}
 use lib.Dec.{eqb, leb, ltb}
 use borrow.Author.Tests.{leb-true, ltb-true, eqb-true, eqb-false}
-use Rattle.settings.specs.Bools.{and-left, and-right}
+use Rattle.quorum.specs.Bools.{and-left, and-right}
 use Rattle.settings.specs.Settings.{quorum}
 use Rattle.settings.specs.declared.Settings.{Settings}
 use Rattle.quorum.specs.Lowest.{Lowest, lowest-is}

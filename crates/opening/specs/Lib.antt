@@ -1,3 +1,7 @@
+pub mod Given
 pub mod Opening
+pub mod GivenCases
 pub mod Cases
 pub mod Laws
+pub mod GivenLaws
+pub mod Ones

@@ -1,45 +1,42 @@
--- Opening: its answer, and the words of a new state.
+-- Opening: its answer, and the words of a new state. w are the weights as one word (opening/Given).
 use Prim.Native.Nat.{ℕ, _+_, _-_}
 use mathlib.Core.Bool.{Bool, cond, not}
 use mathlib.Core.List.{List}
-use lib.ListN.{length, getD}
+use lib.ListN.{length}
 use lib.Dec.{eqb}
 use Rattle.settings.specs.Refusals.{SETTINGS, NO-STATE}
 use Rattle.settings.specs.Settings.{validSettings, namedTa}
-use Rattle.records.specs.Layout.{stateWords, nAt, taAt, tsAt, ownAt, sessionAt, inputAt, coinAt}
+use Rattle.records.specs.Layout.{stateWords, nAt, taAt, tsAt, ownAt, sessionAt, inputAt, weightsAt, coinAt}
 use Rattle.records.specs.Words.{word, put}
 use Rattle.records.specs.Fill.{blank, storeOf}
 use Rattle.session.specs.Session.{numbered}
+use Rattle.opening.specs.Given.{item}
 
 -- "Order: opening 9 (word count only), 1."; 0 is accepted
--- "1 SETTINGS: a setting or own number outside the rules above, or not exactly n coin words."
-unfoldable pub openAnswer : ℕ → ℕ → ℕ → ℕ → ℕ → ℕ → ℕ
-openAnswer words n ta ts own coinWords =
+-- "1 SETTINGS: a setting or own number outside the rules above, or not exactly n coin words."; "not exactly n weights is refused as 1"
+unfoldable pub openAnswer : ℕ → ℕ → ℕ → ℕ → ℕ → ℕ → ℕ → ℕ
+openAnswer words n ta ts w own coinWords =
     cond (not (eqb words stateWords)) NO-STATE
-    (cond (not (validSettings n (namedTa ta) ts)) SETTINGS
+    (cond (not (validSettings n (namedTa ta) ts w)) SETTINGS
     (cond (not (numbered n own)) SETTINGS
     (cond (not (eqb coinWords n)) SETTINGS
     0)))
 
--- coin word i, from 1
-unfoldable pub coinWord : List ℕ → ℕ → ℕ
-coinWord coins i = cond (eqb i 0) 0 (word coins (i - 1))
-
--- the settings, the own number, the session number and the own input
-unfoldable pub withSettings : List ℕ → ℕ → ℕ → ℕ → ℕ → ℕ → ℕ → List ℕ
-withSettings s n ta ts own session input =
-    put (put (put (put (put (put s nAt n) taAt ta) tsAt ts) ownAt own) sessionAt session) inputAt input
+-- the settings, the own number, the session number, the own input and the weights
+unfoldable pub withSettings : List ℕ → ℕ → ℕ → ℕ → ℕ → ℕ → ℕ → ℕ → List ℕ
+withSettings s n ta ts w own session input =
+    put (put (put (put (put (put (put s nAt n) taAt ta) tsAt ts) ownAt own) sessionAt session) inputAt input) weightsAt w
 
 -- "n coin words": word i is that of vote i
 unfoldable pub withCoins : List ℕ → List ℕ → ℕ → List ℕ
-withCoins s coins n = storeOf (coinWord coins) (coinAt 0) s n
+withCoins s coins n = storeOf (item coins) (coinAt 0) s n
 
 -- "Opening sets all of it.": what is not given is 0
-unfoldable pub openWords : ℕ → ℕ → ℕ → ℕ → ℕ → ℕ → List ℕ → List ℕ
-openWords n ta ts own session input coins =
-    withCoins (withSettings (blank stateWords) n (namedTa ta) ts own session input) coins n
+unfoldable pub openWords : ℕ → ℕ → ℕ → ℕ → ℕ → ℕ → ℕ → List ℕ → List ℕ
+openWords n ta ts w own session input coins =
+    withCoins (withSettings (blank stateWords) n (namedTa ta) ts w own session input) coins n
 
 -- the words after an opening, accepted or not
-unfoldable pub opened : List ℕ → ℕ → ℕ → ℕ → ℕ → ℕ → ℕ → List ℕ → List ℕ
-opened s n ta ts own session input coins =
-    cond (eqb (openAnswer (length s) n ta ts own (length coins)) 0) (openWords n ta ts own session input coins) s
+unfoldable pub opened : List ℕ → ℕ → ℕ → ℕ → ℕ → ℕ → ℕ → ℕ → List ℕ → List ℕ
+opened s n ta ts w own session input coins =
+    cond (eqb (openAnswer (length s) n ta ts w own (length coins)) 0) (openWords n ta ts w own session input coins) s

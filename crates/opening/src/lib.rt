@@ -1,4 +1,6 @@
 // Opening: the verdict, then the words of a new state.
+mod weights;
+
 use records::layout;
 use settings::Checked;
 use settings::Settings;
@@ -8,13 +10,14 @@ ghost use Prim.Native.Nat.{_≤_};
 ghost use lib.ListN.{length};
 ghost use Rattle.settings.specs.Settings.{validSettings};
 ghost use Rattle.records.specs.Fill.{blank};
-ghost use Rattle.opening.specs.Opening.{openAnswer, coinWord, withSettings, withCoins, opened};
+ghost use Rattle.opening.specs.Opening.{openAnswer, withSettings, withCoins, opened};
+ghost use Rattle.opening.specs.Given.{item, weightsWord};
 
-// Whether the three numbers are settings of a session.
-fn settings_valid(n: u64, ta: u64, ts: u64) -> bool
-    ensures { λ r. ⌜ r ≡ validSettings n ta ts ⌝ }
+// Whether the numbers and the word of weights are settings of a session.
+fn settings_valid(n: u64, ta: u64, ts: u64, weights: u64) -> bool
+    ensures { λ r. ⌜ r ≡ validSettings n ta ts weights ⌝ }
 {
-    let c = Settings::check(n, ta, ts);
+    let c = Settings::check(n, ta, ts, weights);
     match c {
         Checked::Valid(_) => true,
         Checked::Invalid => false,
@@ -22,13 +25,13 @@ fn settings_valid(n: u64, ta: u64, ts: u64) -> bool
 }
 
 // The answer: 0, or the number of the refusal.
-fn open_answer(words: usize, n: u64, ta: u64, ts: u64, own: u64, coins: usize) -> u64
-    ensures { λ r. ⌜ r ≡ openAnswer words n ta ts own coins ⌝ }
+fn open_answer(words: usize, n: u64, ta: u64, ts: u64, weights: u64, own: u64, coins: usize) -> u64
+    ensures { λ r. ⌜ r ≡ openAnswer words n ta ts weights own coins ⌝ }
 {
     if words != layout::STATE_WORDS {
         return refusal::NO_STATE;
     }
-    if !settings_valid(n, Settings::named_ta(ta), ts) {
+    if !settings_valid(n, Settings::named_ta(ta), ts, weights) {
         return refusal::SETTINGS;
     }
     if !session::numbered(n, own) {
@@ -51,8 +54,17 @@ fn clear(s: &mut [u64])
     }
 }
 
-fn put_settings(s: &mut [u64], n: u64, ta: u64, ts: u64, own: u64, session: u32, input: u64)
-    ensures { λ _. ⌜ now (s .exit) ≡ withSettings (now (s .entry)) n ta ts own session input ⌝ }
+fn put_settings(
+    s: &mut [u64],
+    n: u64,
+    ta: u64,
+    ts: u64,
+    weights: u64,
+    own: u64,
+    session: u32,
+    input: u64,
+)
+    ensures { λ _. ⌜ now (s .exit) ≡ withSettings (now (s .entry)) n ta ts weights own session input ⌝ }
 {
     records::put(s, layout::N, n);
     records::put(s, layout::TA, ta);
@@ -60,6 +72,7 @@ fn put_settings(s: &mut [u64], n: u64, ta: u64, ts: u64, own: u64, session: u32,
     records::put(s, layout::OWN, own);
     records::put(s, layout::SESSION, session as u64);
     records::put(s, layout::INPUT, input);
+    records::put(s, layout::WEIGHTS, weights);
 }
 
 fn wide(x: u32) -> u64
@@ -70,7 +83,7 @@ fn wide(x: u32) -> u64
 
 // Coin word i, and 0 where there is none.
 fn coin_word(coins: &[u32], i: u8) -> u64
-    ensures { λ r. ⌜ r ≡ coinWord (now (coins .entry)) i ⌝ }
+    ensures { λ r. ⌜ r ≡ item (now (coins .entry)) i ⌝ }
 {
     if i < 1 {
         return 0;
@@ -89,6 +102,39 @@ fn put_coins(s: &mut [u64], coins: &[u32], n: u8)
     }
 }
 
+// Opens a session with the weights as one word, and answers 0 or the number of the refusal.
+fn open_weighted(
+    state: &mut [u64],
+    n: u64,
+    ta: u64,
+    ts: u64,
+    weights: u64,
+    own: u64,
+    session: u32,
+    input: u64,
+    coins: &[u32],
+) -> u64
+    ensures answer { λ r. ⌜ r ≡ openAnswer (length (now (state .entry))) n ta ts weights own (length (now (coins .entry))) ⌝ }
+    ensures words { λ _. ⌜ now (state .exit) ≡ opened (now (state .entry)) n ta ts weights own session input (now (coins .entry)) ⌝ }
+{
+    let answer = open_answer(state.len(), n, ta, ts, weights, own, coins.len());
+    if answer == 0 {
+        clear(state);
+        put_settings(
+            state,
+            n,
+            Settings::named_ta(ta),
+            ts,
+            weights,
+            own,
+            session,
+            input,
+        );
+        put_coins(state, coins, n as u8);
+    }
+    answer
+}
+
 // Opens a session in the lent words, and answers 0 or the number of the refusal.
 pub fn open(
     state: &mut [u64],
@@ -99,15 +145,11 @@ pub fn open(
     session: u32,
     input: u64,
     coins: &[u32],
+    weights: &[u8],
 ) -> u64
-    ensures answer { λ r. ⌜ r ≡ openAnswer (length (now (state .entry))) n ta ts own (length (now (coins .entry))) ⌝ }
-    ensures words { λ _. ⌜ now (state .exit) ≡ opened (now (state .entry)) n ta ts own session input (now (coins .entry)) ⌝ }
+    ensures answer { λ r. ⌜ r ≡ openAnswer (length (now (state .entry))) n ta ts (weightsWord n (now (weights .entry))) own (length (now (coins .entry))) ⌝ }
+    ensures words { λ _. ⌜ now (state .exit) ≡ opened (now (state .entry)) n ta ts (weightsWord n (now (weights .entry))) own session input (now (coins .entry)) ⌝ }
 {
-    let answer = open_answer(state.len(), n, ta, ts, own, coins.len());
-    if answer == 0 {
-        clear(state);
-        put_settings(state, n, Settings::named_ta(ta), ts, own, session, input);
-        put_coins(state, coins, n as u8);
-    }
-    answer
+    let w = weights::weights_word(n, weights);
+    open_weighted(state, n, ta, ts, w, own, session, input, coins)
 }

@@ -5,7 +5,7 @@ use mathlib.Core.Path.{_≡_, refl, sym, ap, subst, _∙_}
 use native.Mathlib.Omega.{arith}
 use native.Mathlib.Decide.{decLe}
 use borrow.Author.Tests.{not-true, not-false}
-use Rattle.settings.specs.Bools.{and-left, and-right, and-both}
+use Rattle.quorum.specs.Bools.{and-left, and-right, and-both}
 use Rattle.quorum.specs.Lowest.{Passed}
 
 unfoldable pub every : (ℕ → Bool) → ℕ → Bool

@@ -4,7 +4,7 @@ use mathlib.Core.Bool.{Bool, true, false, cond}
 use mathlib.Core.Path.{_≡_, refl, sym, subst, _∙_}
 use mathlib.Core.Logic.{_≢_}
 use native.Mathlib.Omega.{arith}
-use native.Mathlib.Decide.{decLe, ℕ-discrete}
+use native.Mathlib.Decide.{decLe}
 use lib.Dec.{eqb}
 use borrow.Author.Tests.{ne-eqb, eqb-true, eqb-false}
 
@@ -100,17 +100,6 @@ module _ (f : ℕ → Bool) where
       go false e = lowest-is n (lowest f n) refl (eqb-false (lowest f n) 0 e) .high
 
 -- properties that agree on 1 to n have the same lowest
--- where none of 1 to n passes unless one of 1 to k does
-pub lowest-shorter : (f : ℕ → Bool) (k n : ℕ) → k ≤ n → (None f k → None f n) → lowest f k ≡ lowest f n
-lowest-shorter f k n l h = at (ℕ-discrete (lowest f k) 0)
-  where
-    found : (p : ℕ) → Lowest f k p → p ≡ lowest f n
-    found p x = sym (lowest-at f n p (record { low = x .low; high = omega (arith, x .high); holds = x .holds; first = x .first }))
-
-    at : Dec (lowest f k ≡ 0) → lowest f k ≡ lowest f n
-    at (yes e) = e ∙ sym (none-lowest f n (h (lowest-none f k e)))
-    at (no ne) = found (lowest f k) (lowest-is f k (lowest f k) refl ne)
-
 pub lowest-agree : (f g : ℕ → Bool) (n : ℕ) → ((p : ℕ) → 1 ≤ p → p ≤ n → f p ≡ g p) → lowest f n ≡ lowest g n
 unfolding lowest
 lowest-agree f g zero h = refl

@@ -1,6 +1,6 @@
 -- Weighted sets of the numbers 1 to k, and where they meet. Thresholds are sums: "a weight of at least N − s" is N ≤ weight + s.
 use Prim.Native.Nat.{ℕ, zero, suc, _+_, _≤_, _<_}
-use mathlib.Core.Path.{_≡_, refl, sym}
+use mathlib.Core.Path.{_≡_, refl, sym, ap}
 use mathlib.Core.Bool.{Bool, true, false, not, _&&_, false≢true}
 use native.Mathlib.Omega.{arith}
 use native.Mathlib.Decide.{decLe}
@@ -8,7 +8,7 @@ use mathlib.Core.Logic.{_≢_}
 use native.Mathlib.Numerals.{add-one}
 use lib.Dec.{eqb}
 use borrow.Author.Tests.{eqb-true, eqb-false}
-use Rattle.settings.specs.Bools.{and-left, and-right}
+use Rattle.quorum.specs.Bools.{and-left, and-right}
 use Rattle.quorum.specs.Total.{share, total, count, everyone}
 
 -- a number of 1 to k that is in M
@@ -53,6 +53,12 @@ module _ (w : ℕ → ℕ) where
   total-mono M K zero f = omega arith
   total-mono M K (suc k) f =
       omega (arith, total-mono M K k (λ p a b. f p a (omega arith)), share-mono (M (suc k)) (K (suc k)) (w (suc k)) (f (suc k) (omega arith) (omega arith)))
+
+  -- tests that agree on those of 1 to k that weigh anything
+  pub total-shares : (M K : ℕ → Bool) (k : ℕ) → ((p : ℕ) → 1 ≤ p → p ≤ k → share (M p) (w p) ≡ share (K p) (w p)) → total w M k ≡ total w K k
+  unfolding total
+  total-shares M K zero f = refl
+  total-shares M K (suc k) f = omega (arith, total-shares M K k (λ p a b. f p a (omega arith)), f (suc k) (omega arith) (omega arith))
 
   -- tests that agree on 1 to k
   pub total-agree : (M K : ℕ → Bool) (k : ℕ) → ((p : ℕ) → 1 ≤ p → p ≤ k → M p ≡ K p) → total w M k ≡ total w K k
@@ -194,18 +200,6 @@ count-everyone (suc k) = omega (arith, count-everyone k)
 pub count-le : (M : ℕ → Bool) (k : ℕ) → count M k ≤ k
 count-le M k = omega (arith, total-whole (λ p. 1) M k, count-everyone k)
 
--- a count of 1 to n is at most d above that of 1 to k, where n is k + d
-pub count-longer : (M : ℕ → Bool) (k d : ℕ) → count M (k + d) ≤ count M k + d
-count-longer M k zero = let e : k + 0 ≡ k = omega arith in rw e (omega arith)
-count-longer M k (suc d) =
-    let e : k + suc d ≡ k + d + 1 = omega arith in
-    let one : share (M (k + d + 1)) 1 ≤ 1 = share-le (M (k + d + 1)) in
-    rw e (omega (arith, total-next (λ p. 1) M (k + d), count-longer M k d, one))
-  where
-    share-le : (b : Bool) → share b 1 ≤ 1
-    share-le true = omega arith
-    share-le false = omega arith
-
 -- a count of all is everyone
 pub count-all : (M : ℕ → Bool) (k p : ℕ) → count M k ≡ k → 1 ≤ p → p ≤ k → M p ≡ true
 count-all M k p e a b = go (M p) refl
@@ -219,3 +213,13 @@ count-all M k p e a b = go (M p) refl
 
 pub all-count : (M : ℕ → Bool) (k : ℕ) → ((p : ℕ) → 1 ≤ p → p ≤ k → M p ≡ true) → count M k ≡ k
 all-count M k f = omega (arith, total-agree (λ p. 1) M everyone k f, count-everyone k)
+
+-- a part of U with no member among 1 to k weighs no more than those of U above k
+pub total-above : (w : ℕ → ℕ) (M U : ℕ → Bool) (k n : ℕ) → k ≤ n → Within n M U → ((p : ℕ) → 1 ≤ p → p ≤ k → M p ≡ false) → total w M n + total w U k ≤ total w U n
+unfolding total
+total-above w M U k zero h g f = let e : k ≡ 0 = omega arith in rw e (omega arith)
+total-above w M U k (suc n) h g f = go (decLe k n) (λ l. total-above w M U k n l (λ p a b. g p a (omega arith)) f)
+  where
+    go : Dec (k ≤ n) → (k ≤ n → total w M n + total w U k ≤ total w U n) → total w M (suc n) + total w U k ≤ total w U (suc n)
+    go (yes l) r = omega (arith, r l, share-mono (M (suc n)) (U (suc n)) (w (suc n)) (g (suc n) (omega arith) (omega arith)))
+    go (no l) r = let e : k ≡ suc n = omega arith in omega (arith, total-none w M (suc n) (λ p a b. f p a (omega arith)), ap (total w U) e)

@@ -21,7 +21,8 @@
 --     138          votes decided 0: mark i for vote i
 --     139          votes decided 1: mark i for vote i
 --     140          SENDs held: mark i for instance i
---     141 to 255   free
+--     141          weights: of the marks p, 16 + p, 32 + p and 48 + p as many are set as p weighs
+--     142 to 255   free
 --     256 to 511   values of the ECHOs held, 16 for each instance, by sender
 --     512 to 767   values of the READYs held, 16 for each instance, by sender
 --     768 to 1023  values of the COMMITs held, 16 for each sender, in rising order
@@ -75,6 +76,9 @@ decidedOneAt = 139
 
 abbrev pub sendMarksAt : ℕ
 sendMarksAt = 140
+
+abbrev pub weightsAt : ℕ
+weightsAt = 141
 
 abbrev pub coinAt : ℕ → ℕ
 coinAt i = 7 + i
@@ -156,7 +160,7 @@ regions =
     ∷ region (echoMarksAt 1) 16
     ∷ region (readyMarksAt 1) 16
     ∷ region (commitCountAt 1) 16
-    ∷ region echoSentAt 5
+    ∷ region echoSentAt 6
     ∷ region (echoValueAt 1 1) 256
     ∷ region (readyValueAt 1 1) 256
     ∷ region (commitValueAt 1 1) 256

@@ -1,11 +1,12 @@
 -- The state as a list of words: one word read, one word put, one mark set.
-use Prim.Native.Nat.{ℕ, _≤_, _<_}
+use Prim.Native.Nat.{ℕ, _+_, _-_, _≤_, _<_}
 use mathlib.Core.Bool.{Bool, true, false≢true}
 use mathlib.Core.List.{List}
 use mathlib.Core.Logic.{_≢_}
 use mathlib.Core.Path.{_≡_, refl, sym, ap, _∙_}
 use native.Mathlib.Omega.{arith}
 use native.Mathlib.Decide.{decLe, ℕ-discrete}
+use lib.Dec.{eqb}
 use lib.ListN.{length, getD, set, length-set, List·getD-eq-default}
 use lib.Seq.{set-out, getD-set-same, getD-set-other}
 use Rattle.quorum.specs.Marks.{mark, withMark}
@@ -22,6 +23,15 @@ put s k v = set s k v
 -- mark p of word k
 unfoldable pub marked : List ℕ → ℕ → ℕ → Bool
 marked s k p = mark (word s k) p
+
+-- whether the word p − 1 above b is v
+unfoldable pub equalAt : List ℕ → ℕ → ℕ → ℕ → Bool
+equalAt s b v p = eqb (word s (b + (p - 1))) v
+
+-- a word has a mark for each of n words from b on, and all these are there
+pub record Reached (s : List ℕ) (b n : ℕ) : Type 0 where
+  pub few : n ≤ 64
+  pub there : b + n ≤ length s
 
 -- the state with mark p of word k set
 unfoldable pub setMark : List ℕ → ℕ → ℕ → List ℕ
@@ -70,6 +80,14 @@ put-within s k v = refl
 pub put-past-end : (s : List ℕ) (k v : ℕ) → length s ≤ k → s ≡ put s k v
 unfolding put
 put-past-end s k v h = sym (set-out s k v h)
+
+pub equal-inside : (s : List ℕ) (b v p : ℕ) → eqb (getD s (b + (p - 1)) 0) v ≡ equalAt s b v p
+unfolding equalAt word
+equal-inside s b v p = refl
+
+pub equal-test : (s : List ℕ) (b v p r : ℕ) → r ≡ word s (b + (p - 1)) → eqb r v ≡ equalAt s b v p
+unfolding equalAt
+equal-test s b v p r e = rw e
 
 pub ruleset words = (word-within, word-past-end, put-within, put-past-end)
 

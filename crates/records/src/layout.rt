@@ -13,6 +13,8 @@ pub const SESSION: usize = 4;
 
 pub const INPUT: usize = 5;
 
+pub const WEIGHTS: usize = 141;
+
 pub const TURNS: usize = 6;
 
 pub const FLAGS: usize = 7;

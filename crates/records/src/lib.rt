@@ -4,10 +4,11 @@ pub mod layout;
 ghost use mathlib.Core.Path.{_≡_};
 ghost use Prim.Native.Nat.{_≤_};
 ghost use lib.ListN.{length};
+ghost use Rattle.quorum.specs.Marking.{MarksOf};
 ghost use Rattle.records.specs.Copy.{copied};
 ghost use Rattle.records.specs.Layout.{voteAt};
 ghost use Rattle.records.specs.Records.{closed, sendSent, commitSent, echoSent, readySent, sendHeld, sendValue, estHeld, auxHeld, coin, round, estSent, auxSent, decided, commitCount, commitValue};
-ghost use Rattle.records.specs.Words.{word, put, marked, setMark};
+ghost use Rattle.records.specs.Words.{word, put, marked, equalAt, Reached, setMark};
 
 // The word at k, and 0 past the end.
 pub fn word(s: &[u64], k: usize) -> u64
@@ -30,6 +31,47 @@ pub fn marked(s: &[u64], k: usize, p: u64) -> bool
     ensures { λ r. ⌜ r ≡ marked (now (s .entry)) k p ⌝ }
 {
     quorum::mark(word(s, k), p)
+}
+
+// The marks p of 1 to n for which the word p − 1 above base is v, where all these words are there.
+fn equal_within(s: &[u64], base: u32, n: u8, v: u64) -> u64
+    requires { ⌜ Reached (now s) base n ⌝ }
+    ensures { λ r. ⌜ MarksOf (equalAt (now (s .entry)) base v) n r ⌝ }
+{
+    let first = base as usize;
+    let mut m: u64 = 0;
+    let mut p = n as usize;
+    while 0 < p {
+        p -= 1;
+        m = 2 * m + (s[first + p] == v) as u64;
+    }
+    m
+}
+
+// The same, where some may be past the end.
+fn equal_each(s: &[u64], base: u32, n: u8, v: u64) -> u64
+    ensures { λ r. ⌜ MarksOf (equalAt (now (s .entry)) base v) n r ⌝ }
+{
+    let mut m: u64 = 0;
+    let mut p = quorum::mark_end(n);
+    while 0 < p {
+        p -= 1;
+        m = 2 * m + (word(s, base as usize + p as usize) == v) as u64;
+    }
+    m
+}
+
+// The marks p of 1 to n for which the word p − 1 above base is v. Whether the words are there is asked once, not for each.
+pub fn equal_marks(s: &[u64], base: u32, n: u8, v: u64) -> u64
+    ensures { λ r. ⌜ MarksOf (equalAt (now (s .entry)) base v) n r ⌝ }
+{
+    if 64 < n {
+        return equal_each(s, base, n, v);
+    }
+    if s.len() < base as usize + n as usize {
+        return equal_each(s, base, n, v);
+    }
+    equal_within(s, base, n, v)
 }
 
 // Sets mark p of word k.

@@ -37,7 +37,7 @@ use Rattle.report.specs.declared.Answer.the-variants.{Refused, Given}
 
 -- the lowest sender that holds the set in force, and 0 if none is
 unfoldable pub inForceSender : Settings → List ℕ → ℕ
-inForceSender g s = cond (closed s) (setLeader s (g .n) (quorum g)) 0
+inForceSender g s = cond (closed s) (setLeader (g .weights) s (g .n) (quorum g)) 0
 
 -- a set lent room enough
 pub record SetRoom (s : List ℕ) (p : ℕ) (out : List ℕ) : Type 0 where
@@ -84,7 +84,7 @@ pub ruleset admit-cases = (short, long, no-state, a-state)
 -- the sender of the set in force
 
 module _ (g : Settings) (s : List ℕ) (c : Bool) (e : c ≡ closed s) where
-  pub sender-closed : (q p : ℕ) → c ≡ true → q ≡ quorum g → p ≡ setLeader s (g .n) q → p ≡ inForceSender g s
+  pub sender-closed : (q p : ℕ) → c ≡ true → q ≡ quorum g → p ≡ setLeader (g .weights) s (g .n) q → p ≡ inForceSender g s
   unfolding inForceSender
   sender-closed q p t f h = rw (← e, t, ← f) h
 
@@ -125,15 +125,15 @@ sender-few : (g : Settings) (s : List ℕ) → Ruled g → inForceSender g s ≤
 unfolding inForceSender setLeader
 sender-few g s r = go (closed s)
   where
-    go : (b : Bool) → cond b (lowest (setLeads s (g .n) (quorum g)) (g .n)) 0 ≤ 16
-    go true = omega (arith, lowest-le (setLeads s (g .n) (quorum g)) (g .n))
+    go : (b : Bool) → cond b (lowest (setLeads (g .weights) s (g .n) (quorum g)) (g .n)) 0 ≤ 16
+    go true = omega (arith, lowest-le (setLeads (g .weights) s (g .n) (quorum g)) (g .n))
     go false = omega arith
 
 in-force-of : (g : Settings) (s : List ℕ) → setOf s (inForceSender g s) ≡ inForceSet g s
 unfolding inForceSet inForceSender leadingSet setOf
 in-force-of g s = go (closed s)
   where
-    go : (b : Bool) → setOf s (cond b (setLeader s (g .n) (quorum g)) 0) ≡ cond b (setOf s (setLeader s (g .n) (quorum g))) []
+    go : (b : Bool) → setOf s (cond b (setLeader (g .weights) s (g .n) (quorum g)) 0) ≡ cond b (setOf s (setLeader (g .weights) s (g .n) (quorum g))) []
     go true = refl
     go false = refl
 

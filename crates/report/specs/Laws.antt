@@ -8,7 +8,7 @@ use lib.ListN.{length, take, drop}
 use lib.Seq.{take-at}
 use lib.Dec.{ltb}
 use borrow.Author.Tests.{ltb-false, le-ltb}
-use Rattle.settings.specs.Bools.{or-passed}
+use Rattle.quorum.specs.Bools.{or-passed}
 use Rattle.settings.specs.Thresholds.{ruled-bounds}
 use Rattle.settings.specs.declared.Settings.{Settings}
 use Rattle.exits.specs.Now.{exitNow}

@@ -25,7 +25,7 @@ use Rattle.report.specs.declared.Answer.the-variants.{Refused, Given}
 -- "n−ts senders' COMMITs hold the same set. The set is in force; the session is closed here." Read afresh from the COMMITs held;
 -- [] is none: before closing, and where a state closed by other means has no such set
 unfoldable pub inForceSet : Settings → List ℕ → List ℕ
-inForceSet g s = cond (closed s) (leadingSet s (g .n) (quorum g)) []
+inForceSet g s = cond (closed s) (leadingSet (g .weights) s (g .n) (quorum g)) []
 
 -- the exit, 0 for none; how many values it names and how many are in force; "The count stored and reported is the number of turns
 -- since opening that did not answer idle"

@@ -7,14 +7,14 @@ use native.Mathlib.Omega.{arith}
 use lib.ListN.{length}
 use lib.Dec.{eqb, leb}
 use borrow.Author.Tests.{eq-eqb, ne-eqb, lt-leb, le-leb, not-true, not-false, leb-true}
-use Rattle.settings.specs.Bools.{and-left, and-right}
+use Rattle.quorum.specs.Bools.{and-left, and-right}
 use Rattle.settings.specs.Settings.{validSettings, checkSettings, turnBound}
 use Rattle.settings.specs.Laws.{Taken, check-taken, check-refused, rules-valid}
 use Rattle.settings.specs.declared.Settings.{Settings}
 use Rattle.settings.specs.declared.Checked.{Checked}
 use Rattle.settings.specs.declared.Checked.the-variants.{Valid, Invalid}
 use Rattle.quorum.specs.Every.{every}
-use Rattle.records.specs.Layout.{stateWords, nAt, taAt, tsAt, ownAt, sessionAt, turnsAt, roundAt, commitCountAt}
+use Rattle.records.specs.Layout.{stateWords, nAt, taAt, tsAt, ownAt, sessionAt, weightsAt, turnsAt, roundAt, commitCountAt}
 use Rattle.records.specs.Words.{word}
 use Rattle.session.specs.Session.{numbered, roundsRight, commitsRight, numbersRight, settingsOf, isState, sessionWith, sessionOf, storedWith, stored}
 use Rattle.session.specs.declared.Session.{Session}
@@ -62,16 +62,15 @@ pub size-wrong : (s : List ℕ) → (length s ≡ 2048 → ⊥) → NoState ≡ 
 unfolding stored isState
 size-wrong s h = rw (ne-eqb (length s) 2048 h)
 
-module _ (s : List ℕ) (size : length s ≡ 2048) (n ta ts : ℕ) (en : n ≡ word s nAt) (ea : ta ≡ word s taAt) (es : ts ≡ word s tsAt) (c : Checked) (ec : c ≡ checkSettings n ta ts) where
+module _ (s : List ℕ) (size : length s ≡ 2048) (n ta ts w : ℕ) (en : n ≡ word s nAt) (ea : ta ≡ word s taAt) (es : ts ≡ word s tsAt) (ew : w ≡ word s weightsAt) (c : Checked) (ec : c ≡ checkSettings n ta ts w) where
   pub settings-wrong : c ≡ Invalid → NoState ≡ stored s
   unfolding stored isState
-  settings-wrong t = rw (eq-eqb (length s) 2048 size, ← en, ← ea, ← es, check-refused n ta ts (sym ec ∙ t))
+  settings-wrong t = rw (eq-eqb (length s) 2048 size, ← en, ← ea, ← es, ← ew, check-refused n ta ts w (sym ec ∙ t))
 
   pub settings-right : (g : Settings) (r : Stored) → c ≡ Valid g → r ≡ storedWith g s → r ≡ stored s
   unfolding stored isState sessionOf storedWith settingsOf
   settings-right g r t f =
-      let k : Taken n ta ts g = check-taken n ta ts g (sym ec ∙ t) in
-      let same : g ≡ record { n = n; ta = ta; ts = ts } = λ i. record { n = k .same-n i; ta = k .same-ta i; ts = k .same-ts i } in
-      f ∙ rw (eq-eqb (length s) 2048 size, ← en, ← ea, ← es, rules-valid n ta ts (k .rules), ← same)
+      let k : Taken n ta ts w g = check-taken n ta ts w g (sym ec ∙ t) in
+      f ∙ rw (k .same, eq-eqb (length s) 2048 size, ← en, ← ea, ← es, ← ew, k .valid)
 
 pub ruleset state-cases = (own-small, with-held, with-none, size-wrong, settings-wrong, settings-right)

@@ -7,11 +7,11 @@ use native.Mathlib.Omega.{arith}
 use lib.ListN.{length}
 use lib.Dec.{eqb, leb}
 use borrow.Author.Tests.{eqb-true, eq-eqb, leb-true, le-leb}
-use Rattle.settings.specs.Bools.{and-left, and-right}
+use Rattle.quorum.specs.Bools.{and-left, and-right}
 use Rattle.settings.specs.Settings.{validSettings, turnBound}
 use Rattle.settings.specs.Laws.{Ruled, valid-rules, rules-valid}
 use Rattle.quorum.specs.Every.{every, every-each, each-every}
-use Rattle.records.specs.Layout.{nAt, taAt, tsAt, ownAt, turnsAt, roundAt, commitCountAt}
+use Rattle.records.specs.Layout.{nAt, taAt, tsAt, ownAt, weightsAt, turnsAt, roundAt, commitCountAt}
 use Rattle.records.specs.Words.{word}
 use Rattle.session.specs.Session.{numbered, roundsRight, commitsRight, numbersRight, settingsOf, isState, sessionWith, sessionOf, stored}
 use Rattle.session.specs.declared.Session.{Session}
@@ -32,7 +32,7 @@ unfolding isState numbersRight numbered roundsRight commitsRight settingsOf
 is-state s e =
     let n = word s nAt in
     let sized = eqb (length s) 2048 in
-    let valid = validSettings n (word s taAt) (word s tsAt) in
+    let valid = validSettings n (word s taAt) (word s tsAt) (word s weightsAt) in
     let low = leb 1 (word s ownAt) in
     let high = leb (word s ownAt) n in
     let bound = leb (word s turnsAt) (turnBound (settingsOf s)) in
@@ -45,7 +45,7 @@ is-state s e =
     let o = and-left (low && high) bound d in
     record {
       size = eqb-true (length s) 2048 (and-left sized valid a);
-      ruled = valid-rules n (word s taAt) (word s tsAt) (and-right sized valid a);
+      ruled = valid-rules n (word s taAt) (word s tsAt) (word s weightsAt) (and-right sized valid a);
       own-low = leb-true 1 (word s ownAt) (and-left low high o);
       own-high = leb-true (word s ownAt) n (and-right low high o);
       turns = leb-true (word s turnsAt) (turnBound (settingsOf s)) (and-right (low && high) bound d);
@@ -58,7 +58,7 @@ unfolding isState numbersRight numbered roundsRight commitsRight settingsOf
 state-is s h =
     rw (
       eq-eqb (length s) 2048 (h .size),
-      rules-valid (word s nAt) (word s taAt) (word s tsAt) (h .ruled),
+      rules-valid (word s nAt) (word s taAt) (word s tsAt) (word s weightsAt) (h .ruled),
       le-leb 1 (word s ownAt) (h .own-low),
       le-leb (word s ownAt) (word s nAt) (h .own-high),
       le-leb (word s turnsAt) (turnBound (settingsOf s)) (h .turns),

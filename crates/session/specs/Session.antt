@@ -7,7 +7,8 @@ use lib.Dec.{eqb, leb}
 use Rattle.settings.specs.Settings.{validSettings, turnBound}
 use Rattle.settings.specs.declared.Settings.{Settings}
 use Rattle.quorum.specs.Every.{every}
-use Rattle.records.specs.Layout.{stateWords, nAt, taAt, tsAt, ownAt, sessionAt, turnsAt, roundAt, commitCountAt}
+use Rattle.quorum.specs.Whole.{wholeOf}
+use Rattle.records.specs.Layout.{stateWords, nAt, taAt, tsAt, ownAt, sessionAt, weightsAt, turnsAt, roundAt, commitCountAt}
 use Rattle.records.specs.Words.{word}
 use Rattle.session.specs.declared.Session.{Session}
 use Rattle.session.specs.declared.Stored.{Stored}
@@ -31,12 +32,12 @@ numbersRight g s =
     numbered (g .n) (word s ownAt) && leb (word s turnsAt) (turnBound g) && roundsRight s (g .n) && commitsRight s (g .n)
 
 unfoldable pub settingsOf : List ℕ → Settings
-settingsOf s = record { n = word s nAt; ta = word s taAt; ts = word s tsAt }
+settingsOf s = record { n = word s nAt; ta = word s taAt; ts = word s tsAt; whole = wholeOf (word s weightsAt) (word s nAt); weights = word s weightsAt }
 
 -- "wrong word count, stored settings or own number that opening would refuse (a stored ta of 255 too), ..": no such thing
 unfoldable pub isState : List ℕ → Bool
 isState s =
-    eqb (length s) stateWords && validSettings (word s nAt) (word s taAt) (word s tsAt) && numbersRight (settingsOf s) s
+    eqb (length s) stateWords && validSettings (word s nAt) (word s taAt) (word s tsAt) (word s weightsAt) && numbersRight (settingsOf s) s
 
 -- what is read of a state once; the session number has 32 bits
 unfoldable pub sessionWith : Settings → List ℕ → Session

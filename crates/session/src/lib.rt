@@ -9,6 +9,7 @@ ghost use Rattle.records.specs.Words.{word};
 ghost use Rattle.records.specs.Layout.{ownAt};
 ghost use Rattle.quorum.specs.Every.{every};
 ghost use lib.Dec.{leb};
+ghost use lib.ListN.{length};
 
 pub struct Session {
     pub settings: Settings,
@@ -30,13 +31,15 @@ pub fn numbered(n: u64, own: u64) -> bool
 
 // Whether the word at base + k is at most limit.
 fn limited(s: &[u64], base: u8, limit: u64, k: u8) -> bool
+    requires { ⌜ base + k < length (now s) ⌝ }
     ensures { λ r. ⌜ r ≡ leb (word (now (s .entry)) (base + k)) limit ⌝ }
 {
-    records::word(s, base as usize + k as usize) <= limit
+    s[base as usize + k as usize] <= limit
 }
 
 // Whether the words base + 1 to base + n are all at most limit.
 fn all_limited(s: &[u64], base: u8, limit: u64, n: u8) -> bool
+    requires { ⌜ base + n < length (now s) ⌝ }
     ensures { λ r. ⌜ r ≡ every (λ k. leb (word (now (s .entry)) (base + k)) limit) n ⌝ }
 {
     let mut k: u8 = 0;
@@ -51,6 +54,7 @@ fn all_limited(s: &[u64], base: u8, limit: u64, n: u8) -> bool
 
 // Whether the stored numbers beside the settings are within the rules.
 fn numbers_right(s: &[u64], g: Settings) -> bool
+    requires { ⌜ length (now s) ≡ 2048 ⌝ }
     ensures { λ r. ⌜ r ≡ numbersRight g (now (s .entry)) ⌝ }
 {
     if !numbered(g.n as u64, records::word(s, layout::OWN)) {
@@ -79,6 +83,7 @@ fn session_of(s: &[u64], g: Settings) -> Session
 
 // The session with these settings, where the other numbers are right.
 fn stored_with(s: &[u64], g: Settings) -> Stored
+    requires { ⌜ length (now s) ≡ 2048 ⌝ }
     ensures { λ r. ⌜ r ≡ storedWith g (now (s .entry)) ⌝ }
 {
     if numbers_right(s, g) {
@@ -98,6 +103,7 @@ pub fn state_of(s: &[u64]) -> Stored
         records::word(s, layout::N),
         records::word(s, layout::TA),
         records::word(s, layout::TS),
+        records::word(s, layout::WEIGHTS),
     );
     match c {
         Checked::Invalid => Stored::NoState,

@@ -5,82 +5,68 @@ use mathlib.Core.Bool.{Bool, true, false, _&&_, cond}
 use native.Mathlib.Omega.{arith}
 use lib.Dec.{ltb, leb}
 use borrow.Author.Tests.{le-leb, lt-ltb, leb-true, ltb-true}
-use Rattle.settings.specs.Bools.{and-left, and-right}
+use Rattle.quorum.specs.Bools.{and-left, and-right}
+use Rattle.quorum.specs.Whole.{wholeOf, weightsRight, whole-le}
 use Rattle.settings.specs.Settings.{validSettings, checkSettings}
 use Rattle.settings.specs.declared.Settings.{Settings}
 use Rattle.settings.specs.declared.Checked.the-variants.{Valid, Invalid}
 
 -- the rules as facts
-pub record Rules (n ta ts : ℕ) : Type 0 where
+pub record Rules (n ta ts whole weights : ℕ) : Type 0 where
   pub some : 1 ≤ n
   pub few : n ≤ 16
+  pub right : weightsRight weights n ≡ true
+  pub sum : whole ≡ wholeOf weights n
   pub ordered : ta ≤ ts
-  pub margin : 2 * ts + ta < n
+  pub margin : 2 * ts + ta < whole
 
 -- settings within the rules
 abbrev pub Ruled : Settings → Type 0
-Ruled g = Rules (g .n) (g .ta) (g .ts)
+Ruled g = Rules (g .n) (g .ta) (g .ts) (g .whole) (g .weights)
 
-pub valid-rules : (n ta ts : ℕ) → validSettings n ta ts ≡ true → Rules n ta ts
+pub whole-few : (g : Settings) → Ruled g → g .whole ≤ 64
+whole-few g r = omega (arith, r .sum, whole-le (g .weights) (g .n) (r .right), r .few)
+
+pub valid-rules : (n ta ts w : ℕ) → validSettings n ta ts w ≡ true → Rules n ta ts (wholeOf w n) w
 unfolding validSettings
-valid-rules n ta ts e =
-    let first : leb 1 n && leb n 16 && leb ta ts ≡ true = and-left _ (ltb (2 * ts + ta) n) e in
-    let range : leb 1 n && leb n 16 ≡ true = and-left _ (leb ta ts) first in
+valid-rules n ta ts w e =
+    let a : leb 1 n && leb n 16 && weightsRight w n && leb ta ts ≡ true = and-left _ (ltb (2 * ts + ta) (wholeOf w n)) e in
+    let b : leb 1 n && leb n 16 && weightsRight w n ≡ true = and-left _ (leb ta ts) a in
+    let c : leb 1 n && leb n 16 ≡ true = and-left _ (weightsRight w n) b in
     record {
-      some = leb-true 1 n (and-left (leb 1 n) (leb n 16) range);
-      few = leb-true n 16 (and-right (leb 1 n) (leb n 16) range);
-      ordered = leb-true ta ts (and-right (leb 1 n && leb n 16) (leb ta ts) first);
-      margin = ltb-true (2 * ts + ta) n (and-right (leb 1 n && leb n 16 && leb ta ts) _ e);
+      some = leb-true 1 n (and-left (leb 1 n) (leb n 16) c);
+      few = leb-true n 16 (and-right (leb 1 n) (leb n 16) c);
+      right = and-right (leb 1 n && leb n 16) (weightsRight w n) b;
+      sum = refl;
+      ordered = leb-true ta ts (and-right (leb 1 n && leb n 16 && weightsRight w n) (leb ta ts) a);
+      margin = ltb-true (2 * ts + ta) (wholeOf w n) (and-right (leb 1 n && leb n 16 && weightsRight w n && leb ta ts) _ e);
     }
 
-pub rules-valid : (n ta ts : ℕ) → Rules n ta ts → validSettings n ta ts ≡ true
+pub rules-valid : (n ta ts w : ℕ) → Rules n ta ts (wholeOf w n) w → validSettings n ta ts w ≡ true
 unfolding validSettings
-rules-valid n ta ts r = simp (le-leb 1 n (r .some), le-leb n 16 (r .few), le-leb ta ts (r .ordered), lt-ltb (2 * ts + ta) n (r .margin))
+rules-valid n ta ts w r = simp (le-leb 1 n (r .some), le-leb n 16 (r .few), r .right, le-leb ta ts (r .ordered), lt-ltb (2 * ts + ta) (wholeOf w n) (r .margin))
+
+pub refused-check : (n ta ts w : ℕ) → validSettings n ta ts w ≡ false → checkSettings n ta ts w ≡ Invalid
+unfolding checkSettings
+refused-check n ta ts w e = rw e
 
 -- what `checkSettings` takes, and the settings that it makes
-pub record Taken (n ta ts : ℕ) (g : Settings) : Type 0 where
-  pub rules : Rules n ta ts
-  pub same-n : g .n ≡ n
-  pub same-ta : g .ta ≡ ta
-  pub same-ts : g .ts ≡ ts
+pub record Taken (n ta ts w : ℕ) (g : Settings) : Type 0 where
+  pub valid : validSettings n ta ts w ≡ true
+  pub same : g ≡ record { n = n; ta = ta; ts = ts; whole = wholeOf w n; weights = w }
 
-pub check-taken : (n ta ts : ℕ) (g : Settings) → checkSettings n ta ts ≡ Valid g → Taken n ta ts g
+pub check-taken : (n ta ts w : ℕ) (g : Settings) → checkSettings n ta ts w ≡ Valid g → Taken n ta ts w g
 unfolding checkSettings
-check-taken n ta ts g e = go (validSettings n ta ts) refl e
+check-taken n ta ts w g e = go (validSettings n ta ts w) refl e
   where
-    go : (b : Bool) → validSettings n ta ts ≡ b → cond b (Valid (record { n = n; ta = ta; ts = ts })) Invalid ≡ Valid g → Taken n ta ts g
-    go true v q =
-        let same : g ≡ record { n = n; ta = ta; ts = ts } = cc in
-        record {
-          rules = valid-rules n ta ts v;
-          same-n = ap (λ (x : Settings). x .n) same;
-          same-ta = ap (λ (x : Settings). x .ta) same;
-          same-ts = ap (λ (x : Settings). x .ts) same;
-        }
+    go : (b : Bool) → validSettings n ta ts w ≡ b → cond b (Valid (record { n = n; ta = ta; ts = ts; whole = wholeOf w n; weights = w })) Invalid ≡ Valid g → Taken n ta ts w g
+    go true v q = record { valid = v; same = cc }
     go false v q = absurd (let z : _≡_ {A = ℕ} 0 1 = cc in omega arith)
 
-pub taken-check : (n ta ts : ℕ) (g : Settings) → Taken n ta ts g → checkSettings n ta ts ≡ Valid g
+pub check-refused : (n ta ts w : ℕ) → checkSettings n ta ts w ≡ Invalid → validSettings n ta ts w ≡ false
 unfolding checkSettings
-taken-check n ta ts g t =
-    let v : validSettings n ta ts ≡ true = rules-valid n ta ts (t .rules) in
-    rw (v, ← t .same-n, ← t .same-ta, ← t .same-ts)
-
-pub check-refused : (n ta ts : ℕ) → checkSettings n ta ts ≡ Invalid → validSettings n ta ts ≡ false
-unfolding checkSettings
-check-refused n ta ts e = go (validSettings n ta ts) e
+check-refused n ta ts w e = go (validSettings n ta ts w) e
   where
-    go : (b : Bool) → cond b (Valid (record { n = n; ta = ta; ts = ts })) Invalid ≡ Invalid → b ≡ false
+    go : (b : Bool) → cond b (Valid (record { n = n; ta = ta; ts = ts; whole = wholeOf w n; weights = w })) Invalid ≡ Invalid → b ≡ false
     go true q = absurd (let z : _≡_ {A = ℕ} 0 1 = cc in omega arith)
     go false q = refl
-
-pub refused-check : (n ta ts : ℕ) → validSettings n ta ts ≡ false → checkSettings n ta ts ≡ Invalid
-unfolding checkSettings
-refused-check n ta ts e = rw e
-
--- settings that were taken are within the rules
-pub taken-ruled : (n ta ts : ℕ) (g : Settings) → Taken n ta ts g → Ruled g
-taken-ruled n ta ts g t = rw (t .same-n, t .same-ta, t .same-ts) (t .rules)
-
--- a stored setting is read back
-pub ruled-check : (g : Settings) → Ruled g → checkSettings (g .n) (g .ta) (g .ts) ≡ Valid g
-ruled-check g r = taken-check (g .n) (g .ta) (g .ts) g (record { rules = r; same-n = refl; same-ta = refl; same-ts = refl })

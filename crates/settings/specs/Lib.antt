@@ -1,4 +1,3 @@
-pub mod Bools
 pub mod Refusals
 pub mod Settings
 pub mod Laws

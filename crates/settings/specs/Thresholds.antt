@@ -24,39 +24,39 @@ module _ (g : Settings) where
   turn-bound-sum = refl
 
   module _ (c : ℕ) where
-    pub quorum-reached : quorum g ≤ c → g .n ≤ c + g .ts
+    pub quorum-reached : quorum g ≤ c → g .whole ≤ c + g .ts
     unfolding quorum
     quorum-reached h = omega arith
 
-    pub reached-quorum : g .n ≤ c + g .ts → quorum g ≤ c
+    pub reached-quorum : g .whole ≤ c + g .ts → quorum g ≤ c
     unfolding quorum
     reached-quorum h = omega arith
 
-    pub vote-quorum-reached : voteQuorum g ≤ c → g .n ≤ c + g .ta
+    pub vote-quorum-reached : voteQuorum g ≤ c → g .whole ≤ c + g .ta
     unfolding voteQuorum
     vote-quorum-reached h = omega arith
 
-    pub reached-vote-quorum : g .n ≤ c + g .ta → voteQuorum g ≤ c
+    pub reached-vote-quorum : g .whole ≤ c + g .ta → voteQuorum g ≤ c
     unfolding voteQuorum
     reached-vote-quorum h = omega arith
 
-  pub quorum-sum : Ruled g → quorum g + g .ts ≡ g .n
+  pub quorum-sum : Ruled g → quorum g + g .ts ≡ g .whole
   unfolding quorum
   quorum-sum r = omega arith
 
-  pub vote-quorum-sum : Ruled g → voteQuorum g + g .ta ≡ g .n
+  pub vote-quorum-sum : Ruled g → voteQuorum g + g .ta ≡ g .whole
   unfolding voteQuorum
   vote-quorum-sum r = omega arith
 
--- every threshold within the rules is from 1 to n
+-- every threshold within the rules is from 1 to the sum of all weights
 pub record Bounds (g : Settings) : Type 0 where
   pub some : 1 ≤ g .n
   pub few : g .n ≤ 16
   pub quorum-some : 1 ≤ quorum g
-  pub quorum-few : quorum g ≤ g .n
+  pub quorum-few : quorum g ≤ g .whole
   pub copy-quorum : copy g ≤ quorum g
   pub vote-quorum-some : 1 ≤ voteQuorum g
-  pub vote-quorum-few : voteQuorum g ≤ g .n
+  pub vote-quorum-few : voteQuorum g ≤ g .whole
   pub relay-accept : relay g ≤ accept g
   pub accept-vote-quorum : accept g ≤ voteQuorum g
   pub quorum-vote-quorum : quorum g ≤ voteQuorum g

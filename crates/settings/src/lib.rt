@@ -6,11 +6,13 @@ ghost use Prim.Native.Nat.{_-_};
 ghost use Rattle.settings.specs.Settings.{namedTa, checkSettings};
 ghost use Rattle.settings.specs.Settings.{quorum, copy, voteQuorum, relay, accept, turnBound};
 
-// u8 fields: no threshold can wrap, so none has a `requires`.
+// u8 fields: no threshold can wrap, so none has a `requires`. `whole` is the sum of the weights, which are one word.
 pub struct Settings {
     pub n: u8,
     pub ta: u8,
     pub ts: u8,
+    pub whole: u8,
+    pub weights: u64,
 }
 
 pub enum Checked {
@@ -38,9 +40,9 @@ impl Settings {
         if ta == Settings::UNNAMED { 0 } else { ta }
     }
 
-    // The settings of any three numbers, ta already read by `named_ta`.
-    pub fn check(n: u64, ta: u64, ts: u64) -> Checked
-        ensures { λ r. ⌜ r ≡ checkSettings n ta ts ⌝ }
+    // The settings of any numbers and weights, ta already read by `named_ta`.
+    pub fn check(n: u64, ta: u64, ts: u64, weights: u64) -> Checked
+        ensures { λ r. ⌜ r ≡ checkSettings n ta ts weights ⌝ }
     {
         if n < 1 {
             return Checked::Invalid;
@@ -48,28 +50,35 @@ impl Settings {
         if 16 < n {
             return Checked::Invalid;
         }
+        let m = n as u8;
+        if !quorum::weights_right(weights, m) {
+            return Checked::Invalid;
+        }
         if ts < ta {
             return Checked::Invalid;
         }
+        let w = quorum::whole(weights, m);
         // Follows from the last test, which could wrap without it.
-        if n <= ts {
+        if w <= ts {
             return Checked::Invalid;
         }
-        if n <= 2 * ts + ta {
+        if w <= 2 * ts + ta {
             return Checked::Invalid;
         }
         Checked::Valid(Settings {
-            n: n as u8,
+            n: m,
             ta: ta as u8,
             ts: ts as u8,
+            whole: w as u8,
+            weights,
         })
     }
 
-    // n − ts: broadcasts and commits.
+    // n − ts, n being the sum of the weights: broadcasts and commits.
     pub fn quorum(self) -> u64
         ensures { λ r. ⌜ r ≡ quorum self ⌝ }
     {
-        difference(self.n, self.ts)
+        difference(self.whole, self.ts)
     }
 
     // ts + 1: a READY or a COMMIT that is repeated.
@@ -79,11 +88,11 @@ impl Settings {
         self.ts as u64 + 1
     }
 
-    // n − ta: a move, and the votes decided 1 that a start with 0 and exits 2 and 3 ask for.
+    // n − ta, n being the sum of the weights: a move, and the votes decided 1 that a start with 0 and exits 2 and 3 ask for.
     pub fn vote_quorum(self) -> u64
         ensures { λ r. ⌜ r ≡ voteQuorum self ⌝ }
     {
-        difference(self.n, self.ta)
+        difference(self.whole, self.ta)
     }
 
     // ta + 1: an EST that is relayed.

@@ -1,5 +1,7 @@
-// Openings with settings on the edge of the rules: for each a line `n ta ts open`, or `n ta ts 1`.
+// Openings with settings on the edge of the rules: for each a line `n ta ts open`, or `n ta ts 1`. Where weights are named,
+// the line has them too.
 use libc::STDOUT_FILENO;
+ghost use Prim.Native.Nat.{_≤_};
 
 const LARGEST: u64 = 18446744073709551615;
 // Twice this is 2^64, which wraps to 0.
@@ -10,19 +12,19 @@ fn number(x: u64) {
     io::write_all(STDOUT_FILENO, b" ");
 }
 
-// What an opening by concentrator 1 answers, lent n coin words, or all of them where there are fewer.
-fn open_with(state: &mut [u64], coins: &[u32], n: u64, ta: u64, ts: u64) -> u64 {
-    if coins.len() as u64 <= n {
-        return opening::open(state, n, ta, ts, 1, 7, 5, coins);
-    }
-    opening::open(state, n, ta, ts, 1, 7, 5, &coins[..n as usize])
+// How many of 17 coin words or weights are lent. Above 16 an opening is refused for n.
+fn lent(n: u64) -> usize
+    ensures { λ r. ⌜ r ≤ 17 ⌝ }
+{
+    if n < 17 { n as usize } else { 17 }
 }
 
-// Above 17 an opening is refused for n before its coin words are counted.
-fn answer(n: u64, ta: u64, ts: u64) -> u64 {
+// What an opening by concentrator 1 answers, lent n coin words.
+fn answer(n: u64, ta: u64, ts: u64, weights: &[u8]) -> u64 {
     let mut state = [0u64; 2048];
     let coins = [0u32; 17];
-    open_with(&mut state, &coins, n, ta, ts)
+    let count = lent(n);
+    opening::open(&mut state, n, ta, ts, 1, 7, 5, &coins[..count], weights)
 }
 
 fn print_answer(answer: u64) {
@@ -34,11 +36,37 @@ fn print_answer(answer: u64) {
     io::write_all(STDOUT_FILENO, b"\n");
 }
 
+// With weights of 1.
 fn edge(n: u64, ta: u64, ts: u64) {
+    let ones = [1u8; 17];
+    let count = lent(n);
     number(n);
     number(ta);
     number(ts);
-    print_answer(answer(n, ta, ts));
+    print_answer(answer(n, ta, ts, &ones[..count]));
+}
+
+fn wide(x: u8) -> u64 {
+    x as u64
+}
+
+fn print_weights(weights: &[u8]) {
+    io::write_all(STDOUT_FILENO, b"weights");
+    let mut k: usize = 0;
+    while k < weights.len() {
+        io::write_all(STDOUT_FILENO, b" ");
+        io::print_decimal(STDOUT_FILENO, wide(weights[k]));
+        k += 1;
+    }
+    io::write_all(STDOUT_FILENO, b": ");
+}
+
+fn weighted(n: u64, ta: u64, ts: u64, weights: &[u8]) {
+    number(n);
+    number(ta);
+    number(ts);
+    print_weights(weights);
+    print_answer(answer(n, ta, ts, weights));
 }
 
 fn main() {
@@ -51,6 +79,9 @@ fn main() {
     edge(17, 0, 0);
     unnamed();
     huge();
+    heavy();
+    all_four();
+    wrong_weights();
 }
 
 // A ta of 255 is 0.
@@ -58,6 +89,8 @@ fn unnamed() {
     edge(4, 255, 1);
     edge(2, 255, 1);
     edge(4, 256, 1);
+    weighted(2, 255, 2, &[4, 1]);
+    weighted(2, 255, 3, &[4, 1]);
 }
 
 // Numbers that a sum or a narrower type would wrap.
@@ -69,4 +102,33 @@ fn huge() {
     edge(4, 0, HALF);
     edge(260, 1, 1);
     edge(4, 257, 257);
+}
+
+// The sum of the weights stands in the place of n.
+fn heavy() {
+    weighted(1, 1, 1, &[4]);
+    weighted(2, 1, 1, &[4, 1]);
+    weighted(2, 1, 2, &[4, 1]);
+    weighted(2, 1, 1, &[1, 1]);
+    weighted(3, 3, 4, &[4, 4, 4]);
+    weighted(3, 4, 4, &[4, 4, 4]);
+}
+
+// The largest sum, 64.
+fn all_four() {
+    let fours = [4u8; 16];
+    weighted(16, 1, 31, &fours);
+    weighted(16, 1, 32, &fours);
+    weighted(16, 21, 21, &fours);
+    weighted(16, 22, 22, &fours);
+}
+
+// A weight of 0 or over 4, and not exactly n weights. The lowest three binary digits of 9 are a weight of 1.
+fn wrong_weights() {
+    weighted(2, 0, 0, &[0, 1]);
+    weighted(2, 0, 0, &[1, 5]);
+    weighted(2, 0, 0, &[9, 1]);
+    weighted(2, 0, 0, &[1]);
+    weighted(2, 0, 0, &[1, 1, 1]);
+    weighted(2, 0, 0, &[]);
 }

@@ -8,7 +8,7 @@ use lib.ListN.{length, take, drop, length-take, length-drop}
 use lib.Seq.{take-all, take-at, length-take-le}
 use lib.Dec.{eqb, leb}
 use borrow.Author.Tests.{ne-eqb, eqb-false, ltb-true}
-use Rattle.settings.specs.Bools.{and-left}
+use Rattle.quorum.specs.Bools.{and-left}
 use Rattle.settings.specs.Laws.{Ruled}
 use Rattle.settings.specs.Settings.{quorum, copy}
 use Rattle.settings.specs.declared.Settings.{Settings}
@@ -72,7 +72,7 @@ or-set-none (x ∷ xs) ys k e h = absurd (omega arith)
 
 module _ (g : Settings) (s : List ℕ) where
   -- rule 1
-  module _ (p q : ℕ) (eq : q ≡ quorum g) (ep : p ≡ setLeader s (g .n) q) where
+  module _ (p q : ℕ) (eq : q ≡ quorum g) (ep : p ≡ setLeader (g .weights) s (g .n) q) where
     pub not-in-force : p ≡ 0 → Idle ≡ inForceRule g s
     unfolding inForceRule
     not-in-force z = rw (← eq, ← ep, z)
@@ -82,8 +82,8 @@ module _ (g : Settings) (s : List ℕ) where
     in-force z = rw (← eq, ← ep, ne-eqb p 0 z)
 
   -- a set that is held from ts + 1 senders
-  module _ (p q : ℕ) (eq : q ≡ copy g) (ep : p ≡ setLeader s (g .n) q) where
-    pub none-repeated : (set : List ℕ) → p ≡ 0 → Chosen (commitOf (leadingSet s (g .n) (copy g))) (leadingSet s (g .n) (copy g)) Idle set
+  module _ (p q : ℕ) (eq : q ≡ copy g) (ep : p ≡ setLeader (g .weights) s (g .n) q) where
+    pub none-repeated : (set : List ℕ) → p ≡ 0 → Chosen (commitOf (leadingSet (g .weights) s (g .n) (copy g))) (leadingSet (g .weights) s (g .n) (copy g)) Idle set
     unfolding leadingSet setOf commitOf
     none-repeated set z =
         record {
@@ -92,9 +92,9 @@ module _ (g : Settings) (s : List ℕ) where
         }
 
     module _ (ne : p ≡ 0 → ⊥) (before : List ℕ) (r : Readable g s before) where
-      is-leader : Lowest (setLeads s (g .n) q) (g .n) p
+      is-leader : Lowest (setLeads (g .weights) s (g .n) q) (g .n) p
       unfolding setLeader
-      is-leader = lowest-is (setLeads s (g .n) q) (g .n) p (sym ep) ne
+      is-leader = lowest-is (setLeads (g .weights) s (g .n) q) (g .n) p (sym ep) ne
 
       pub leader-few : p ≤ 16
       leader-few = omega (arith, is-leader .high, r .ruled .few)
@@ -116,15 +116,15 @@ module _ (g : Settings) (s : List ℕ) where
         count-some : k ≡ 0 → ⊥
         unfolding setLeads commitHeld
         count-some z =
-            let held : commitHeld s p ≡ true = and-left (commitHeld s p) (leb q (setHolders s (g .n) p)) (is-leader .holds) in
+            let held : commitHeld s p ≡ true = and-left (commitHeld s p) (leb q (setHolders (g .weights) s (g .n) p)) (is-leader .holds) in
             let some : 0 < commitCount s p = ltb-true 0 (commitCount s p) held in
             omega arith
 
-        is-set : leadingSet s (g .n) (copy g) ≡ take k (drop (751 + 16 * p + 1) s)
+        is-set : leadingSet (g .weights) s (g .n) (copy g) ≡ take k (drop (751 + 16 * p + 1) s)
         unfolding leadingSet setOf commitSet
         is-set = rw (← eq, ← ep, ne-eqb p 0 ne, ← ek)
 
-        pub set-repeated : (after : List ℕ) → after ≡ copied (take (length s - (751 + 16 * p + 1)) (drop (751 + 16 * p + 1) s)) before k → Chosen (commitOf (leadingSet s (g .n) (copy g))) (leadingSet s (g .n) (copy g)) (Commit k) after
+        pub set-repeated : (after : List ℕ) → after ≡ copied (take (length s - (751 + 16 * p + 1)) (drop (751 + 16 * p + 1) s)) before k → Chosen (commitOf (leadingSet (g .weights) s (g .n) (copy g))) (leadingSet (g .weights) s (g .n) (copy g)) (Commit k) after
         unfolding copied
         set-repeated after e =
             let row : List ℕ = drop (751 + 16 * p + 1) s in
@@ -132,7 +132,7 @@ module _ (g : Settings) (s : List ℕ) where
             let sized : length (take k row) ≡ k = length-take-le k row (rw whole at row-holds) in
             let is : after ≡ take k row ++ drop k before = rw whole at e in
             record {
-              same = sym (commit-some (leadingSet s (g .n) (copy g)) k (rw is-set sized) count-some);
+              same = sym (commit-some (leadingSet (g .weights) s (g .n) (copy g)) k (rw is-set sized) count-some);
               front = λ m t. let q : m ≡ k = cc in rw (q, is, is-set) (take-at (take k row) (drop k before) k sized);
             }
 
@@ -160,16 +160,16 @@ module _ (g : Settings) (s : List ℕ) (b : Bool) (eb : b ≡ commitSent s) wher
     pub set-named : (y .count ≡ 0 → ⊥) → Chosen (commitRule g s) (commitDue g s) (Commit (y .count)) (y .values)
     unfolding commitRule commitDue
     set-named ne =
-        let is : commitDue g s ≡ exitNow g s .names = or-set-some (exitNow g s .names) (leadingSet s (g .n) (copy g)) (y .count) (st .sized) ne in
+        let is : commitDue g s ≡ exitNow g s .names = or-set-some (exitNow g s .names) (leadingSet (g .weights) s (g .n) (copy g)) (y .count) (st .sized) ne in
         record {
           same = rw (← eb, tb, is) (sym (commit-some (exitNow g s .names) (y .count) (st .sized) ne));
           front = λ k e. let q : k ≡ y .count = cc in rw q (names-stated y (exitNow g s) st ∙ sym is);
         }
 
-    pub none-named : (a : Act) (set : List ℕ) → y .count ≡ 0 → Chosen (commitOf (leadingSet s (g .n) (copy g))) (leadingSet s (g .n) (copy g)) a set → Chosen (commitRule g s) (commitDue g s) a set
+    pub none-named : (a : Act) (set : List ℕ) → y .count ≡ 0 → Chosen (commitOf (leadingSet (g .weights) s (g .n) (copy g))) (leadingSet (g .weights) s (g .n) (copy g)) a set → Chosen (commitRule g s) (commitDue g s) a set
     unfolding commitRule commitDue
     none-named a set z h =
-        let is : commitDue g s ≡ leadingSet s (g .n) (copy g) = or-set-none (exitNow g s .names) (leadingSet s (g .n) (copy g)) (y .count) (st .sized) z in
+        let is : commitDue g s ≡ leadingSet (g .weights) s (g .n) (copy g) = or-set-none (exitNow g s .names) (leadingSet (g .weights) s (g .n) (copy g)) (y .count) (st .sized) z in
         record {
           same = rw (← eb, tb, is) (h .same);
           front = λ k e. h .front k e ∙ sym is;

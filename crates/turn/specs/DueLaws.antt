@@ -8,7 +8,7 @@ use native.Mathlib.Omega.{arith}
 use lib.ListN.{length, length-take}
 use lib.Dec.{eqb, leb}
 use borrow.Author.Tests.{eqb-false, leb-true}
-use Rattle.settings.specs.Bools.{and-left, and-right}
+use Rattle.quorum.specs.Bools.{and-left, and-right}
 use Rattle.settings.specs.Laws.{Ruled}
 use Rattle.settings.specs.Settings.{quorum, copy}
 use Rattle.settings.specs.declared.Settings.{Settings}
@@ -35,25 +35,25 @@ use Rattle.turn.specs.Due.{inForceRule, orSet, commitDue, commitOf, comm
 use Rattle.exits.specs.Now.{exitNow}
 use Rattle.turn.specs.Told.{SetHeld, Rests, on-exit, on-copies, CommitTold, Evidence, ActTold}
 
-module _ (s : List ℕ) (n k : ℕ) where
+module _ (w : ℕ) (s : List ℕ) (n k : ℕ) where
   abbrev leader : ℕ
-  leader = setLeader s n k
+  leader = setLeader w s n k
 
   -- the lowest sender with such a set has one
-  pub leader-holds : leader ≢ 0 → SetHeld s n k leader
+  pub leader-holds : leader ≢ 0 → SetHeld w s n k leader
   unfolding setLeader setLeads
-  leader-holds ne = of (lowest-is (setLeads s n k) n leader refl ne)
+  leader-holds ne = of (lowest-is (setLeads w s n k) n leader refl ne)
     where
-      of : Lowest (setLeads s n k) n leader → SetHeld s n k leader
+      of : Lowest (setLeads w s n k) n leader → SetHeld w s n k leader
       of x =
           record {
             low = x .low;
             high = x .high;
-            held = and-left (commitHeld s leader) (leb k (setHolders s n leader)) (x .holds);
-            enough = leb-true k (setHolders s n leader) (and-right (commitHeld s leader) (leb k (setHolders s n leader)) (x .holds));
+            held = and-left (commitHeld s leader) (leb k (setHolders w s n leader)) (x .holds);
+            enough = leb-true k (setHolders w s n leader) (and-right (commitHeld s leader) (leb k (setHolders w s n leader)) (x .holds));
           }
 
-  leading-some : 1 ≤ length (leadingSet s n k) → (leader ≢ 0) × (leadingSet s n k ≡ commitSet s leader)
+  leading-some : 1 ≤ length (leadingSet w s n k) → (leader ≢ 0) × (leadingSet w s n k ≡ commitSet s leader)
   unfolding leadingSet setOf
   leading-some h = go (eqb leader 0) refl h
     where
@@ -77,14 +77,14 @@ module _ (g : Settings) (s : List ℕ) where
   unfolding commitDue orSet
   set-rests h = go (exitNow g s .names) refl h
     where
-      copies : (leadingSet s (g .n) (copy g) ≡ commitDue g s) → (setLeader s (g .n) (copy g) ≢ 0) × (leadingSet s (g .n) (copy g) ≡ commitSet s (setLeader s (g .n) (copy g))) → Rests g s
-      copies e l = on-copies (setLeader s (g .n) (copy g)) (leader-holds s (g .n) (copy g) (l .0)) (sym e ∙ l .1)
+      copies : (leadingSet (g .weights) s (g .n) (copy g) ≡ commitDue g s) → (setLeader (g .weights) s (g .n) (copy g) ≢ 0) × (leadingSet (g .weights) s (g .n) (copy g) ≡ commitSet s (setLeader (g .weights) s (g .n) (copy g))) → Rests g s
+      copies e l = on-copies (setLeader (g .weights) s (g .n) (copy g)) (leader-holds (g .weights) s (g .n) (copy g) (l .0)) (sym e ∙ l .1)
 
-      go : (xs : List ℕ) → exitNow g s .names ≡ xs → 1 ≤ length (orSet xs (leadingSet s (g .n) (copy g))) → Rests g s
-      go [] e l = copies (ap (λ (xs : List ℕ). orSet xs (leadingSet s (g .n) (copy g))) (sym e)) (leading-some s (g .n) (copy g) l)
+      go : (xs : List ℕ) → exitNow g s .names ≡ xs → 1 ≤ length (orSet xs (leadingSet (g .weights) s (g .n) (copy g))) → Rests g s
+      go [] e l = copies (ap (λ (xs : List ℕ). orSet xs (leadingSet (g .weights) s (g .n) (copy g))) (sym e)) (leading-some (g .weights) s (g .n) (copy g) l)
       go (x ∷ xs) e l =
           on-exit (named-number (rw e l))
-          (ap (λ (ys : List ℕ). orSet ys (leadingSet s (g .n) (copy g))) e ∙ sym e)
+          (ap (λ (ys : List ℕ). orSet ys (leadingSet (g .weights) s (g .n) (copy g))) e ∙ sym e)
 
   module _ (Set : ℕ → Type 0) where
     abbrev P : Act → Type 0
@@ -93,8 +93,8 @@ module _ (g : Settings) (s : List ℕ) where
     in-force-told : P (inForceRule g s)
     unfolding inForceRule
     in-force-told =
-        all-cond P (eqb (setLeader s (g .n) (quorum g)) 0) Idle InForce (λ e. tt)
-        (λ e. record { sender = setLeader s (g .n) (quorum g); holds = leader-holds s (g .n) (quorum g) (eqb-false (setLeader s (g .n) (quorum g)) 0 e) })
+        all-cond P (eqb (setLeader (g .weights) s (g .n) (quorum g)) 0) Idle InForce (λ e. tt)
+        (λ e. record { sender = setLeader (g .weights) s (g .n) (quorum g); holds = leader-holds (g .weights) s (g .n) (quorum g) (eqb-false (setLeader (g .weights) s (g .n) (quorum g)) 0 e) })
 
     send-told : P (sendRule s)
     unfolding sendRule

@@ -13,7 +13,7 @@ use Rattle.turn.specs.Turn.{outcomeOf, applied, admits, bytesAfter, outc
 use Rattle.turn.specs.Told.{ActTold}
 use Rattle.turn.specs.DueLaws.{due-told}
 use Rattle.turn.specs.Admitting.{Admitting, admitting, admitted-ruled}
-use Rattle.turn.specs.Frame.{Placed, setting, applied-kept}
+use Rattle.turn.specs.Frame.{Placed, setting, beyond, applied-kept}
 use Rattle.turn.specs.declared.Admitted.{Admitted}
 use Rattle.turn.specs.declared.Admitted.the-variants as admitted
 use Rattle.turn.specs.declared.Outcome.the-variants as outcome
@@ -50,7 +50,7 @@ way s out = go (admits s (length out)) refl
 -- the settings, the own number and the session number stay
 pub applied-session : (s : List ℕ) (a : Act) → Placed a → sessionOf (applied s a) ≡ sessionOf s
 unfolding sessionOf sessionWith settingsOf
-applied-session s a p = rw (at 0 (omega arith), at 1 (omega arith), at 2 (omega arith), at 3 (omega arith), at 4 (omega arith))
+applied-session s a p = rw (at 0 (omega arith), at 1 (omega arith), at 2 (omega arith), at 3 (omega arith), at 4 (omega arith), applied-kept s a p 141 (beyond (omega arith)))
   where
     at : (j : ℕ) → j < 6 → word (applied s a) j ≡ word s j
     at j l = applied-kept s a p j (setting l)

@@ -22,16 +22,16 @@ use Rattle.turn.specs.Due.{commitDue}
 use Rattle.exits.specs.Now.{exitNow}
 
 -- sender p holds a set that k of the senders 1 to n hold
-pub record SetHeld (s : List ℕ) (n k p : ℕ) : Type 0 where
+pub record SetHeld (w : ℕ) (s : List ℕ) (n k p : ℕ) : Type 0 where
   pub low : 1 ≤ p
   pub high : p ≤ n
   pub held : commitHeld s p ≡ true
-  pub enough : k ≤ setHolders s n p
+  pub enough : k ≤ setHolders w s n p
 
 -- what a COMMIT's set rests on: an exit that names it, or ts + 1 senders that hold it
 pub data Rests (g : Settings) (s : List ℕ) : Type 0 where
   on-exit : exitNow g s .number ≢ 0 → commitDue g s ≡ exitNow g s .names → Rests g s
-  on-copies : (p : ℕ) → SetHeld s (g .n) (copy g) p → commitDue g s ≡ commitSet s p → Rests g s
+  on-copies : (p : ℕ) → SetHeld (g .weights) s (g .n) (copy g) p → commitDue g s ≡ commitSet s p → Rests g s
 
 pub record CommitTold (g : Settings) (s : List ℕ) (k : ℕ) : Type 0 where
   pub unsent : commitSent s ≡ false
@@ -42,7 +42,7 @@ pub record CommitTold (g : Settings) (s : List ℕ) (k : ℕ) : Type 0 where
 
 pub record InForceTold (g : Settings) (s : List ℕ) : Type 0 where
   pub sender : ℕ
-  pub holds : SetHeld s (g .n) (quorum g) sender
+  pub holds : SetHeld (g .weights) s (g .n) (quorum g) sender
 
 pub record SendTold (s : List ℕ) (v : ℕ) : Type 0 where
   pub unsent : sendSent s ≡ false

@@ -13,22 +13,22 @@ ghost use Rattle.turn.specs.Due.{inForceRule, commitDue, commitOf, commi
 ghost use Rattle.exits.specs.Now.{exitNow};
 ghost use Rattle.turn.specs.Choosing.{Readable, Chosen, lastRules, laterRules};
 
-// Rule 1: n − ts senders' COMMITs hold the same set.
+// Rule 1: the COMMITs of senders of weight n − ts hold the same set.
 fn in_force_rule(s: &[u64], g: Settings) -> Act
     ensures { λ r. ⌜ r ≡ inForceRule g (now (s .entry)) ⌝ }
 {
-    if commits::set_leader(s, g.n, g.quorum()) == 0 {
+    if commits::set_leader(s, g.weights, g.n, g.quorum()) == 0 {
         return Act::Idle;
     }
     Act::InForce
 }
 
-// The COMMIT of a set that ts + 1 senders hold, with the set beside it.
+// The COMMIT of a set that senders of weight ts + 1 hold, with the set beside it.
 fn repeated_commit(s: &[u64], g: Settings, set: &mut [u64; 16]) -> Act
     requires { ⌜ Readable g (now s) (now set) ⌝ }
-    ensures { λ r. ⌜ Chosen (commitOf (leadingSet (now (s .entry)) (g .n) (copy g))) (leadingSet (now (s .entry)) (g .n) (copy g)) r (now (set .exit)) ⌝ }
+    ensures { λ r. ⌜ Chosen (commitOf (leadingSet (g .weights) (now (s .entry)) (g .n) (copy g))) (leadingSet (g .weights) (now (s .entry)) (g .n) (copy g)) r (now (set .exit)) ⌝ }
 {
-    let p = commits::set_leader(s, g.n, g.copy());
+    let p = commits::set_leader(s, g.weights, g.n, g.copy());
     if p == 0 {
         return Act::Idle;
     }
@@ -38,7 +38,7 @@ fn repeated_commit(s: &[u64], g: Settings, set: &mut [u64; 16]) -> Act
     Act::Commit(count)
 }
 
-// Rule 2: the COMMIT of the set that the exits name, else of one that ts + 1 senders hold, with the set beside it.
+// Rule 2: the COMMIT of the set that the exits name, else of one that senders of weight ts + 1 hold, with the set beside it.
 fn commit_rule(s: &[u64], g: Settings, named: Named, set: &mut [u64; 16]) -> Act
     requires { ⌜ (Readable g (now s) (now set)) × (Stated named (exitNow g (now s))) ⌝ }
     ensures { λ r. ⌜ Chosen (commitRule g (now (s .entry))) (commitDue g (now (s .entry))) r (now (set .exit)) ⌝ }

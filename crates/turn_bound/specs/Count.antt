@@ -16,7 +16,7 @@ use Rattle.opening.specs.Opening.{opened}
 use Rattle.turn.specs.Turn.{turnOutcome}
 use Rattle.report.specs.Report.{figuresOf}
 use Rattle.report.specs.Laws.{report-gives}
-use Rattle.turn_bound.specs.TurnBound.{Arguments, answer, openedBy, settingsBy, Step, opening, delivery, turn, report, after, acts, acting, current, Reports, Counted, TurnCount}
+use Rattle.turn_bound.specs.TurnBound.{weightsBy, Arguments, answer, openedBy, settingsBy, Step, opening, delivery, turn, report, after, acts, acting, current, Reports, Counted, TurnCount}
 use Rattle.turn_bound.specs.Sound.{Sound, sound-bound, sound-state}
 use Rattle.turn_bound.specs.Delivering.{delivery-sound}
 use Rattle.turn_bound.specs.Turning.{turn-sound}
@@ -36,9 +36,9 @@ pub record Going (g : Settings) (w : List ℕ) (k : ℕ) : Type 0 where
 pub opening-going : (w : List ℕ) (o : Arguments) → answer w o ≡ 0 → Going (settingsBy o) (openedBy w o) 0
 opening-going w o e =
     record {
-      ruled = opened-ruled w (o .coins) (o .n) (o .ta) (o .ts) (o .own) (o .session) (o .input) e;
-      sound = opened-sound w (o .coins) (o .n) (o .ta) (o .ts) (o .own) (o .session) (o .input) e;
-      count = opened-turns w (o .coins) (o .n) (o .ta) (o .ts) (o .own) (o .session) (o .input) e;
+      ruled = opened-ruled w (o .coins) (o .n) (o .ta) (o .ts) (weightsBy o) (o .own) (o .session) (o .input) e;
+      sound = opened-sound w (o .coins) (o .n) (o .ta) (o .ts) (weightsBy o) (o .own) (o .session) (o .input) e;
+      count = opened-turns w (o .coins) (o .n) (o .ta) (o .ts) (weightsBy o) (o .own) (o .session) (o .input) e;
     }
 
 pub refused-words : (w : List ℕ) (o : Arguments) → eqb (answer w o) 0 ≡ false → openedBy w o ≡ w

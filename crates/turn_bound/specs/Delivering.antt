@@ -21,7 +21,7 @@ use Rattle.wire_laws.specs.Proper.{Layout}
 use Rattle.wire_laws.proofs.Converse.{taken-form}
 use Rattle.delivery.specs.Delivery.{recorded, verdict, wordsAfter, delivered}
 use Rattle.delivery.specs.Frame.{Changed, word-recorded, length-recorded}
-use Rattle.delivery.specs.Kept.{in-layout, Untouched, word-untouched}
+use Rattle.delivery.specs.Kept.{in-layout, Untouched, word-untouched, word-free}
 use Rattle.delivery.specs.Accepting.{accepting}
 use Rattle.delivery.specs.declared.Verdict.{Verdict}
 use Rattle.delivery.specs.declared.Verdict.the-variants.{Refused, Accepted}
@@ -90,15 +90,15 @@ module _ (g : Settings) (ruled : Ruled g) (s t : List ℕ) (same : (a : ℕ) →
   low-same : (a : ℕ) → a < 72 → word t a ≡ word s a
   low-same a l = same a (inl (omega arith))
 
-  same-settings : settingsOf t ≡ settingsOf s
+  same-settings : word t 141 ≡ word s 141 → settingsOf t ≡ settingsOf s
   unfolding settingsOf
-  same-settings = rw (low-same 0 (omega arith), low-same 1 (omega arith), low-same 2 (omega arith))
+  same-settings e = rw (low-same 0 (omega arith), low-same 1 (omega arith), low-same 2 (omega arith), e)
 
-  same-sound : Sound g s → length t ≡ length s → ((p : ℕ) → 1 ≤ p → p ≤ g .n → word t (commitCountAt p) ≤ g .n) → Sound g t
-  same-sound h l c =
+  same-sound : Sound g s → length t ≡ length s → word t 141 ≡ word s 141 → ((p : ℕ) → 1 ≤ p → p ≤ g .n → word t (commitCountAt p) ≤ g .n) → Sound g t
+  same-sound h l e c =
       record {
         size = l ∙ h .size;
-        settings = same-settings ∙ h .settings;
+        settings = same-settings e ∙ h .settings;
         own-low = omega (arith, low-same ownAt (omega arith), h .own-low);
         own-high = omega (arith, low-same ownAt (omega arith), h .own-high);
         counts = c;
@@ -128,6 +128,7 @@ module _ (g : Settings) (ruled : Ruled g) (s : List ℕ) (h : Sound g s) (link :
       record {
         sound =
             same-sound g ruled s (recorded s link m (drop 12 b)) same h (length-recorded s (drop 12 b) link m)
+            (word-free s (drop 12 b) link m 141 (in-layout (g .n) link m (ruled .few) (f .link-low) (f .link-high) (f .layout)) (omega arith) (omega arith))
             (counts-recorded (g .n) (ruled .few) s (drop 12 b) (h .size) link (f .link-low) (f .link-high) m (f .layout) (h .counts));
         count = same turnsAt (inl (omega arith));
         same = same;

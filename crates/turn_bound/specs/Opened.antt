@@ -7,11 +7,12 @@ use native.Mathlib.Omega.{arith}
 use lib.ListN.{length}
 use lib.Dec.{leb}
 use borrow.Author.Tests.{eq-eqb, leb-true}
-use Rattle.settings.specs.Bools.{and-left, and-right}
+use Rattle.quorum.specs.Bools.{and-left, and-right}
 use Rattle.settings.specs.Settings.{namedTa}
 use Rattle.settings.specs.Laws.{Ruled, valid-rules}
 use Rattle.settings.specs.declared.Settings.{Settings}
 use Rattle.quorum.specs.Marks.{mark}
+use Rattle.quorum.specs.Whole.{wholeOf}
 use Rattle.quorum.specs.MarkLaws.{mark-zero}
 use Rattle.quorum.specs.Total.{total, everyone}
 use Rattle.records.specs.Layout.{turnsAt, flagsAt, roundAt, estSentAt, estSentMark, auxSentAt, commitCountAt}
@@ -19,77 +20,77 @@ use Rattle.records.specs.Words.{word}
 use Rattle.session.specs.Session.{numbered, settingsOf}
 use Rattle.opening.specs.Opening.{openAnswer, openWords, opened}
 use Rattle.opening.specs.Cases.{Accepted, accepted}
-use Rattle.opening.specs.Laws.{length-first, first-n, first-ta, first-ts, first-own, first-turns, first-flags, first-zero}
+use Rattle.opening.specs.Laws.{length-first, first-n, first-ta, first-ts, first-own, first-turns, first-flags, first-weights, first-zero}
 use Rattle.turn_bound.specs.Sums.{zero-count}
 use Rattle.turn_bound.specs.Potential.{instancePart, potential}
 use Rattle.turn_bound.specs.Sound.{Sound}
 
 -- the words of a new state
-module _ (n ta ts own session input : ℕ) (coins : List ℕ) (few : n ≤ 16) where
+module _ (n ta ts w own session input : ℕ) (coins : List ℕ) (few : n ≤ 16) where
   abbrev new : List ℕ
-  new = openWords n ta ts own session input coins
+  new = openWords n ta ts w own session input coins
 
-  new-settings : settingsOf new ≡ record { n = n; ta = namedTa ta; ts = ts }
+  new-settings : settingsOf new ≡ record { n = n; ta = namedTa ta; ts = ts; whole = wholeOf w n; weights = w }
   unfolding settingsOf
-  new-settings = rw (first-n n ta ts own session input coins, first-ta n ta ts own session input coins, first-ts n ta ts own session input coins)
+  new-settings = rw (first-n n ta ts w own session input coins, first-ta n ta ts w own session input coins, first-ts n ta ts w own session input coins, first-weights n ta ts w own session input coins few)
 
-  new-zero : (k : ℕ) → 24 ≤ k → word new k ≡ 0
-  new-zero = first-zero n ta ts own session input coins few
+  new-zero : (k : ℕ) → 24 ≤ k → (k ≡ 141 → ⊥) → word new k ≡ 0
+  new-zero = first-zero n ta ts w own session input coins few
 
   no-est : (j p : ℕ) → 1 ≤ j → j ≤ n → mark (word new (estSentAt j)) p ≡ true → ⊥
-  no-est j p lo hi e = false≢true (sym (mark-zero p) ∙ ap (λ (x : ℕ). mark x p) (sym (new-zero (estSentAt j) (omega arith))) ∙ e)
+  no-est j p lo hi e = false≢true (sym (mark-zero p) ∙ ap (λ (x : ℕ). mark x p) (sym (new-zero (estSentAt j) (omega arith) (λ z. omega arith))) ∙ e)
 
-  part-zero : (i : ℕ) → 1 ≤ i → instancePart new i ≡ 0
+  part-zero : (i : ℕ) → 1 ≤ i → i ≤ n → instancePart new i ≡ 0
   unfolding instancePart
-  part-zero i lo =
+  part-zero i lo hi =
       rw (
-        new-zero 136 (omega arith),
-        new-zero 137 (omega arith),
+        new-zero 136 (omega arith) (λ z. omega arith),
+        new-zero 137 (omega arith) (λ z. omega arith),
         mark-zero i,
-        zero-count (word new (estSentAt i)) 64 (new-zero (estSentAt i) (omega arith)),
-        zero-count (word new (auxSentAt i)) 32 (new-zero (auxSentAt i) (omega arith)),
-        new-zero (roundAt i) (omega arith),
+        zero-count (word new (estSentAt i)) 64 (new-zero (estSentAt i) (omega arith) (λ z. omega arith)),
+        zero-count (word new (auxSentAt i)) 32 (new-zero (auxSentAt i) (omega arith) (λ z. omega arith)),
+        new-zero (roundAt i) (omega arith) (λ z. omega arith),
       )
 
-  parts-zero : (k : ℕ) → total (instancePart new) everyone k ≡ 0
+  parts-zero : (k : ℕ) → k ≤ n → total (instancePart new) everyone k ≡ 0
   unfolding total
-  parts-zero zero = refl
-  parts-zero (suc k) = omega (arith, part-zero (suc k) (omega arith), parts-zero k)
+  parts-zero zero h = refl
+  parts-zero (suc k) h = omega (arith, part-zero (suc k) (omega arith) h, parts-zero k (omega arith))
 
   new-potential : potential n new ≡ 0
   unfolding potential
-  new-potential = omega (arith, zero-count (word new flagsAt) 3 (first-flags n ta ts own session input coins), parts-zero n)
+  new-potential = omega (arith, zero-count (word new flagsAt) 3 (first-flags n ta ts w own session input coins), parts-zero n (omega arith))
 
-  new-sound : 1 ≤ own → own ≤ n → Sound (record { n = n; ta = namedTa ta; ts = ts }) new
+  new-sound : 1 ≤ own → own ≤ n → Sound (record { n = n; ta = namedTa ta; ts = ts; whole = wholeOf w n; weights = w }) new
   new-sound low high =
       record {
-        size = length-first n ta ts own session input coins;
+        size = length-first n ta ts w own session input coins;
         settings = new-settings;
-        own-low = rw (first-own n ta ts own session input coins) low;
-        own-high = rw (first-own n ta ts own session input coins) high;
-        counts = λ p lo hi. omega (arith, new-zero (commitCountAt p) (omega arith));
+        own-low = rw (first-own n ta ts w own session input coins) low;
+        own-high = rw (first-own n ta ts w own session input coins) high;
+        counts = λ p lo hi. omega (arith, new-zero (commitCountAt p) (omega arith) (λ z. omega arith));
         orderly =
             record {
-              rounds = λ j lo hi. omega (arith, new-zero (roundAt j) (omega arith));
+              rounds = λ j lo hi. omega (arith, new-zero (roundAt j) (omega arith) (λ z. omega arith));
               reached = λ j r b lo hi rl rh bb e. absurd (no-est j (estSentMark r b) lo hi e);
-              passed = λ j r lo hi l e. absurd (omega (arith, new-zero (roundAt j) (omega arith)));
+              passed = λ j r lo hi l e. absurd (omega (arith, new-zero (roundAt j) (omega arith) (λ z. omega arith)));
             };
-        turns = first-turns n ta ts own session input coins ∙ sym new-potential;
+        turns = first-turns n ta ts w own session input coins ∙ sym new-potential;
       }
 
-module _ (s coins : List ℕ) (n ta ts own session input : ℕ) (e : openAnswer (length s) n ta ts own (length coins) ≡ 0) where
+module _ (s coins : List ℕ) (n ta ts w own session input : ℕ) (e : openAnswer (length s) n ta ts w own (length coins) ≡ 0) where
   abbrev g : Settings
-  g = record { n = n; ta = namedTa ta; ts = ts }
+  g = record { n = n; ta = namedTa ta; ts = ts; whole = wholeOf w n; weights = w }
 
-  is-accepted : Accepted (length s) n ta ts own (length coins)
-  is-accepted = accepted (length s) n ta ts own (length coins) e
+  is-accepted : Accepted (length s) n ta ts w own (length coins)
+  is-accepted = accepted (length s) n ta ts w own (length coins) e
 
   pub opened-ruled : Ruled g
-  opened-ruled = valid-rules n (namedTa ta) ts (is-accepted .valid)
+  opened-ruled = valid-rules n (namedTa ta) ts w (is-accepted .valid)
 
-  opened-new : opened s n ta ts own session input coins ≡ openWords n ta ts own session input coins
+  opened-new : opened s n ta ts w own session input coins ≡ openWords n ta ts w own session input coins
   unfolding opened
-  opened-new = rw (eq-eqb (openAnswer (length s) n ta ts own (length coins)) 0 e)
+  opened-new = rw (eq-eqb (openAnswer (length s) n ta ts w own (length coins)) 0 e)
 
   own-low : 1 ≤ own
   unfolding numbered
@@ -99,8 +100,8 @@ module _ (s coins : List ℕ) (n ta ts own session input : ℕ) (e : openAnswer 
   unfolding numbered
   own-high = leb-true own n (and-right (leb 1 own) (leb own n) (is-accepted .own-number))
 
-  pub opened-sound : Sound g (opened s n ta ts own session input coins)
-  opened-sound = rw opened-new (new-sound n ta ts own session input coins (opened-ruled .few) own-low own-high)
+  pub opened-sound : Sound g (opened s n ta ts w own session input coins)
+  opened-sound = rw opened-new (new-sound n ta ts w own session input coins (opened-ruled .few) own-low own-high)
 
-  pub opened-turns : word (opened s n ta ts own session input coins) turnsAt ≡ 0
-  opened-turns = rw opened-new (first-turns n ta ts own session input coins)
+  pub opened-turns : word (opened s n ta ts w own session input coins) turnsAt ≡ 0
+  opened-turns = rw opened-new (first-turns n ta ts w own session input coins)

@@ -8,8 +8,10 @@ use lib.ListN.{length}
 use Rattle.settings.specs.Settings.{namedTa, turnBound}
 use Rattle.settings.specs.declared.Settings.{Settings}
 use Rattle.records.specs.Layout.{turnsAt}
+use Rattle.quorum.specs.Whole.{wholeOf}
 use Rattle.records.specs.Words.{word}
 use Rattle.session.specs.Session.{isState}
+use Rattle.opening.specs.Given.{weightsWord}
 use Rattle.opening.specs.Opening.{openAnswer, opened}
 use Rattle.delivery.specs.Delivery.{delivered}
 use Rattle.turn.specs.Turn.{turnOutcome, turnWords}
@@ -28,17 +30,22 @@ pub record Arguments : Type 0 where
   pub session : ℕ
   pub input : ℕ
   pub coins : List ℕ
+  pub weights : List ℕ
+
+-- the weights as one word
+abbrev pub weightsBy : Arguments → ℕ
+weightsBy o = weightsWord (o .n) (o .weights)
 
 -- the answer of an opening of the words s: 0 is accepted
 abbrev pub answer : List ℕ → Arguments → ℕ
-answer s o = openAnswer (length s) (o .n) (o .ta) (o .ts) (o .own) (length (o .coins))
+answer s o = openAnswer (length s) (o .n) (o .ta) (o .ts) (weightsBy o) (o .own) (length (o .coins))
 
 -- the words after it
 abbrev pub openedBy : List ℕ → Arguments → List ℕ
-openedBy s o = opened s (o .n) (o .ta) (o .ts) (o .own) (o .session) (o .input) (o .coins)
+openedBy s o = opened s (o .n) (o .ta) (o .ts) (weightsBy o) (o .own) (o .session) (o .input) (o .coins)
 
 abbrev pub settingsBy : Arguments → Settings
-settingsBy o = record { n = o .n; ta = namedTa (o .ta); ts = o .ts }
+settingsBy o = record { n = o .n; ta = namedTa (o .ta); ts = o .ts; whole = wholeOf (weightsBy o) (o .n); weights = weightsBy o }
 
 -- a call: an opening, a delivery of any bytes from any link, a turn lent any bytes, or a report
 pub data Step : Type 0 where

@@ -22,7 +22,7 @@ use Rattle.wire.specs.declared.Message.the-variants as message
 use Rattle.turn.specs.Due.{due}
 use Rattle.turn.specs.Told.{ActTold}
 use Rattle.turn.specs.Turn.{moveOutcome, outcomeOf, applied, turnOutcome, turnWords}
-use Rattle.turn.specs.Frame.{Placed, told-placed, setting, held, length-applied, applied-idle, applied-kept, applied-turns}
+use Rattle.turn.specs.Frame.{Placed, told-placed, setting, held, beyond, length-applied, applied-idle, applied-kept, applied-turns}
 use Rattle.turn.specs.Admitting.{admitted-settings}
 use Rattle.turn.specs.Laws.{Taken, Way, refused, taken, way}
 use Rattle.turn.specs.declared.Outcome.the-variants as outcome
@@ -64,7 +64,7 @@ module _ (g : Settings) (ruled : Ruled g) (s : List ℕ) (h : Sound g s) where
 
     same-settings : settingsOf (applied s a) ≡ settingsOf s
     unfolding settingsOf
-    same-settings = rw (kept 0 (omega arith), kept 1 (omega arith), kept 2 (omega arith))
+    same-settings = rw (kept 0 (omega arith), kept 1 (omega arith), kept 2 (omega arith), applied-kept s a placed 141 (beyond (omega arith)))
 
     counted-one : isDue a ≡ true → word (applied s a) turnsAt ≡ word s turnsAt + 1
     counted-one d = applied-turns s a placed (omega (arith, h .size)) d

@@ -1,16 +1,20 @@
 -- The paths of the code: what each answer is by the results of the calls before it and the tests that led to it.
-use Prim.Native.Nat.{ℕ, _+_, _*_, min, _≤_, _<_}
-use mathlib.Core.Bool.{Bool, true, false, _&&_, _||_, or-false, false≢true}
+use Prim.Native.Nat.{ℕ, _+_, _*_, _/_, _^_, min, _≤_, _<_}
+use mathlib.Core.Bool.{Bool, true, false, _&&_, _||_}
 use mathlib.Core.List.{List}
-use mathlib.Core.Path.{_≡_, refl, sym, ap, _∙_}
+use mathlib.Core.Path.{_≡_, ap, ap₂, _∙_}
 use native.Mathlib.Omega.{arith}
+use lib.Bits.{bitOr}
 use lib.Dec.{eqb}
 use borrow.Author.Tests.{le-leb, lt-leb, eq-eqb, ne-eqb}
 use Rattle.settings.specs.Settings.{voteQuorum, relay, roundLimit}
 use Rattle.settings.specs.declared.Settings.{Settings}
 use Rattle.quorum.specs.Marks.{mark}
-use Rattle.quorum.specs.Total.{count}
-use Rattle.quorum.specs.TotalLaws.{total-agree, total-none}
+use Rattle.quorum.specs.MarkLaws.{mark-zero}
+use Rattle.quorum.specs.MarkMasks.{mark-or, mark-shifted}
+use Rattle.quorum.specs.Total.{share}
+use Rattle.quorum.specs.Weights.{weightOf, weigh}
+use Rattle.quorum.specs.TotalLaws.{total-agree}
 use Rattle.records.specs.Layout.{voteAt, decidedOneAt}
 use Rattle.records.specs.Words.{word, marked}
 use Rattle.records.specs.Records.{estHeld, auxHeld, decidedOne, round, estSent, auxSent}
@@ -23,23 +27,23 @@ use Rattle.votes.specs.Votes.{estCount, auxCount, votesDecidedOne, start
 use Rattle.votes.specs.Votes.{carries, carriers, view, moveValue, moveAct, roundAct, voteAct, coinValue, decides}
 
 -- the marks counted of a word that was read
-read-counted : (w v base n c : ℕ) → w ≡ v → c ≡ count (λ p. mark w (base + p)) n → c ≡ count (λ p. mark v (base + p)) n
-read-counted w v base n c e h = h ∙ ap (λ (x : ℕ). count (λ p. mark x (base + p)) n) e
+read-counted : (w v base n c ws : ℕ) → w ≡ v → c ≡ weigh ws (λ p. mark w (base + p)) n → c ≡ weigh ws (λ p. mark v (base + p)) n
+read-counted w v base n c ws e h = h ∙ ap (λ (x : ℕ). weigh ws (λ p. mark x (base + p)) n) e
 
 module _ (g : Settings) (s : List ℕ) where
   module _ (i r b w c : ℕ) (e : w ≡ word s (voteAt i r)) where
-    pub est-counted : c ≡ count (λ p. mark w (16 * b + p)) (g .n) → c ≡ estCount g s i r b
+    pub est-counted : c ≡ weigh (g .weights) (λ p. mark w (16 * b + p)) (g .n) → c ≡ estCount g s i r b
     unfolding estCount estHeld marked
-    est-counted h = read-counted w (word s (voteAt i r)) (16 * b) (g .n) c e h
+    est-counted h = read-counted w (word s (voteAt i r)) (16 * b) (g .n) c (g .weights) e h
 
-    pub aux-counted : c ≡ count (λ p. mark w (32 + 16 * b + p)) (g .n) → c ≡ auxCount g s i r b
+    pub aux-counted : c ≡ weigh (g .weights) (λ p. mark w (32 + 16 * b + p)) (g .n) → c ≡ auxCount g s i r b
     unfolding auxCount auxHeld marked
-    aux-counted h = read-counted w (word s (voteAt i r)) (32 + 16 * b) (g .n) c e h
+    aux-counted h = read-counted w (word s (voteAt i r)) (32 + 16 * b) (g .n) c (g .weights) e h
 
-  pub ones-counted : (w c : ℕ) → w ≡ word s decidedOneAt → c ≡ count (λ p. mark w (0 + p)) (g .n) → c ≡ votesDecidedOne g s
+  pub ones-counted : (w c : ℕ) → w ≡ word s decidedOneAt → c ≡ weigh (g .weights) (λ p. mark w (0 + p)) (g .n) → c ≡ votesDecidedOne g s
   unfolding votesDecidedOne decidedOne marked
   ones-counted w c e h =
-      h ∙ total-agree (λ p. 1) (λ p. mark w (0 + p)) (decidedOne s) (g .n) (λ p a b. let z : 0 + p ≡ p = omega arith in rw (e, z))
+      h ∙ total-agree (weightOf (g .weights)) (λ p. mark w (0 + p)) (decidedOne s) (g .n) (λ p a b. let z : 0 + p ≡ p = omega arith in rw (e, z))
 
 -- a first act that is due, and a second after a first that is not
 pub due-first : (a b x : Act) (t : Bool) → x ≡ a → t ≡ isDue x → t ≡ true → x ≡ orAct a b
@@ -132,29 +136,23 @@ module _ (g : Settings) (s : List ℕ) (i r : ℕ) (t : Bool) (e : r ≡ round s
 pub ruleset auxes = (aux-zero, aux-one, aux-waits, aux-was-sent, aux-now)
 
 -- the move
-pub carries-read : (s : List ℕ) (i r p w : ℕ) (a0 a1 m0 m1 : Bool) → w ≡ word s (voteAt i r) → m0 ≡ mark w (32 + p) → m1 ≡ mark w (48 + p) → (a0 && m0) || (a1 && m1) ≡ carries s i r a0 a1 p
-unfolding carries auxHeld marked
-carries-read s i r p w a0 a1 m0 m1 e z o = rw (z, o, e)
 
--- at most one value is accepted
-module _ (g : Settings) (s : List ℕ) (i r : ℕ) (a0 a1 : Bool) where
-  pub only-zero : (c : ℕ) → a0 && a1 ≡ false → a0 ≡ true → c ≡ auxCount g s i r 0 → c ≡ carriers g s i r a0 a1
-  unfolding carriers carries auxCount
-  only-zero c e t h = rw (t, none a0 a1 e t) (h ∙ total-agree (λ p. 1) (auxHeld s i r 0) (λ p. auxHeld s i r 0 p || false) (g .n) (λ p a b. sym (or-false (auxHeld s i r 0 p))))
-    where
-      none : (x y : Bool) → x && y ≡ false → x ≡ true → y ≡ false
-      none true y f t = f
-      none false y f t = absurd (false≢true t)
+-- the marks of a group, where its value is accepted
+group-mark : (a : Bool) (w base p : ℕ) → 1 ≤ p → mark (share a (w / 2 ^ base)) p ≡ a && mark w (base + p)
+group-mark true w base p lo = mark-shifted w base p lo
+group-mark false w base p lo = mark-zero p
 
-  pub only-one : (c : ℕ) → a0 ≡ false → a1 ≡ true → c ≡ auxCount g s i r 1 → c ≡ carriers g s i r a0 a1
-  unfolding carriers carries auxCount
-  only-one c e t h = rw (e, t) h
-
-  pub none-accepted : a0 ≡ false → a1 ≡ false → 0 ≡ carriers g s i r a0 a1
-  unfolding carriers carries
-  none-accepted e f = rw (e, f) (sym (total-none (λ p. 1) (λ p. false) (g .n) (λ p a b. refl)))
-
-pub ruleset carried = (only-zero, only-one, none-accepted)
+pub carriers-weighed : (g : Settings) (s : List ℕ) (i r : ℕ) (a0 a1 : Bool) (w x y c : ℕ) → w ≡ word s (voteAt i r) → x ≡ share a0 (w / 4294967296) → y ≡ share a1 (w / 281474976710656) → c ≡ weigh (g .weights) (λ p. mark (bitOr x y) (0 + p)) (g .n) → c ≡ carriers g s i r a0 a1
+unfolding carriers carries auxHeld marked
+carriers-weighed g s i r a0 a1 w x y c e z o h =
+    h ∙ total-agree (weightOf (g .weights)) (λ p. mark (bitOr x y) (0 + p)) (carries s i r a0 a1) (g .n) (λ p lo hi. at p lo)
+  where
+    at : (p : ℕ) → 1 ≤ p → mark (bitOr x y) (0 + p) ≡ carries s i r a0 a1 p
+    at p lo =
+        let same : 0 + p ≡ p = omega arith in
+        rw (same, z, o, ← e)
+        (mark-or (share a0 (w / 4294967296)) (share a1 (w / 281474976710656)) p
+        ∙ ap₂ (λ (b d : Bool). b || d) (group-mark a0 w 32 p lo) (group-mark a1 w 48 p lo))
 
 module _ (g : Settings) (s : List ℕ) (i r : ℕ) (a0 a1 : Bool) (q c : ℕ) (f : q ≡ voteQuorum g) (d : c ≡ carriers g s i r a0 a1) where
   pub move-few : c < q → Idle ≡ moveValue g s i r a0 a1

@@ -6,12 +6,13 @@ use mathlib.Core.Path.{_≡_, refl, subst}
 use native.Mathlib.Omega.{arith}
 use lib.Dec.{eqb, leb}
 use borrow.Author.Tests.{eqb-true, leb-true}
-use Rattle.settings.specs.Bools.{and-left, and-right}
+use Rattle.quorum.specs.Bools.{and-left, and-right}
 use Rattle.settings.specs.Settings.{voteQuorum, relay, roundLimit}
 use Rattle.settings.specs.Laws.{Ruled}
 use Rattle.settings.specs.Thresholds.{ruled-bounds}
 use Rattle.settings.specs.declared.Settings.{Settings}
 use Rattle.quorum.specs.Marks.{mark}
+use Rattle.quorum.specs.Whole.{weightsRight}
 use Rattle.records.specs.Records.{round, estSent, auxSent}
 use Rattle.acts.specs.Acts.{orAct}
 use Rattle.acts.specs.declared.Act.{Act}
@@ -22,7 +23,7 @@ use Rattle.acts.specs.Choices.{all-cond, all-or, all-first}
 use Rattle.votes.specs.Told.{Told, Among}
 use Rattle.votes.specs.Views.{view-shown}
 
-module _ (g : Settings) (s : List ℕ) (output : ℕ → Bool) (ones : ℕ) (Vote : ℕ → Type 0) (i : ℕ) (v : Vote i) where
+module _ (g : Settings) (right : weightsRight (g .weights) (g .n) ≡ true) (s : List ℕ) (output : ℕ → Bool) (ones : ℕ) (Vote : ℕ → Type 0) (i : ℕ) (v : Vote i) where
   abbrev P : Act → Type 0
   P = Told g s output ones Vote
 
@@ -91,7 +92,7 @@ module _ (g : Settings) (s : List ℕ) (output : ℕ → Bool) (ones : ℕ) (Vot
               high = high;
               sent = e;
               enough = q;
-              shown = view-shown g s i (round s i) zero-accepted one-accepted refl refl some q;
+              shown = view-shown g s i (round s i) right zero-accepted one-accepted refl refl some q;
             },
           )
 
@@ -121,7 +122,7 @@ module _ (g : Settings) (ruled : Ruled g) (s : List ℕ) where
   pub vote-told : (output : Bool) (ones i : ℕ) (a : Act) → voteAct g s output ones i ≡ a → Told g s (λ j. output) ones (λ j. j ≡ i) a
   vote-told output ones i a e =
       subst (Told g s (λ j. output) ones (λ j. j ≡ i)) e
-      (vote-acts g s (λ j. output) ones (λ j. j ≡ i) i refl (ruled-bounds g ruled .vote-quorum-some))
+      (vote-acts g (ruled .right) s (λ j. output) ones (λ j. j ≡ i) i refl (ruled-bounds g ruled .vote-quorum-some))
 
   -- an act of rule 6 is of one of the votes 1 to n
   pub rule-told : (held ones : ℕ) (a : Act) → voteRule g s held ones ≡ a → Told g s (mark held) ones (Among (g .n)) a
@@ -129,4 +130,4 @@ module _ (g : Settings) (ruled : Ruled g) (s : List ℕ) where
   rule-told held ones a e =
       subst (Told g s (mark held) ones (Among (g .n))) e
       (all-first (Told g s (mark held) ones (Among (g .n))) (λ i. voteAct g s (mark held i) ones i) (g .n) tt
-      (λ i low high. vote-acts g s (mark held) ones (Among (g .n)) i (record { low = low; high = high }) (ruled-bounds g ruled .vote-quorum-some)))
+      (λ i low high. vote-acts g (ruled .right) s (mark held) ones (Among (g .n)) i (record { low = low; high = high }) (ruled-bounds g ruled .vote-quorum-some)))

@@ -7,10 +7,11 @@ use mathlib.Core.Path.{_≡_, refl, sym, ap, _∙_}
 use native.Mathlib.Omega.{arith}
 use lib.Dec.{ltb}
 use borrow.Author.Tests.{lt-ltb, ltb-true, leb-true, eqb-true}
-use Rattle.settings.specs.Bools.{and-left, and-right, and-both}
+use Rattle.quorum.specs.Bools.{and-left, and-right, and-both}
 use Rattle.settings.specs.Settings.{voteQuorum, accept}
 use Rattle.settings.specs.declared.Settings.{Settings}
-use Rattle.quorum.specs.Total.{count}
+use Rattle.quorum.specs.Weights.{weightOf, weigh}
+use Rattle.quorum.specs.Whole.{weightsRight, weight-low}
 use Rattle.quorum.specs.TotalLaws.{Member, total-mono, total-member, member-total}
 use Rattle.records.specs.Records.{auxHeld}
 use Rattle.acts.specs.declared.View.{View}
@@ -27,7 +28,7 @@ pub carries-held : (s : List ℕ) (i r : ℕ) (a0 a1 : Bool) (p : ℕ) → carri
 unfolding carries
 carries-held s i r a0 a1 p e = either-of (a0 && auxHeld s i r 0 p) (a1 && auxHeld s i r 1 p) e
 
-module _ (g : Settings) (s : List ℕ) (i r : ℕ) where
+module _ (g : Settings) (s : List ℕ) (i r : ℕ) (right : weightsRight (g .weights) (g .n) ≡ true) where
   -- b is accepted and carried
   abbrev shows : Bool → ℕ → Bool
   shows a b = a && ltb 0 (auxCount g s i r b)
@@ -35,15 +36,15 @@ module _ (g : Settings) (s : List ℕ) (i r : ℕ) where
   carried-shows : (a : Bool) (b p : ℕ) → 1 ≤ p → p ≤ g .n → a && auxHeld s i r b p ≡ true → shows a b ≡ true
   unfolding auxCount
   carried-shows a b p low high e =
-      let one : 1 ≤ count (auxHeld s i r b) (g .n) = member-total (λ q. 1) (auxHeld s i r b) (g .n) p low high (and-right a (auxHeld s i r b p) e) in
-      and-both a (ltb 0 (count (auxHeld s i r b) (g .n))) (and-left a (auxHeld s i r b p) e) (lt-ltb 0 (count (auxHeld s i r b) (g .n)) (omega arith))
+      let one : 1 ≤ weigh (g .weights) (auxHeld s i r b) (g .n) = omega (arith, weight-low (g .weights) (g .n) right p low high, member-total (weightOf (g .weights)) (auxHeld s i r b) (g .n) p low high (and-right a (auxHeld s i r b p) e)) in
+      and-both a (ltb 0 (weigh (g .weights) (auxHeld s i r b) (g .n))) (and-left a (auxHeld s i r b p) e) (lt-ltb 0 (weigh (g .weights) (auxHeld s i r b) (g .n)) (omega arith))
 
   -- where the other value does not show, every carrier carries b
   only-shown : (a0 a1 a : Bool) (b : ℕ) → accepted g s i r b ≡ a → b ≤ 1 → ((p : ℕ) → 1 ≤ p → p ≤ g .n → carries s i r a0 a1 p ≡ true → a && auxHeld s i r b p ≡ true) → 1 ≤ voteQuorum g → voteQuorum g ≤ carriers g s i r a0 a1 → OnlyShown g s i r b
   unfolding carriers auxCount
   only-shown a0 a1 a b acc bit each some enough =
-      let most : count (carries s i r a0 a1) (g .n) ≤ count (auxHeld s i r b) (g .n) = total-mono (λ q. 1) (carries s i r a0 a1) (auxHeld s i r b) (g .n) (λ p low high e. and-right a (auxHeld s i r b p) (each p low high e)) in
-      let m : Member (g .n) (carries s i r a0 a1) = total-member (λ q. 1) (carries s i r a0 a1) (g .n) (omega arith) in
+      let most : weigh (g .weights) (carries s i r a0 a1) (g .n) ≤ weigh (g .weights) (auxHeld s i r b) (g .n) = total-mono (weightOf (g .weights)) (carries s i r a0 a1) (auxHeld s i r b) (g .n) (λ p low high e. and-right a (auxHeld s i r b p) (each p low high e)) in
+      let m : Member (g .n) (carries s i r a0 a1) = total-member (weightOf (g .weights)) (carries s i r a0 a1) (g .n) (omega arith) in
       record {
         bit = bit;
         is-accepted = acc ∙ and-left a (auxHeld s i r b (m .at)) (each (m .at) (m .low) (m .high) (m .holds));

@@ -1,4 +1,4 @@
--- Rule 6 of the turn order: what is due in a vote. Votes use ta.
+-- Rule 6 of the turn order: what is due in a vote. Votes use ta. Senders and votes count by their weights (request N11).
 use Prim.Native.Nat.{ℕ, min}
 use mathlib.Core.Bool.{Bool, true, false, _&&_, _||_, cond}
 use mathlib.Core.List.{List}
@@ -6,7 +6,7 @@ use lib.Dec.{eqb, leb, ltb}
 use Rattle.settings.specs.Settings.{voteQuorum, relay, accept, roundLimit}
 use Rattle.settings.specs.declared.Settings.{Settings}
 use Rattle.quorum.specs.Marks.{mark}
-use Rattle.quorum.specs.Total.{count}
+use Rattle.quorum.specs.Weights.{weigh}
 use Rattle.records.specs.Records.{estHeld, auxHeld, round, estSent, auxSent, decidedOne}
 use Rattle.acts.specs.Acts.{orAct, firstAct}
 use Rattle.acts.specs.declared.Act.{Act}
@@ -14,17 +14,17 @@ use Rattle.acts.specs.declared.Act.the-variants.{Idle, Start, Relay, Aux, Move}
 use Rattle.acts.specs.declared.View.{View}
 use Rattle.acts.specs.declared.View.the-variants.{Only, Both}
 
--- how many senders' ESTs of b are held in round r of vote i
+-- the weight of the senders whose ESTs of b are held in round r of vote i
 unfoldable pub estCount : Settings → List ℕ → ℕ → ℕ → ℕ → ℕ
-estCount g s i r b = count (estHeld s i r b) (g .n)
+estCount g s i r b = weigh (g .weights) (estHeld s i r b) (g .n)
 
 -- "A value is accepted in a round when 2·ta+1 senders' ESTs hold it."
 unfoldable pub accepted : Settings → List ℕ → ℕ → ℕ → ℕ → Bool
 accepted g s i r b = leb (accept g) (estCount g s i r b)
 
--- "s counts votes decided 1"
+-- "s counts votes decided 1", each by its weight
 unfoldable pub votesDecidedOne : Settings → List ℕ → ℕ
-votesDecidedOne g s = count (decidedOne s) (g .n)
+votesDecidedOne g s = weigh (g .weights) (decidedOne s) (g .n)
 
 -- "Vote i starts with 1 if broadcast i has output, else with 0 once s ≥ n−ta"; its round is 0 before
 unfoldable pub startAct : Settings → List ℕ → Bool → ℕ → ℕ → Act
@@ -61,13 +61,13 @@ auxAct g s i = cond (auxSent s i (round s i)) Idle (auxValue g s i (round s i))
 unfoldable pub carries : List ℕ → ℕ → ℕ → Bool → Bool → ℕ → Bool
 carries s i r a0 a1 p = (a0 && auxHeld s i r 0 p) || (a1 && auxHeld s i r 1 p)
 
--- how many held AUXs carry accepted values
+-- the weight of the senders whose held AUXs carry accepted values
 unfoldable pub carriers : Settings → List ℕ → ℕ → ℕ → Bool → Bool → ℕ
-carriers g s i r a0 a1 = count (carries s i r a0 a1) (g .n)
+carriers g s i r a0 a1 = weigh (g .weights) (carries s i r a0 a1) (g .n)
 
--- how many held AUXs carry b
+-- the weight of the senders whose held AUXs carry b
 unfoldable pub auxCount : Settings → List ℕ → ℕ → ℕ → ℕ → ℕ
-auxCount g s i r b = count (auxHeld s i r b) (g .n)
+auxCount g s i r b = weigh (g .weights) (auxHeld s i r b) (g .n)
 
 -- "If those carry just one value b .. If they carry both": z and o tell whether 0 and 1 are carried
 abbrev pub viewOf : Bool → Bool → View

@@ -7,7 +7,7 @@ ghost use Prim.Native.Nat.{min};
 ghost use Rattle.settings.specs.Settings.{roundLimit};
 ghost use Rattle.records.specs.Records.{round};
 ghost use Rattle.votes.specs.Votes.{estCount, accepted, votesDecidedOne, startAct, relayValue, relayRound, relayAct, running, auxValue, auxAct};
-ghost use Rattle.votes.specs.Votes.{carries, carriers, auxCount, viewOf, view, moveValue, moveAct, roundAct, voteAct, voteRule, coinValue, estimate, decides};
+ghost use Rattle.votes.specs.Votes.{carriers, auxCount, viewOf, view, moveValue, moveAct, roundAct, voteAct, voteRule, coinValue, estimate, decides};
 
 // The groups of marks in a round's word: EST 0 and EST 1, then AUX 0 and AUX 1.
 const AUX_ZERO: u16 = 32;
@@ -16,32 +16,37 @@ const AUX_ONE: u16 = 48;
 
 const GROUP: u16 = 16;
 
-// How many senders' ESTs of b are held in round r of vote i.
+// The weight of the senders whose ESTs of b are held in round r of vote i.
 fn est_count(s: &[u64], g: Settings, i: u8, r: u8, b: u8) -> u64
     ensures { λ c. ⌜ c ≡ estCount g (now (s .entry)) i r b ⌝ }
 {
-    quorum::count_marks(records::votes(s, i, r), GROUP * b as u16, g.n)
+    quorum::weigh_marks(records::votes(s, i, r), GROUP * b as u16, g.n, g.weights)
 }
 
-// How many held AUXs carry b.
+// The weight of the senders whose held AUXs carry b.
 fn aux_count(s: &[u64], g: Settings, i: u8, r: u8, b: u8) -> u64
     ensures { λ c. ⌜ c ≡ auxCount g (now (s .entry)) i r b ⌝ }
 {
-    quorum::count_marks(records::votes(s, i, r), AUX_ZERO + GROUP * b as u16, g.n)
+    quorum::weigh_marks(
+        records::votes(s, i, r),
+        AUX_ZERO + GROUP * b as u16,
+        g.n,
+        g.weights,
+    )
 }
 
-// Whether 2·ta + 1 senders' ESTs hold b in round r of vote i.
+// Whether ESTs of weight 2·ta + 1 hold b in round r of vote i.
 pub fn accepted(s: &[u64], g: Settings, i: u8, r: u8, b: u8) -> bool
     ensures { λ t. ⌜ t ≡ accepted g (now (s .entry)) i r b ⌝ }
 {
     g.accept() <= est_count(s, g, i, r, b)
 }
 
-// How many votes are decided 1.
+// The weight of the votes decided 1.
 pub fn votes_decided_one(s: &[u64], g: Settings) -> u64
     ensures { λ c. ⌜ c ≡ votesDecidedOne g (now (s .entry)) ⌝ }
 {
-    quorum::count_marks(records::word(s, layout::DECIDED_ONE), 0, g.n)
+    quorum::weigh_marks(records::word(s, layout::DECIDED_ONE), 0, g.n, g.weights)
 }
 
 // The start of vote i, where it is due: `output` tells whether broadcast i has output, `ones` counts the votes decided 1.
@@ -60,7 +65,7 @@ pub fn start_act(s: &[u64], g: Settings, output: bool, ones: u64, i: u8) -> Act
     Act::Idle
 }
 
-// EST b in round r, where it was not sent and ta + 1 senders hold it.
+// EST b in round r, where it was not sent and senders of weight ta + 1 hold it.
 fn relay_value(s: &[u64], g: Settings, i: u8, r: u8, b: u8) -> Act
     ensures { λ a. ⌜ a ≡ relayValue g (now (s .entry)) i r b ⌝ }
 {
@@ -136,43 +141,15 @@ pub fn aux_act(s: &[u64], g: Settings, i: u8) -> Act
     aux_value(s, g, i, r)
 }
 
-// Whether the AUX held from sender p carries an accepted value; a0 and a1 tell which values are accepted.
-fn carries(s: &[u64], i: u8, r: u8, a0: bool, a1: bool, p: u8) -> bool
-    ensures { λ t. ⌜ t ≡ carries (now (s .entry)) i r a0 a1 p ⌝ }
-{
-    let w = records::votes(s, i, r);
-    (a0 & quorum::mark(w, AUX_ZERO as u64 + p as u64))
-        | (a1 & quorum::mark(w, AUX_ONE as u64 + p as u64))
-}
-
-// How many held AUXs carry accepted values: each sender is looked at, since a foreign state may hold both values of one.
-fn carriers_each(s: &[u64], g: Settings, i: u8, r: u8, a0: bool, a1: bool) -> u64
-    ensures { λ c. ⌜ c ≡ carriers g (now (s .entry)) i r a0 a1 ⌝ }
-{
-    let n = g.n;
-    let mut c: u64 = 0;
-    let mut p: u8 = 0;
-    while p < n {
-        p += 1;
-        c += carries(s, i, r, a0, a1, p) as u64;
-    }
-    c
-}
-
-// The same; where only one value is accepted, its AUXs are counted at once.
+// The weight of the held AUXs that carry accepted values; a0 and a1 tell which values are accepted. A sender counts once, also where a
+// foreign state holds both values of it.
 fn carriers(s: &[u64], g: Settings, i: u8, r: u8, a0: bool, a1: bool) -> u64
     ensures { λ c. ⌜ c ≡ carriers g (now (s .entry)) i r a0 a1 ⌝ }
 {
-    if a0 & a1 {
-        return carriers_each(s, g, i, r, a0, a1);
-    }
-    if a0 {
-        return aux_count(s, g, i, r, 0);
-    }
-    if a1 {
-        return aux_count(s, g, i, r, 1);
-    }
-    0
+    let w = records::votes(s, i, r);
+    let zero = quorum::share(a0, w >> AUX_ZERO);
+    let one = quorum::share(a1, w >> AUX_ONE);
+    quorum::weigh_marks(zero | one, 0, g.n, g.weights)
 }
 
 // The view where 0 and 1 are carried, or only one of them.
@@ -199,7 +176,7 @@ fn view(s: &[u64], g: Settings, i: u8, r: u8, a0: bool, a1: bool) -> acts::View
     view_of(zero, one)
 }
 
-// The move out of round r, where n − ta held AUXs carry accepted values.
+// The move out of round r, where held AUXs of weight n − ta carry accepted values.
 fn move_value(s: &[u64], g: Settings, i: u8, r: u8, a0: bool, a1: bool) -> Act
     ensures { λ a. ⌜ a ≡ moveValue g (now (s .entry)) i r a0 a1 ⌝ }
 {

@@ -38,16 +38,17 @@ impl Session {
         Some(Message::Ready { instance, value })
     }
 
-    /// "a value with n−ts ECHOs, else one with ts+1 READYs".
+    /// A value with ECHOs of W−ts, else one with READYs of ts+1.
     fn ready_value(&self, instance: Number) -> Option<u64> {
+        let settings = &self.settings;
         self.records
-            .echoed(instance, self.settings.quorum())
-            .or_else(|| self.records.readied(instance, self.settings.relay()))
+            .echoed(instance, settings, settings.quorum())
+            .or_else(|| self.records.readied(instance, settings, settings.relay()))
     }
 
-    /// "A broadcast has output v when n−ts senders' READYs hold v."
+    /// A broadcast has output v when READYs of W−ts hold v.
     pub(crate) fn output(&self, instance: Number) -> Option<u64> {
-        self.records.readied(instance, self.settings.quorum())
+        self.records.readied(instance, &self.settings, self.settings.quorum())
     }
 
     /// The outputs there are, by instance.

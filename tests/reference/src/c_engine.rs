@@ -24,6 +24,8 @@ pub mod calls {
             input: u64,
             coins: *const u32,
             coin_words: usize,
+            weights: *const u8,
+            weight_count: usize,
         ) -> u64;
         pub fn pack_deliver(
             state: *mut u64,
@@ -142,14 +144,15 @@ fn lend<T: Copy + PartialEq>(
     answer
 }
 
-/// Lends a guarded copy of a buffer that the call only reads.
+/// Lends a guarded copy of a buffer that the call only reads; an empty one as null.
 fn show<T: Copy + PartialEq>(
     buffer: &[T],
     guard: T,
     call: impl FnOnce(*const T, usize) -> u64,
 ) -> u64 {
     let lent = Lent::new(buffer, guard);
-    let answer = call(lent.as_ptr(), lent.len());
+    let start = if lent.is_empty() { std::ptr::null() } else { lent.as_ptr() };
+    let answer = call(start, lent.len());
     assert!(lent.guarded() && *lent == *buffer, "a call wrote to what it only reads");
     answer
 }
@@ -163,10 +166,26 @@ impl Engine for CEngine {
     }
 
     fn open(&self, state: &mut Words, opening: &Opening) -> u64 {
-        let Opening { n, ta, ts, own, session, input, coins } = *opening;
-        checked(state, |words, count| {
-            show(coins, 0x5a5a_5a5a, |coins, coin_words| unsafe {
-                pack_open(words, count, n, ta, ts, own, session, input, coins, coin_words)
+        let Opening { n, ta, ts, own, session, input, coins, weights } = *opening;
+        checked(state, |state, words| {
+            show(coins, 0x5a5a_5a5a, |coins, coin_words| {
+                // Guards that would pass for weights.
+                show(weights, 3, |weights, weight_count| unsafe {
+                    pack_open(
+                        state,
+                        words,
+                        n,
+                        ta,
+                        ts,
+                        own,
+                        session,
+                        input,
+                        coins,
+                        coin_words,
+                        weights,
+                        weight_count,
+                    )
+                })
             })
         })
     }

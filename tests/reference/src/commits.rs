@@ -4,21 +4,19 @@ use crate::message::{Message, PackSet};
 use crate::session::Session;
 
 impl Session {
-    /// Rule 1: closes the session when n−ts senders' COMMITs hold the same set.
+    /// Rule 1: closes the session when COMMITs of W−ts hold the same set.
     pub(crate) fn close(&mut self) -> bool {
         self.closed = self.agreed().is_some();
         self.closed
     }
 
-    /// Rule 2: "COMMIT, if none sent: the set the exits name, else a set held from ts+1 senders".
+    /// Rule 2: COMMIT, if none sent: the set the exits name, else one held in COMMITs of ts+1.
     pub(crate) fn send_commit(&mut self) -> Option<Message> {
         if self.commit_sent {
             return None;
         }
-        let values = self
-            .exit()
-            .named()
-            .or_else(|| self.records.committed(self.settings.relay()).cloned())?;
+        let repeated = || self.records.committed(&self.settings, self.settings.relay()).cloned();
+        let values = self.exit().named().or_else(repeated)?;
         self.commit_sent = true;
         Some(Message::Commit { values })
     }
@@ -33,6 +31,6 @@ impl Session {
     }
 
     fn agreed(&self) -> Option<&PackSet> {
-        self.records.committed(self.settings.quorum())
+        self.records.committed(&self.settings, self.settings.quorum())
     }
 }

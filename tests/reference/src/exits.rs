@@ -5,7 +5,7 @@ use std::collections::BTreeMap;
 use crate::fault::Fault;
 use crate::message::PackSet;
 use crate::session::Session;
-use crate::settings::{Number, Settings};
+use crate::settings::{Number, Settings, Weight};
 
 /// Which exit holds, with what it names.
 #[derive(Clone, Debug, PartialEq, Eq)]
@@ -44,39 +44,33 @@ pub fn exit(
     decisions: &BTreeMap<Number, bool>,
     fault: Fault,
 ) -> Exit {
-    if let Some(value) = value_with(outputs.values(), |count| count >= settings.quorum()) {
+    if let Some(&value) = settings.first_weighing(outputs.iter(), settings.quorum()) {
         return Exit::One(value);
     }
-    let s = decisions.values().filter(|&&decision| decision).count();
+    let decided_one = || decisions.iter().filter(|(_, &one)| one).map(|(&instance, _)| instance);
     let all_decided = decisions.len() == usize::from(settings.n());
-    if s < settings.vote_quorum() || !(all_decided || fault == Fault::OpenVote) {
+    let enough = settings.weight(decided_one()) >= settings.vote_quorum();
+    if !enough || !(all_decided || fault == Fault::OpenVote) {
         return Exit::None;
     }
     let in_s = || outputs.iter().filter(|(instance, _)| decisions.get(instance) == Some(&true));
-    let values_in_s = || in_s().map(|(_, value)| value);
-    if let Some(value) = value_with(values_in_s(), |count| is_majority(count, s, fault)) {
+    let counted = &settings.in_majority(fault);
+    let majority = majority(counted.weight(decided_one()), fault);
+    if let Some(&value) = counted.first_weighing(in_s(), majority) {
         return Exit::Two(value);
     }
-    if all_decided && in_s().count() == s {
-        return Exit::Three(values_in_s().copied().collect());
+    if all_decided && in_s().count() == decided_one().count() {
+        return Exit::Three(in_s().map(|(_, &value)| value).collect());
     }
     Exit::None
 }
 
-/// "more than s/2 of the broadcasts in S".
-fn is_majority(count: usize, s: usize, fault: Fault) -> bool {
-    2 * count > s || (fault == Fault::HalfIsMajority && 2 * count == s)
-}
-
-/// The first value whose count is enough.
-fn value_with<'a>(
-    values: impl Iterator<Item = &'a u64> + Clone,
-    is_enough: impl Fn(usize) -> bool,
-) -> Option<u64> {
-    values
-        .clone()
-        .find(|&wanted| is_enough(values.clone().filter(|&value| value == wanted).count()))
-        .copied()
+/// The least that is more than s/2.
+fn majority(s: Weight, fault: Fault) -> Weight {
+    match fault {
+        Fault::HalfIsMajority => s.div_ceil(2),
+        _ => s / 2 + 1,
+    }
 }
 
 impl Session {

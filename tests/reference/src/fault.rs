@@ -1,4 +1,5 @@
-//! 01, "Faults seen in code of this trade": built in on request, so that a test can show that it finds them.
+//! 01, "Faults seen in code of this trade", and two that weights bring (02, N11): built in on request, so that a test
+//! can show that it finds them.
 
 /// A fault that a session is opened with. Everything but a test takes `None`.
 #[derive(Clone, Copy, Debug, Default, PartialEq, Eq)]
@@ -15,16 +16,22 @@ pub enum Fault {
     RepeatedEcho,
     /// AUXs counted whose value is not accepted.
     UnacceptedAux,
+    /// The majority of Exit 2 taken of the instances in S, not of their weight.
+    HeadMajority,
+    /// Concentrators counted, whatever their weights, in all thresholds.
+    Heads,
 }
 
 impl Fault {
-    pub const ALL: [Fault; 6] = [
+    pub const ALL: [Fault; 8] = [
         Fault::None,
         Fault::OpenVote,
         Fault::TaForTs,
         Fault::HalfIsMajority,
         Fault::RepeatedEcho,
         Fault::UnacceptedAux,
+        Fault::HeadMajority,
+        Fault::Heads,
     ];
 
     /// The name taken on a command line.
@@ -36,6 +43,8 @@ impl Fault {
             Fault::HalfIsMajority => "half-is-majority",
             Fault::RepeatedEcho => "repeated-echo",
             Fault::UnacceptedAux => "unaccepted-aux",
+            Fault::HeadMajority => "head-majority",
+            Fault::Heads => "heads",
         }
     }
 

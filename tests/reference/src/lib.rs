@@ -1,5 +1,5 @@
-//! A second, independent implementation of the pack agreement engine (document 01), as a check on the proved one.
-//! Each module follows one section of document 01.
+//! A second, independent implementation of the pack agreement engine (document 01, with N11 of document 02), as a check on
+//! the proved one. Each module follows one section of document 01.
 
 pub mod attack;
 mod broadcasts;

@@ -6,7 +6,7 @@ use std::collections::{BTreeMap, BTreeSet};
 use crate::fault::Fault;
 use crate::message::{Message, PackSet};
 use crate::refusal::Refusal;
-use crate::settings::{Number, Round};
+use crate::settings::{Number, Round, Settings, Weight};
 
 /// One value from each sender.
 pub type BySender<V> = BTreeMap<Number, V>;
@@ -22,7 +22,7 @@ pub struct Records {
     auxes: BTreeMap<(Number, Round), BySender<bool>>,
     commits: BySender<PackSet>,
     /// Only with [`Fault::RepeatedEcho`]: the ECHOs beyond a sender's first.
-    repeated_echoes: BTreeMap<Number, Vec<u64>>,
+    repeated_echoes: BTreeMap<Number, Vec<(Number, u64)>>,
 }
 
 impl Records {
@@ -63,7 +63,7 @@ impl Records {
     ) -> Result<(), Refusal> {
         let held = hold(self.echoes.entry(instance).or_default(), sender, value);
         if held.is_err() && fault == Fault::RepeatedEcho {
-            self.repeated_echoes.entry(instance).or_default().push(value);
+            self.repeated_echoes.entry(instance).or_default().push((sender, value));
             return Ok(());
         }
         held
@@ -74,33 +74,42 @@ impl Records {
         self.sends.get(&instance).copied()
     }
 
-    /// The value with at least `enough` ECHOs; of several, the lowest sender's.
-    pub fn echoed(&self, instance: Number, enough: usize) -> Option<u64> {
+    /// The value whose ECHOs weigh `enough`; of several, the lowest sender's.
+    pub fn echoed(&self, instance: Number, settings: &Settings, enough: Weight) -> Option<u64> {
         let echoes = self.echoes.get(&instance)?;
-        let repeats = self.repeated_echoes.get(&instance).map_or(&[][..], Vec::as_slice);
-        let count =
-            |wanted: &u64| echoes.values().chain(repeats).filter(|&value| value == wanted).count();
-        echoes.values().chain(repeats).find(|&value| count(value) >= enough).copied()
+        let repeats = self.repeated_echoes.get(&instance).into_iter().flatten();
+        let all = echoes.iter().chain(repeats.map(|(sender, value)| (sender, value)));
+        settings.first_weighing(all, enough).copied()
     }
 
-    /// The value with at least `enough` READYs; of several, the lowest sender's.
-    pub fn readied(&self, instance: Number, enough: usize) -> Option<u64> {
-        first_held(self.readies.get(&instance)?, enough).copied()
+    /// The value whose READYs weigh `enough`; of several, the lowest sender's.
+    pub fn readied(&self, instance: Number, settings: &Settings, enough: Weight) -> Option<u64> {
+        settings.first_weighing(self.readies.get(&instance)?.iter(), enough).copied()
     }
 
-    /// How many senders' ESTs hold the value.
-    pub fn est_count(&self, instance: Number, round: Round, value: bool) -> usize {
-        self.ests.get(&(instance, round, value)).map_or(0, BTreeSet::len)
+    /// The senders whose ESTs hold the value.
+    pub fn est_senders(
+        &self,
+        instance: Number,
+        round: Round,
+        value: bool,
+    ) -> impl Iterator<Item = Number> + '_ {
+        self.ests.get(&(instance, round, value)).into_iter().flatten().copied()
     }
 
-    /// The AUX values held in a round, one for each sender.
-    pub fn auxes(&self, instance: Number, round: Round) -> impl Iterator<Item = bool> + '_ {
-        self.auxes.get(&(instance, round)).into_iter().flat_map(|held| held.values().copied())
+    /// The AUXs held in a round: each sender with its value.
+    pub fn auxes(
+        &self,
+        instance: Number,
+        round: Round,
+    ) -> impl Iterator<Item = (Number, bool)> + '_ {
+        let held = self.auxes.get(&(instance, round)).into_iter().flatten();
+        held.map(|(&sender, &value)| (sender, value))
     }
 
-    /// The set held in at least `enough` COMMITs; of several, the lowest sender's.
-    pub fn committed(&self, enough: usize) -> Option<&PackSet> {
-        first_held(&self.commits, enough)
+    /// The set whose COMMITs weigh `enough`; of several, the lowest sender's.
+    pub fn committed(&self, settings: &Settings, enough: Weight) -> Option<&PackSet> {
+        settings.first_weighing(self.commits.iter(), enough)
     }
 }
 
@@ -112,9 +121,4 @@ fn hold<V>(places: &mut BySender<V>, sender: Number, value: V) -> Result<(), Ref
         }
         Entry::Occupied(_) => Err(Refusal::Held),
     }
-}
-
-/// Among the values with `enough` senders, the one of the lowest sender.
-fn first_held<V: PartialEq>(held: &BySender<V>, enough: usize) -> Option<&V> {
-    held.values().find(|&wanted| held.values().filter(|&value| value == wanted).count() >= enough)
 }

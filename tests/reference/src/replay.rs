@@ -1,7 +1,8 @@
 //! The calls at one concentrator with the answers of another engine, one to a line, made anew here. Fields are parted by
 //! tabs; the answer stands last:
 //!
-//! - `O` n ta ts own session input coins **refusal**: input in hexadecimal, coins in hexadecimal parted by commas;
+//! - `O` n ta ts own session input coins **refusal**: input in hexadecimal, coins in hexadecimal parted by commas; all
+//!   weights are 1;
 //! - `D` link bytes **refusal**: bytes in hexadecimal;
 //! - `T` bytes-lent **refusal outcome message**: outcome 0 idle, 1 sent, 2 moved out of round 32, 3 in force; the message
 //!   in hexadecimal.
@@ -10,6 +11,7 @@
 
 use crate::packing::{pack_plain, pack_turn};
 use crate::session::{Opening, Session};
+use crate::settings::Settings;
 
 /// What stands against a line.
 #[derive(Debug, PartialEq, Eq)]
@@ -68,6 +70,7 @@ fn open(
         session: numbers[4].parse().ok()?,
         input: u64::from_str_radix(input, 16).ok()?,
         coins: &coins,
+        weights: Settings::ones(n?),
     };
     let answer = Session::open(&opening);
     let number = pack_plain(&answer.as_ref().map(|_| ()).map_err(|refusal| *refusal));

@@ -19,6 +19,7 @@ pub struct Opening<'a> {
     pub session: u32,
     pub input: u64,
     pub coins: &'a [u32],
+    pub weights: &'a [u8],
 }
 
 /// What a turn answers.
@@ -56,13 +57,13 @@ impl Session {
 
     /// Opens a session whose engine has the given fault.
     pub fn open_with(opening: &Opening, fault: Fault) -> Result<Session, Refusal> {
-        let settings = Settings::new(opening.n, opening.ta, opening.ts)?;
+        let settings = Settings::new(opening.n, opening.ta, opening.ts, opening.weights)?;
         let own = settings.number(opening.own).ok_or(Refusal::Settings)?;
         if opening.coins.len() != usize::from(settings.n()) {
             return Err(Refusal::Settings);
         }
         Ok(Session {
-            settings: if fault == Fault::TaForTs { settings.with_ta_for_ts() } else { settings },
+            settings: settings.with_fault(fault),
             own,
             session: opening.session,
             input: opening.input,

@@ -1,5 +1,6 @@
-//! 01, "Settings". Every threshold is worked out from the session's own n, ta and ts.
+//! 01, "Settings", with the weights of 02, N11. Every threshold is worked out from the session's own weights, ta and ts.
 
+use crate::fault::Fault;
 use crate::refusal::Refusal;
 
 /// A concentrator or an instance: 1 to n.
@@ -8,12 +9,19 @@ pub type Number = u8;
 /// A round of a vote: 1 to 32; 0 before the start, 33 after the move out of round 32.
 pub type Round = u8;
 
+/// A weight, or a sum of weights.
+pub type Weight = u32;
+
 /// Settings that the rules allow.
 #[derive(Clone, Copy, Debug, PartialEq, Eq, PartialOrd, Ord)]
 pub struct Settings {
     n: u8,
     ta: u8,
     ts: u8,
+    /// Of concentrator p at place p−1; 0 behind the last.
+    weights: [u8; Settings::MOST as usize],
+    /// W, the sum of all weights.
+    whole: Weight,
 }
 
 impl Settings {
@@ -21,19 +29,45 @@ impl Settings {
     pub const MOST: u64 = 16;
     /// ta given so means unnamed, and is then 0.
     pub const UNNAMED: u64 = 255;
+    /// The largest weight.
+    pub const HEAVIEST: u8 = 4;
     /// The last round in which a vote sends.
     pub const ROUND_LIMIT: Round = 32;
 
-    /// "n from 1 to 16, with ta ≤ ts and 2·ts + ta < n".
-    pub fn new(n: u64, ta: u64, ts: u64) -> Result<Settings, Refusal> {
+    /// "n from 1 to 16, with ta ≤ ts and 2·ts + ta < n"; N11: n weights from 1 to 4, whose sum W stands for n in the
+    /// last of these.
+    pub fn new(n: u64, ta: u64, ts: u64, weights: &[u8]) -> Result<Settings, Refusal> {
         let ta = if ta == Self::UNNAMED { 0 } else { ta };
-        let n_fits = (1..=Self::MOST).contains(&n);
-        // ts < n keeps the sum small; 2·ts + ta < n asks for it anyway.
-        if n_fits && ta <= ts && ts < n && 2 * ts + ta < n {
-            Ok(Settings { n: n as u8, ta: ta as u8, ts: ts as u8 })
-        } else {
-            Err(Refusal::Settings)
+        let n_fits = (1..=Self::MOST).contains(&n) && weights.len() as u64 == n;
+        let weights_fit = weights.iter().all(|weight| (1..=Self::HEAVIEST).contains(weight));
+        let whole: Weight = weights.iter().map(|&weight| Weight::from(weight)).sum();
+        // ts < W keeps the sum small; 2·ts + ta < W asks for it anyway.
+        let most_fit = ta <= ts && ts < whole.into() && 2 * ts + ta < whole.into();
+        if !(n_fits && weights_fit && most_fit) {
+            return Err(Refusal::Settings);
         }
+        let mut padded = [0; Self::MOST as usize];
+        padded[..weights.len()].copy_from_slice(weights);
+        Ok(Settings { n: n as u8, ta: ta as u8, ts: ts as u8, weights: padded, whole })
+    }
+
+    /// All weights 1.
+    pub fn unweighted(n: u64, ta: u64, ts: u64) -> Result<Settings, Refusal> {
+        Settings::new(n, ta, ts, Self::ones(n))
+    }
+
+    /// All settings with these weights.
+    pub fn all_with(weights: &[u8]) -> impl Iterator<Item = Settings> + '_ {
+        let n = weights.len() as u64;
+        let most = u64::from(Self::HEAVIEST) * n;
+        (0..most)
+            .flat_map(|ts| (0..=ts).map(move |ta| (ta, ts)))
+            .filter_map(move |(ta, ts)| Settings::new(n, ta, ts, weights).ok())
+    }
+
+    /// n weights of 1, or as many as there can be.
+    pub fn ones(n: u64) -> &'static [u8] {
+        &[1; Self::MOST as usize][..n.min(Self::MOST) as usize]
     }
 
     pub fn n(&self) -> u8 {
@@ -58,29 +92,52 @@ impl Settings {
         self.numbers().find(|&number| u64::from(number) == given)
     }
 
-    /// Broadcasts and commits: n−ts senders.
-    pub fn quorum(&self) -> usize {
-        usize::from(self.n - self.ts)
+    /// The weights of 1 to n.
+    pub fn weights(&self) -> &[u8] {
+        &self.weights[..usize::from(self.n)]
     }
 
-    /// Broadcasts and commits: ts+1 senders.
-    pub fn relay(&self) -> usize {
-        usize::from(self.ts) + 1
+    /// The sum of the weights of these senders, or instances.
+    pub fn weight(&self, numbers: impl IntoIterator<Item = Number>) -> Weight {
+        numbers.into_iter().map(|number| Weight::from(self.weights[usize::from(number) - 1])).sum()
     }
 
-    /// Votes: n−ta AUXs to move, n−ta votes decided 1 to start with 0 and to exit.
-    pub fn vote_quorum(&self) -> usize {
-        usize::from(self.n - self.ta)
+    /// The first value whose senders, or instances, weigh `enough`.
+    pub fn first_weighing<'a, V: PartialEq>(
+        &self,
+        held: impl Iterator<Item = (&'a Number, &'a V)> + Clone,
+        enough: Weight,
+    ) -> Option<&'a V> {
+        let weighs_enough = |wanted: &&V| {
+            let holders = held.clone().filter(|(_, value)| value == wanted);
+            self.weight(holders.map(|(&number, _)| number)) >= enough
+        };
+        held.clone().map(|(_, value)| value).find(weighs_enough)
     }
 
-    /// Votes: ta+1 ESTs to relay.
-    pub fn vote_relay(&self) -> usize {
-        usize::from(self.ta) + 1
+    /// Broadcasts and commits: W−ts.
+    pub fn quorum(&self) -> Weight {
+        self.whole.saturating_sub(self.ts.into())
     }
 
-    /// Votes: 2·ta+1 ESTs to accept.
-    pub fn vote_accept(&self) -> usize {
-        2 * usize::from(self.ta) + 1
+    /// Broadcasts and commits: ts+1.
+    pub fn relay(&self) -> Weight {
+        Weight::from(self.ts) + 1
+    }
+
+    /// Votes: AUXs of W−ta to move, votes decided 1 of W−ta to start with 0 and to exit.
+    pub fn vote_quorum(&self) -> Weight {
+        self.whole.saturating_sub(self.ta.into())
+    }
+
+    /// Votes: ESTs of ta+1 to relay.
+    pub fn vote_relay(&self) -> Weight {
+        Weight::from(self.ta) + 1
+    }
+
+    /// Votes: ESTs of 2·ta+1 to accept.
+    pub fn vote_accept(&self) -> Weight {
+        2 * Weight::from(self.ta) + 1
     }
 
     /// "a session takes at most 99·n+3 turns".
@@ -88,8 +145,25 @@ impl Settings {
         99 * u64::from(self.n) + 3
     }
 
-    /// The settings of an engine with [`crate::Fault::TaForTs`].
-    pub(crate) fn with_ta_for_ts(self) -> Settings {
-        Settings { ts: self.ta, ..self }
+    /// The settings that an engine with the fault goes by. [`Fault::Heads`] can have a ts above n.
+    pub(crate) fn with_fault(self, fault: Fault) -> Settings {
+        match fault {
+            Fault::TaForTs => Settings { ts: self.ta, ..self },
+            Fault::Heads => self.with_heads(),
+            _ => self,
+        }
+    }
+
+    /// What the majority of Exit 2 goes by.
+    pub(crate) fn in_majority(&self, fault: Fault) -> Settings {
+        if fault == Fault::HeadMajority {
+            self.with_heads()
+        } else {
+            *self
+        }
+    }
+
+    fn with_heads(self) -> Settings {
+        Settings { weights: [1; Self::MOST as usize], whole: self.n.into(), ..self }
     }
 }

@@ -6,7 +6,7 @@ use crate::exits::Exit;
 use crate::fault::Fault;
 use crate::message::Message;
 use crate::session::{Outcome, Session};
-use crate::settings::{Number, Round, Settings};
+use crate::settings::{Number, Round, Settings, Weight};
 
 /// The own part in one vote.
 #[derive(Clone, Debug, Default)]
@@ -44,7 +44,7 @@ impl Session {
             .or_else(|| self.move_on(instance))
     }
 
-    /// With 1 if the broadcast has output, else with 0 once s ≥ n−ta.
+    /// With 1 if the broadcast has output, else with 0 once s ≥ W−ta.
     fn start(&mut self, instance: Number) -> Option<Message> {
         if self.vote(instance).round != 0 {
             return None;
@@ -66,7 +66,7 @@ impl Session {
         Message::Est { instance, round, value }
     }
 
-    /// A value not yet sent as EST and held from ta+1 senders, lowest round first, 0 before 1.
+    /// A value not yet sent as EST and held from senders of ta+1, lowest round first, 0 before 1.
     fn send_relay(&mut self, instance: Number) -> Option<Message> {
         let vote = self.vote(instance);
         let last = vote.round.min(Settings::ROUND_LIMIT);
@@ -74,7 +74,7 @@ impl Session {
             .flat_map(|round| [(round, false), (round, true)])
             .filter(|place| !vote.ests_sent.contains(place))
             .find(|&(round, value)| {
-                self.records.est_count(instance, round, value) >= self.settings.vote_relay()
+                self.est_weight(instance, round, value) >= self.settings.vote_relay()
             })?;
         self.vote_mut(instance).ests_sent.insert((round, value));
         Some(Message::Est { instance, round, value })
@@ -92,14 +92,15 @@ impl Session {
         Some(Message::Aux { instance, round, value })
     }
 
-    /// "Move, after the own AUX: when at least n−ta held AUXs carry accepted values."
+    /// Move, after the own AUX: when held AUXs of at least W−ta carry accepted values.
     fn move_on(&mut self, instance: Number) -> Option<Outcome> {
         let round = self.vote(instance).open_round()?;
         if !self.vote(instance).aux_sent {
             return None;
         }
         let carried = self.carried(instance, round);
-        if carried.len() < self.settings.vote_quorum() {
+        let weight = self.settings.weight(carried.iter().map(|&(sender, _)| sender));
+        if weight < self.settings.vote_quorum() {
             return None;
         }
         let coin = self.coin(instance, round);
@@ -113,11 +114,11 @@ impl Session {
         Some(self.enter_next(instance, round, estimate))
     }
 
-    /// The accepted values that the AUXs of the round carry, one for each AUX.
-    fn carried(&self, instance: Number, round: Round) -> Vec<bool> {
+    /// The AUXs of the round that carry accepted values: each sender with its value.
+    fn carried(&self, instance: Number, round: Round) -> Vec<(Number, bool)> {
         self.records
             .auxes(instance, round)
-            .filter(|&value| {
+            .filter(|&(_, value)| {
                 self.fault == Fault::UnacceptedAux || self.is_accepted(instance, round, value)
             })
             .collect()
@@ -139,9 +140,14 @@ impl Session {
         Outcome::MovedOut
     }
 
-    /// "A value is accepted in a round when 2·ta+1 senders' ESTs hold it."
+    /// A value is accepted in a round when ESTs of 2·ta+1 hold it.
     fn is_accepted(&self, instance: Number, round: Round, value: bool) -> bool {
-        self.records.est_count(instance, round, value) >= self.settings.vote_accept()
+        self.est_weight(instance, round, value) >= self.settings.vote_accept()
+    }
+
+    /// The weight of the senders whose ESTs hold the value.
+    fn est_weight(&self, instance: Number, round: Round, value: bool) -> Weight {
+        self.settings.weight(self.records.est_senders(instance, round, value))
     }
 
     /// "Bit r−1 of word i, lowest bit 0, is the coin of vote i in round r."
@@ -150,9 +156,10 @@ impl Session {
         word >> (round - 1) & 1 == 1
     }
 
-    /// s: "counts votes decided 1".
-    fn decided_one(&self) -> usize {
-        self.votes.values().filter(|vote| vote.decision == Some(true)).count()
+    /// s, the weight of the votes decided 1.
+    fn decided_one(&self) -> Weight {
+        let decided = self.votes.iter().filter(|(_, vote)| vote.decision == Some(true));
+        self.settings.weight(decided.map(|(&instance, _)| instance))
     }
 
     /// The decisions there are, by instance.
@@ -170,7 +177,7 @@ impl Session {
 }
 
 /// The one value that all carry, if they carry just one.
-fn only_value(carried: &[bool]) -> Option<bool> {
-    let first = *carried.first()?;
-    carried.iter().all(|&value| value == first).then_some(first)
+fn only_value(carried: &[(Number, bool)]) -> Option<bool> {
+    let (_, first) = *carried.first()?;
+    carried.iter().all(|&(_, value)| value == first).then_some(first)
 }

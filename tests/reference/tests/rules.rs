@@ -1,4 +1,4 @@
-//! The tables, settings and message layout of document 01.
+//! The tables, settings and message layout of document 01, all weights being 1.
 
 use std::collections::BTreeMap;
 
@@ -22,7 +22,7 @@ fn table_exit(broadcasts: &str, votes: &str, fault: Fault) -> Exit {
         .into_iter()
         .filter_map(|(number, sign)| Some((number, sign.to_digit(10)? == 1)))
         .collect();
-    exit(&Settings::new(4, 1, 1).unwrap(), &outputs, &decisions, fault)
+    exit(&Settings::unweighted(4, 1, 1).unwrap(), &outputs, &decisions, fault)
 }
 
 #[test]
@@ -50,7 +50,8 @@ fn faults_change_their_rows() {
 }
 
 fn opening(n: u64, ta: u64, ts: u64, own: u64, coins: &[u32]) -> Opening<'_> {
-    Opening { n, ta, ts, own, session: SESSION, input: 5, coins }
+    let weights = Settings::ones(n);
+    Opening { n, ta, ts, own, session: SESSION, input: 5, coins, weights }
 }
 
 fn open(n: u64, ta: u64, ts: u64) -> Result<Session, Refusal> {
@@ -99,7 +100,7 @@ fn messages() -> Vec<Message> {
 
 #[test]
 fn messages_read_as_written() {
-    let settings = Settings::new(4, 1, 1).unwrap();
+    let settings = Settings::unweighted(4, 1, 1).unwrap();
     for message in messages() {
         let bytes = message.to_bytes(2, SESSION);
         assert_eq!(Message::from_bytes(&bytes, 2, &settings, SESSION), Ok((2, message)));

@@ -1,6 +1,5 @@
 -- The value of the lowest sender that leads.
 use Prim.Native.Nat.{_+_, _-_}
-use borrow.Author.Needs.{needs}
 use Rattle.quorum.specs.Lowest.{Passed, finding}
 use Rattle.records.specs.Words.{word, marked}
 use Rattle.broadcasts.specs.Leading.{leads}
@@ -10,10 +9,10 @@ use Rattle.broadcasts.proofs.leading_of.Statement.{statement}
 use Rattle.broadcasts.proofs.leading_of.Tie as tie
 
 abbrev Inv-loop : tie.InvT-loop
-Inv-loop s marks values n q p₀ p = Passed (leads (λ k. marked s marks k) (λ k. word s (values + k)) n q) n p
+Inv-loop s marks values n weights q p₀ p = Passed (leads weights (λ k. marked s marks k) (λ k. word s (values + k)) n q) n p
 
 abbrev μ-loop : tie.MeasureT-loop
-μ-loop s marks values n q p₀ p = n - p
+μ-loop s marks values n weights q p₀ p = n - p
 
 loop-holds : tie.Need-loop-holds Inv-loop μ-loop
 loop-holds c = search finding

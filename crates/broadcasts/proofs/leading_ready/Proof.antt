@@ -1,5 +1,7 @@
--- The READYs of an instance stand at their own marks and values.
+-- The READYs of an instance stand at their own marks and values; where too few are held nobody leads.
 use Rattle.records.specs.Records.{readyHeld, readyValue}
+use Rattle.broadcasts.specs.Leading.{heldCount}
+use Rattle.broadcasts.specs.Cases.{leading-few}
 use borrow.Author.Needs.{needs}
 use Rattle.broadcasts.proofs.leading_ready.Statement.{statement}
 use Rattle.broadcasts.proofs.leading_ready.Tie as tie
@@ -19,14 +21,30 @@ mul-values c = search needs
 add-values : tie.Need-add-values
 add-values c = search needs
 
-leading-requires : tie.Need-leading-requires
-leading-requires c κs = search needs
+held-count-requires : tie.Need-held-count-requires
+held-count-requires c κs = search needs
 
 returns : tie.Need-returns
+unfolding heldCount readyHeld readyValue
+returns c = search leading-few
+
+leading-of-requires : tie.Need-leading-of-requires
+leading-of-requires c κs = search needs
+
+returns-2 : tie.Need-returns-2
 unfolding readyHeld readyValue
-returns c = search needs
+returns-2 c = search needs
 
 pub leading-ready-spec : {M : Type 1} → statement M
 leading-ready-spec =
     tie.close
-    (tie.spec cast-marks add-marks cast-values mul-values add-values leading-requires returns)
+    (tie.spec
+    cast-marks
+    add-marks
+    cast-values
+    mul-values
+    add-values
+    held-count-requires
+    returns
+    leading-of-requires
+    returns-2)

@@ -13,8 +13,8 @@ add-word c = search needs
 word-requires : tie.Need-word-requires
 word-requires c κs = search needs
 
-holders-requires : tie.Need-holders-requires
-holders-requires c κs = search needs
+enough-hold-requires : tie.Need-enough-hold-requires
+enough-hold-requires c κs = search needs
 
 returns : tie.Need-returns
 returns c = search leaders
@@ -24,4 +24,5 @@ returns-2 c = search leaders
 
 pub leads-spec : {M : Type 1} → statement M
 leads-spec =
-    tie.close (tie.spec marked-requires add-word word-requires holders-requires returns returns-2)
+    tie.close
+    (tie.spec marked-requires add-word word-requires enough-hold-requires returns returns-2)

@@ -1,53 +1,25 @@
--- After p steps the senders 1 to p are counted.
-use Prim.Native.Nat.{_-_}
-use Rattle.quorum.specs.Counting.{Counting, counting}
-use Rattle.commits.specs.Commits.{commitHeld}
-use Rattle.commits.specs.Cases.{commit-cases}
+-- The marks of the counts that are 0, turned over and weighed.
+use Rattle.commits.specs.Cases.{commits-counted}
 use borrow.Author.Needs.{needs}
 use Rattle.commits.proofs.commits_held.Statement.{statement}
 use Rattle.commits.proofs.commits_held.Tie as tie
 
-abbrev Inv-loop : tie.InvT-loop
-Inv-loop s n c₀ p₀ c p = Counting (λ k. commitHeld s k) n p c
+cast-equal-marks : tie.Need-cast-equal-marks
+cast-equal-marks c = search needs
 
-abbrev μ-loop : tie.MeasureT-loop
-μ-loop s n c₀ p₀ c p = n - p
+add-equal-marks : tie.Need-add-equal-marks
+add-equal-marks c = search needs
 
-loop-holds : tie.Need-loop-holds Inv-loop μ-loop
-loop-holds c = search counting
+equal-marks-requires : tie.Need-equal-marks-requires
+equal-marks-requires c κs = search needs
 
-add-p : tie.Need-add-p Inv-loop μ-loop
-add-p c = search needs
+weigh-marks-requires : tie.Need-weigh-marks-requires
+weigh-marks-requires c κs = search needs
 
-commit-held-requires : tie.Need-commit-held-requires Inv-loop μ-loop
-commit-held-requires c κs = search needs
-
-cast-c : tie.Need-cast-c Inv-loop μ-loop
-cast-c c = search needs
-
-add-c : tie.Need-add-c Inv-loop μ-loop
-add-c c = search counting
-
-loop-less : tie.Need-loop-less Inv-loop μ-loop
-loop-less c = search needs
-
-loop-again : tie.Need-loop-again Inv-loop μ-loop
-loop-again c = search counting
-
-returns : tie.Need-returns Inv-loop μ-loop
-returns c = search (commit-cases, counting)
+returns : tie.Need-returns
+returns c = search commits-counted
 
 pub commits-held-spec : {M : Type 1} → statement M
 commits-held-spec =
     tie.close
-    (tie.spec
-    Inv-loop
-    μ-loop
-    loop-holds
-    add-p
-    commit-held-requires
-    cast-c
-    add-c
-    loop-less
-    loop-again
-    returns)
+    (tie.spec cast-equal-marks add-equal-marks equal-marks-requires weigh-marks-requires returns)

@@ -8,10 +8,10 @@ use Rattle.commits.proofs.leader_of.Statement.{statement}
 use Rattle.commits.proofs.leader_of.Tie as tie
 
 abbrev Inv-loop : tie.InvT-loop
-Inv-loop s n k p₀ p = Passed (λ q. setLeads s n k q) n p
+Inv-loop s weights n k p₀ p = Passed (λ q. setLeads weights s n k q) n p
 
 abbrev μ-loop : tie.MeasureT-loop
-μ-loop s n k p₀ p = n - p
+μ-loop s weights n k p₀ p = n - p
 
 loop-holds : tie.Need-loop-holds Inv-loop μ-loop
 loop-holds c = search finding

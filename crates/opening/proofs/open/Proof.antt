@@ -1,46 +1,20 @@
--- The verdict, then the words where it is 0.
-use Rattle.opening.specs.Cases.{open-cases}
+-- The weights as one word, then the session.
+use Rattle.opening.specs.Cases.{given-answer, given-words}
 use borrow.Author.Needs.{needs}
 use Rattle.opening.proofs.open.Statement.{statement}
 use Rattle.opening.proofs.open.Tie as tie
 
-open-answer-requires : tie.Need-open-answer-requires
-open-answer-requires c κs = search needs
+weights-word-requires : tie.Need-weights-word-requires
+weights-word-requires c κs = search needs
 
-clear-requires : tie.Need-clear-requires
-clear-requires c κs = search needs
-
-named-ta-requires : tie.Need-named-ta-requires
-named-ta-requires c κs = search needs
-
-put-settings-requires : tie.Need-put-settings-requires
-put-settings-requires c κs = search needs
-
-cast-put-coins : tie.Need-cast-put-coins
-cast-put-coins c = search open-cases
-
-put-coins-requires : tie.Need-put-coins-requires
-put-coins-requires c κs = search needs
+open-weighted-requires : tie.Need-open-weighted-requires
+open-weighted-requires c κs = search needs
 
 same-length : tie.Need-same-length
 same-length c = search needs
 
 returns : tie.Need-returns
-returns c = search open-cases
-
-returns-2 : tie.Need-returns-2
-returns-2 c = search open-cases
+returns c = (search given-answer, search given-words)
 
 pub open-spec : {M : Type 1} → statement M
-open-spec =
-    tie.close
-    (tie.spec
-    open-answer-requires
-    clear-requires
-    named-ta-requires
-    put-settings-requires
-    cast-put-coins
-    put-coins-requires
-    same-length
-    returns
-    returns-2)
+open-spec = tie.close (tie.spec weights-word-requires open-weighted-requires same-length returns)

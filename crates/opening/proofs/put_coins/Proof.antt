@@ -1,14 +1,14 @@
 -- After i steps coin words 1 to i are stored.
 use Prim.Native.Nat.{_-_}
 use Rattle.records.specs.Fill.{Storing, storing}
-use Rattle.opening.specs.Opening.{coinWord}
+use Rattle.opening.specs.Given.{item}
 use Rattle.opening.specs.Cases.{open-cases}
 use borrow.Author.Needs.{needs}
 use Rattle.opening.proofs.put_coins.Statement.{statement}
 use Rattle.opening.proofs.put_coins.Tie as tie
 
 abbrev Inv-loop : tie.InvT-loop
-Inv-loop s₀ coins n i₀ s i = Storing (λ j. coinWord coins j) 7 n s₀ s i
+Inv-loop s₀ coins n i₀ s i = Storing (λ j. item coins j) 7 n s₀ s i
 
 abbrev μ-loop : tie.MeasureT-loop
 μ-loop s₀ coins n i₀ s i = n - i

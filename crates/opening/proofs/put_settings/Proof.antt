@@ -22,6 +22,9 @@ put-requires-5 c κs = search needs
 put-requires-6 : tie.Need-put-requires-6
 put-requires-6 c κs = search needs
 
+put-requires-7 : tie.Need-put-requires-7
+put-requires-7 c κs = search needs
+
 same-length : tie.Need-same-length
 same-length c = search needs
 
@@ -39,5 +42,6 @@ put-settings-spec =
     put-requires-4
     put-requires-5
     put-requires-6
+    put-requires-7
     same-length
     returns)

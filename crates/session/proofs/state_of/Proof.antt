@@ -16,6 +16,9 @@ word-requires-2 c κs = search needs
 word-requires-3 : tie.Need-word-requires-3
 word-requires-3 c κs = search needs
 
+word-requires-4 : tie.Need-word-requires-4
+word-requires-4 c κs = search needs
+
 check-requires : tie.Need-check-requires
 check-requires c κs = search needs
 
@@ -42,6 +45,7 @@ state-of-spec =
     word-requires
     word-requires-2
     word-requires-3
+    word-requires-4
     check-requires
     enum-told
     enum-known-c

@@ -1,38 +1,46 @@
--- Where at most one value is accepted its AUXs are counted at once.
-use Rattle.votes.specs.Cases.{carried}
+-- The groups of the accepted values, one over the other, weighed at once.
+use Rattle.votes.specs.Cases.{carriers-weighed}
 use borrow.Author.Needs.{needs}
 use Rattle.votes.proofs.carriers.Statement.{statement}
 use Rattle.votes.proofs.carriers.Tie as tie
 
-carriers-each-requires : tie.Need-carriers-each-requires
-carriers-each-requires c κs = search needs
+votes-requires : tie.Need-votes-requires
+votes-requires c κs = search needs
+
+cast-share : tie.Need-cast-share
+cast-share c = search needs
+
+shr-share : tie.Need-shr-share
+shr-share c = search needs
+
+share-requires : tie.Need-share-requires
+share-requires c κs = search needs
+
+cast-share-2 : tie.Need-cast-share-2
+cast-share-2 c = search needs
+
+shr-share-2 : tie.Need-shr-share-2
+shr-share-2 c = search needs
+
+share-requires-2 : tie.Need-share-requires-2
+share-requires-2 c κs = search needs
+
+weigh-marks-requires : tie.Need-weigh-marks-requires
+weigh-marks-requires c κs = search needs
 
 returns : tie.Need-returns
-returns c = search needs
-
-aux-count-requires : tie.Need-aux-count-requires
-aux-count-requires c κs = search needs
-
-returns-2 : tie.Need-returns-2
-returns-2 c = search carried
-
-aux-count-requires-2 : tie.Need-aux-count-requires-2
-aux-count-requires-2 c κs = search needs
-
-returns-3 : tie.Need-returns-3
-returns-3 c = search carried
-
-returns-4 : tie.Need-returns-4
-returns-4 c = search carried
+returns c = search carriers-weighed
 
 pub carriers-spec : {M : Type 1} → statement M
 carriers-spec =
     tie.close
     (tie.spec
-    carriers-each-requires
-    returns
-    aux-count-requires
-    returns-2
-    aux-count-requires-2
-    returns-3
-    returns-4)
+    votes-requires
+    cast-share
+    shr-share
+    share-requires
+    cast-share-2
+    shr-share-2
+    share-requires-2
+    weigh-marks-requires
+    returns)

@@ -7,11 +7,11 @@ use Rattle.votes.proofs.votes_decided_one.Tie as tie
 word-requires : tie.Need-word-requires
 word-requires c κs = search needs
 
-count-marks-requires : tie.Need-count-marks-requires
-count-marks-requires c κs = search needs
+weigh-marks-requires : tie.Need-weigh-marks-requires
+weigh-marks-requires c κs = search needs
 
 returns : tie.Need-returns
 returns c = search ones-counted
 
 pub votes-decided-one-spec : {M : Type 1} → statement M
-votes-decided-one-spec = tie.close (tie.spec word-requires count-marks-requires returns)
+votes-decided-one-spec = tie.close (tie.spec word-requires weigh-marks-requires returns)

@@ -54,7 +54,7 @@ impl fmt::Display for Violation {
 /// Demand 3 over the list of calls made so far.
 #[derive(Clone, Debug)]
 pub struct Claim {
-    /// The first half is owed: at most ta lie.
+    /// The first half is owed: the liars weigh at most ta.
     agreement: bool,
     /// The second half is owed: every honest one that is opened put in this pack.
     pack: Option<u64>,

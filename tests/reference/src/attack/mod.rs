@@ -98,18 +98,20 @@ pub fn run_feeder<E: Engine>(engine: &E, seed: u64) -> (Statistics, Result<(), V
     (feeder.statistics, result)
 }
 
-/// Runs so many feeders and then more, until all settings with n up to 7 had one; it ends early where demand 3 is broken.
+/// Runs so many feeders and then more, until all settings with n up to 7 and weights of 1 had one; it ends early where
+/// demand 3 is broken.
 pub fn attack<E: Engine>(engine: &E, seed: u64, feeders: u64) -> (Statistics, Option<Finding>) {
     let mut random = Random::new(seed);
     let mut total = Statistics::default();
-    let all = all_settings(pick::MOST as u64).count();
-    while total.feeders < feeders || total.settings.len() < all {
+    let mut left: BTreeSet<Settings> = all_settings(pick::MOST as u64).collect();
+    while total.feeders < feeders || !left.is_empty() {
         let seed = random.word();
-        if feeders <= total.feeders && total.settings.contains(&Plan::new(seed).settings) {
+        if feeders <= total.feeders && !left.contains(&Plan::new(seed).settings) {
             continue;
         }
         let (statistics, result) = run_feeder(engine, seed);
         total.add_feeder(&statistics);
+        left.retain(|settings| !total.settings.contains(settings));
         if let Err(violation) = result {
             let feeder = total.feeders;
             return (total, Some(Finding { feeder, seed, violation }));

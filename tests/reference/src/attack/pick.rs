@@ -12,27 +12,62 @@ use crate::settings::{Number, Settings};
 pub const MOST: usize = 7;
 /// A delay that lasts until nothing else is on its way.
 const WHOLE_SESSION: u64 = 1_000_000;
+/// A delay that lasts until votes that do not wait for anything are decided.
+const UNTIL_DECIDED: u64 = 3_000;
 
 pub fn aim(random: &mut Random) -> Aim {
-    match random.below(10) {
+    match random.below(11) {
         0..=2 => Aim::Agreement,
         3 | 4 => Aim::EqualPacks,
         5 | 6 => Aim::BlockedBroadcast,
-        7 => Aim::SplitVote,
+        7 => Aim::HeavyAgainstLight,
+        8 => Aim::SplitVote,
         _ => Aim::SplitStart,
     }
 }
 
-/// Any valid settings with n up to 7 that suit the aim.
+/// Any valid settings with n up to 7 that suit the aim; half of the time all weights are 1.
 pub fn settings(random: &mut Random, aim: Aim) -> Settings {
     let suits = |settings: &Settings| match aim {
         Aim::Agreement => true,
         Aim::EqualPacks => settings.ts() > 0,
         // With ta = 0 no vote can start with 0, and the first half has no liars.
         Aim::BlockedBroadcast | Aim::SplitVote | Aim::SplitStart => settings.ta() > 0,
+        // All heavy ones make Exit 1; without one of them votes start with 0, and the light ones are more in number.
+        Aim::HeavyAgainstLight => {
+            let light = settings.numbers().filter(|&number| is_light(settings, number));
+            let count = light.clone().count();
+            let starts = settings.numbers().any(|number| is_heavy_in_ta(settings, number));
+            2 * count >= usize::from(settings.n())
+                && settings.weight(light) <= settings.ts().into()
+                && starts
+        }
     };
-    let all: Vec<Settings> = all_settings(MOST as u64).filter(suits).collect();
-    random.pick(&all)
+    loop {
+        let all: Vec<Settings> = if random.once_in(2) {
+            all_settings(MOST as u64).filter(suits).collect()
+        } else {
+            Settings::all_with(&weights(random)).filter(suits).collect()
+        };
+        if !all.is_empty() {
+            return random.pick(&all);
+        }
+    }
+}
+
+fn is_light(settings: &Settings, number: Number) -> bool {
+    settings.weight([number]) == 1
+}
+
+fn is_heavy_in_ta(settings: &Settings, number: Number) -> bool {
+    !is_light(settings, number) && settings.weight([number]) <= settings.ta().into()
+}
+
+/// From 1 to 4, for up to 7 concentrators.
+fn weights(random: &mut Random) -> Vec<u8> {
+    // Mostly many.
+    let n = 1 + random.below(MOST as u64).max(random.below(MOST as u64));
+    (0..n).map(|_| 1 + random.below(u64::from(Settings::HEAVIEST)) as u8).collect()
 }
 
 pub fn ta_given(random: &mut Random, settings: &Settings) -> u64 {
@@ -43,12 +78,19 @@ pub fn ta_given(random: &mut Random, settings: &Settings) -> u64 {
     }
 }
 
-/// Mostly as many as there may be.
+/// Mostly of as much weight as there may be.
 pub fn liars(random: &mut Random, settings: &Settings, aim: Aim) -> BTreeSet<Number> {
-    let most = if aim == Aim::EqualPacks { settings.ts() } else { settings.ta() };
-    let fewer = if random.once_in(4) { random.below(u64::from(most) + 1) } else { 0 };
-    let count = usize::from(most) - fewer as usize;
-    random.some(settings.numbers().collect(), count).into_iter().collect()
+    let most = u64::from(if aim == Aim::EqualPacks { settings.ts() } else { settings.ta() });
+    let less = if random.once_in(4) { random.below(most + 1) } else { 0 };
+    let shuffled = random.some(settings.numbers().collect(), MOST);
+    let mut liars = BTreeSet::new();
+    for number in shuffled {
+        let weight = settings.weight(liars.iter().copied().chain([number]));
+        if u64::from(weight) <= most - less {
+            liars.insert(number);
+        }
+    }
+    liars
 }
 
 /// Seven different packs.
@@ -60,6 +102,7 @@ pub fn packs(random: &mut Random) -> Vec<u64> {
 /// One of the first packs for each, in turn or at random.
 pub fn inputs(
     random: &mut Random,
+    settings: &Settings,
     honest: &[Number],
     packs: &[u64],
     aim: Aim,
@@ -68,6 +111,10 @@ pub fn inputs(
         Aim::Agreement => random.pick(&[1, 2, 2, 2, 3, MOST]),
         Aim::EqualPacks => 1,
         Aim::BlockedBroadcast => 2,
+        Aim::HeavyAgainstLight => {
+            let pack = |number: Number| packs[usize::from(is_light(settings, number))];
+            return honest.iter().map(|&number| (number, pack(number))).collect();
+        }
         Aim::SplitVote | Aim::SplitStart => MOST,
     };
     let in_turn = kinds == MOST || random.once_in(2);
@@ -135,7 +182,7 @@ pub fn script(
             return script;
         }
         Aim::EqualPacks => 2,
-        Aim::Agreement | Aim::BlockedBroadcast => 5,
+        Aim::Agreement | Aim::BlockedBroadcast | Aim::HeavyAgainstLight => 5,
     };
     if random.once_in(flood_in) {
         let instances = some_numbers(random, settings);
@@ -160,8 +207,10 @@ fn some_numbers(random: &mut Random, settings: &Settings) -> Vec<Number> {
 }
 
 /// The instance that an aim is about.
-pub fn target(random: &mut Random, settings: &Settings) -> Number {
-    random.pick(&settings.numbers().collect::<Vec<Number>>())
+pub fn target(random: &mut Random, settings: &Settings, aim: Aim) -> Number {
+    let suits =
+        |&number: &Number| aim != Aim::HeavyAgainstLight || is_heavy_in_ta(settings, number);
+    random.pick(&settings.numbers().filter(suits).collect::<Vec<Number>>())
 }
 
 pub fn pace(random: &mut Random, settings: &Settings, aim: Aim, target: Number) -> Pace {
@@ -183,6 +232,10 @@ fn holds(random: &mut Random, settings: &Settings, aim: Aim, target: Number) -> 
         Hold { kinds: (3, 3), instance: Some(target), delay: WHOLE_SESSION, ..Hold::default() };
     match aim {
         Aim::SplitVote => {}
+        Aim::HeavyAgainstLight => {
+            holds[0].delay = WHOLE_SESSION;
+            holds.push(Hold { delay: UNTIL_DECIDED, ..readies });
+        }
         Aim::SplitStart => holds.push(Hold { to_group: Some(Group::B), ..readies }),
         Aim::BlockedBroadcast => {
             holds.push(Hold { to_one: Some(random.pick(&numbers)), ..readies });

@@ -6,17 +6,20 @@ use super::pick;
 use super::random::Random;
 use super::script::Script;
 use crate::session::Opening;
-use crate::settings::{Number, Settings};
+use crate::settings::{Number, Settings, Weight};
 
 /// What a plan is drawn up for.
 #[derive(Clone, Copy, Debug, PartialEq, Eq)]
 pub enum Aim {
-    /// The first half of demand 3: at most ta lie.
+    /// The first half of demand 3: liars of weight ta at most.
     Agreement,
-    /// The second half: up to ts lie, and all others put in one pack.
+    /// The second half: liars of weight up to ts, and all others put in one pack.
     EqualPacks,
     /// First half; two packs, and one broadcast's READYs kept from one concentrator for the whole session.
     BlockedBroadcast,
+    /// First half; few heavy ones put in one pack and as many light ones another, and one heavy broadcast's READYs are
+    /// kept from all until the votes are decided.
+    HeavyAgainstLight,
     /// First half; all packs different, and AUXs against one vote.
     SplitVote,
     /// First half; all packs different, one broadcast's READYs kept from one group, and its vote fought over.
@@ -111,12 +114,12 @@ impl Plan {
             settings.numbers().filter(|number| !liars.contains(number)).collect();
         let packs = pick::packs(random);
         let coins = pick::coins(random, &settings);
-        let target = pick::target(random, &settings);
+        let target = pick::target(random, &settings, aim);
         Plan {
             settings,
             ta_given: pick::ta_given(random, &settings),
             session: random.word() as u32,
-            inputs: pick::inputs(random, &honest, &packs, aim),
+            inputs: pick::inputs(random, &settings, &honest, &packs, aim),
             openings: honest.iter().map(|&number| (number, pick::opened(random))).collect(),
             used_before: random.once_in(4),
             liars,
@@ -138,6 +141,7 @@ impl Plan {
             session: self.session,
             input,
             coins: &self.coins,
+            weights: self.settings.weights(),
         }
     }
 
@@ -148,14 +152,18 @@ impl Plan {
         random.below(self.pace.jitter) + held.unwrap_or(0)
     }
 
+    fn liars_weight(&self) -> Weight {
+        self.settings.weight(self.liars.iter().copied())
+    }
+
     /// The first half of demand 3 is owed.
     pub fn owes_agreement(&self) -> bool {
-        self.liars.len() <= usize::from(self.settings.ta())
+        self.liars_weight() <= self.settings.ta().into()
     }
 
     /// If the second half of demand 3 is owed: the pack that every honest one that is opened puts in.
     pub fn owed_pack(&self) -> Option<u64> {
-        if self.liars.len() > usize::from(self.settings.ts()) {
+        if self.liars_weight() > self.settings.ts().into() {
             return None;
         }
         let is_opened = |number: &Number| self.openings[number] != Opened::Never;

@@ -19,8 +19,17 @@ fn main() -> ExitCode {
         return ExitCode::from(2);
     };
     println!("seed {seed}");
-    let coins = &[0];
-    check_word_counts(&Opening { n: 1, ta: 0, ts: 0, own: 1, session: 0, input: 0, coins });
+    let (coins, weights) = (&[0], &[1]);
+    check_word_counts(&Opening {
+        n: 1,
+        ta: 0,
+        ts: 0,
+        own: 1,
+        session: 0,
+        input: 0,
+        coins,
+        weights,
+    });
     let engine = Lockstep { first: Reference::default(), second: CEngine };
     let start = Instant::now();
     let note = |part: &str, what: &dyn Display| {

@@ -47,10 +47,7 @@ impl<E: Engine> Caller<'_, E> {
     fn open(&mut self) -> u64 {
         let random = &mut self.random;
         let most = random.pick(&[5, 5, 7, Settings::MOST]);
-        let n = 1 + random.below(most);
-        let ts = random.below(n.div_ceil(2));
-        let most_lying = ts.min(n - 1 - 2 * ts);
-        let ta = if random.once_in(2) { most_lying } else { random.below(most_lying + 1) };
+        let ([n, ta, ts], mut weights) = good_settings(random, most);
         let mut numbers = [n, ta, ts, 1 + random.below(n)];
         if random.once_in(3) {
             numbers[random.below(4) as usize] = random.pick(&EDGES);
@@ -61,12 +58,13 @@ impl<E: Engine> Caller<'_, E> {
         };
         let ones = random.pick(&[0, u32::MAX]);
         let coins: Vec<u32> = (0..words).map(|_| random.word() as u32 | ones).collect();
+        damage_weights(random, &mut weights);
         let session = random.pick(&[0, 7, u32::MAX]);
         let input = random.below(3);
         let [n, ta, ts, own] = numbers;
-        let answer = self
-            .engine
-            .open(&mut self.state, &Opening { n, ta, ts, own, session, input, coins: &coins });
+        let (coins, weights) = (&coins[..], &weights[..]);
+        let opening = Opening { n, ta, ts, own, session, input, coins, weights };
+        let answer = self.engine.open(&mut self.state, &opening);
         if answer == 0 {
             self.session = session;
             self.left = messages(random, n as u8);
@@ -117,6 +115,37 @@ impl<E: Engine> Caller<'_, E> {
         let (mut named, mut in_force) = ([7; SET_WORDS], [8; SET_WORDS]);
         let answer = self.engine.report(&self.state, &mut named, &mut in_force);
         self.answers.note_report(answer);
+    }
+}
+
+/// n, up to `most`, ta and ts that opening takes with these weights.
+pub fn good_settings(random: &mut Random, most: u64) -> ([u64; 3], Vec<u8>) {
+    let n = 1 + random.below(most);
+    let weights = good_weights(random, n);
+    let whole = weights.iter().map(|&weight| u64::from(weight)).sum::<u64>();
+    let ts = random.below(whole.div_ceil(2));
+    let most_lying = ts.min(whole - 1 - 2 * ts);
+    let ta = if random.once_in(2) { most_lying } else { random.below(most_lying + 1) };
+    ([n, ta, ts], weights)
+}
+
+/// Half of the time all 1.
+pub fn good_weights(random: &mut Random, n: u64) -> Vec<u8> {
+    let heaviest = random.pick(&[1, Settings::HEAVIEST]);
+    (0..n).map(|_| 1 + random.below(u64::from(heaviest)) as u8).collect()
+}
+
+/// At times one that is out of range, or another number of them.
+pub fn damage_weights(random: &mut Random, weights: &mut Vec<u8>) {
+    let count = weights.len();
+    match random.below(24) {
+        0 if count > 0 => {
+            // The lowest three binary digits of the last two are those of a weight.
+            let outside = random.pick(&[0, 5, 7, 8, 255, 9, 132]);
+            weights[random.below(count as u64) as usize] = outside;
+        }
+        1 => weights.resize(random.pick(&[0, count.saturating_sub(1), count + 1, 17]), 1),
+        _ => {}
     }
 }
 

@@ -8,8 +8,9 @@ use crate::session::Opening;
 use crate::settings::Number;
 
 const SESSION: u32 = 0x0102_0304;
-/// n, ta, ts; the sender is the last concentrator.
-const SETTINGS: [(u64, u64, u64); 4] = [(1, 0, 0), (4, 1, 1), (7, 0, 3), (16, 5, 5)];
+/// n, ta, ts, and the weight of each; the sender is the last concentrator.
+const SETTINGS: [(u64, u64, u64, u8); 4] =
+    [(1, 1, 1, 4), (4, 1, 1, 1), (7, 0, 3, 1), (16, 5, 5, 2)];
 
 struct Deliveries<'a, E: Engine> {
     engine: &'a E,
@@ -23,9 +24,9 @@ where
     E::State: Clone,
 {
     let mut deliveries = Deliveries { engine, state: engine.blank(), answers: Answers::default() };
-    for (n, ta, ts) in SETTINGS {
-        let coins = vec![0; n as usize];
-        let opening = Opening { n, ta, ts, own: 1, session: SESSION, input: 5, coins: &coins };
+    for (n, ta, ts, weight) in SETTINGS {
+        let (coins, weights) = (&vec![0; n as usize][..], &vec![weight; n as usize][..]);
+        let opening = Opening { n, ta, ts, own: 1, session: SESSION, input: 5, coins, weights };
         for message in messages(n as Number) {
             let answer = engine.open(&mut deliveries.state, &opening);
             assert_eq!(answer, 0, "good settings");

@@ -1,6 +1,6 @@
 //! States with words that no engine wrote. The reference cannot hold them, so two engines over the words are compared.
 
-use super::calls::length;
+use super::calls::{damage_weights, good_settings, good_weights, length};
 use super::Answers;
 use crate::attack::random::Random;
 use crate::c_engine::{words, Words, STATE_WORDS};
@@ -10,6 +10,8 @@ use crate::report::SET_WORDS;
 use crate::session::Opening;
 use crate::settings::Number;
 
+/// The word of the weights.
+const WEIGHTS: usize = 141;
 /// Calls on a state before the next one.
 const CALLS: u64 = 24;
 
@@ -59,8 +61,11 @@ impl<A: Engine<State = Words>, B: Engine<State = Words>> Pair<'_, A, B> {
     fn open(&mut self) -> u64 {
         let n = self.random.below(18);
         let [ta, ts, own] = [2, 6, 17].map(|end| self.random.below(end));
-        let coins = vec![self.random.word() as u32; n as usize];
-        let opening = &Opening { n, ta, ts, own, session: 7, input: 5, coins: &coins };
+        let coins = &vec![self.random.word() as u32; n as usize][..];
+        let mut weights = good_weights(&mut self.random, n);
+        damage_weights(&mut self.random, &mut weights);
+        let weights = &weights[..];
+        let opening = &Opening { n, ta, ts, own, session: 7, input: 5, coins, weights };
         let first = self.first.open(&mut self.state, opening);
         assert_eq!(first, self.second.open(&mut self.copy, opening), "openings differ");
         first
@@ -163,10 +168,9 @@ fn plant(random: &mut Random, state: &mut Words) {
 /// Valid, or one of them not.
 fn plant_settings(random: &mut Random, state: &mut Words) {
     let most = random.pick(&[4, 7, 16]);
-    let n = 1 + random.below(most);
-    let ts = random.below(n.div_ceil(2));
-    let ta = random.below(ts.min(n - 1 - 2 * ts) + 1);
+    let ([n, ta, ts], weights) = good_settings(random, most);
     state[..4].copy_from_slice(&[n, ta, ts, 1 + random.below(n)]);
+    plant_weights(random, state, &weights);
     // The session number is the low half.
     state[4] = if random.once_in(4) { random.word() } else { 7 };
     state[5] = random.below(3);
@@ -174,6 +178,27 @@ fn plant_settings(random: &mut Random, state: &mut Words) {
         let place = random.below(4) as usize;
         state[place] = random.pick(&[0, 1, 8, 16, 17, 255, 1 << 32, u64::MAX]);
     }
+}
+
+/// The weights of 1 to n, by any of the four marks of each; at times others, for which ta and ts may be too high, or one of
+/// 0, and at times bits that are no weight of 1 to n.
+fn plant_weights(random: &mut Random, state: &mut Words, good: &[u8]) {
+    let n = good.len() as u64;
+    let mut weights = good.to_vec();
+    if random.once_in(20) {
+        weights = good_weights(random, n);
+    }
+    if random.once_in(20) {
+        weights[random.below(n) as usize] = 0;
+    }
+    let mut word = 0;
+    for (place, &weight) in weights.iter().enumerate() {
+        let first = random.below(4);
+        word |= (first..first + u64::from(weight)).fold(0, |w, k| w | 1 << (k % 4 * 16)) << place;
+    }
+    let others = !(((1 << n) - 1) * 0x0001_0001_0001_0001);
+    let marks = marks(random);
+    state[WEIGHTS] = word | marks(random) & others;
 }
 
 fn plant_marks(random: &mut Random, state: &mut Words, region: std::ops::Range<usize>) {

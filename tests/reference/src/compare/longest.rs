@@ -8,19 +8,27 @@ use crate::report::SET_WORDS;
 use crate::session::Opening;
 use crate::settings::{Number, Round, Settings};
 
-/// All settings with n up to `most`.
+/// All settings with n up to `most` and weights of 1.
 pub fn all_settings(most: u64) -> impl Iterator<Item = Settings> {
-    let numbers = |n: u64| (0..n).flat_map(move |ts| (0..=ts).map(move |ta| (n, ta, ts)));
-    (1..=most).flat_map(numbers).filter_map(|(n, ta, ts)| Settings::new(n, ta, ts).ok())
+    (1..=most).flat_map(|n| Settings::all_with(Settings::ones(n)))
 }
 
-/// Sessions of all settings with n up to `most`. In each round of each vote all four things are due, up to the move out
-/// of round 32. It panics unless each takes 99·n+3 turns; with n = 1, Exit 1 turns the votes off.
+/// All settings with n up to `most` and weights of 2, 3, 4, 1 and so on.
+fn weighted_settings(most: u64) -> impl Iterator<Item = Settings> {
+    let weights = |n: u64| (1..=n).map(|p| 1 + (p % 4) as u8).collect::<Vec<u8>>();
+    (1..=most).flat_map(move |n| Settings::all_with(&weights(n)).collect::<Vec<Settings>>())
+}
+
+/// Sessions of all settings with n up to `most`, with weights of 1 and with others. In each round of each vote all four
+/// things are due, up to the move out of round 32. It panics unless each takes 99·n+3 turns; where one broadcast alone is
+/// enough for Exit 1, that turns the votes off.
 pub fn longest_sessions<E: Engine>(engine: &E, most: u64) -> Answers {
     let mut answers = Answers::default();
-    for settings in all_settings(most) {
+    for settings in all_settings(most).chain(weighted_settings(most)) {
         let taken = longest_session(engine, &settings, &mut answers);
-        let expected = if settings.n() == 1 { 5 } else { settings.turn_limit() };
+        let exit_1 = settings.numbers().any(|i| settings.weight([i]) >= settings.quorum());
+        let without_votes = 2 * u64::from(settings.n()) + 3;
+        let expected = if exit_1 { without_votes } else { settings.turn_limit() };
         assert_eq!(taken, expected, "turns of the longest session of {settings:?}");
     }
     answers
@@ -31,7 +39,8 @@ fn longest_session<E: Engine>(engine: &E, settings: &Settings, answers: &mut Ans
     let mut state = engine.blank();
     // Ones, so that the last round decides 1.
     let coins = vec![u32::MAX; n as usize];
-    let opening = Opening { n, ta, ts, own: n, session: 7, input: n, coins: &coins };
+    let (coins, weights) = (&coins[..], settings.weights());
+    let opening = Opening { n, ta, ts, own: n, session: 7, input: n, coins, weights };
     answers.note(engine.open(&mut state, &opening));
     for (sender, message) in all_messages(settings) {
         let bytes = message.to_bytes(sender, 7);

@@ -23,7 +23,8 @@ impl Setup {
     pub fn new(letter: u8, fields: &[Field]) -> Result<Setup, Bad> {
         let (b'N', [n, ta, ts, session]) = (letter, fields) else { return Err(Bad) };
         let decimal = |field: &Field| field.decimal().ok_or(Bad);
-        let settings = Settings::new(decimal(n)?, decimal(ta)?, decimal(ts)?).map_err(|_| Bad)?;
+        let settings =
+            Settings::unweighted(decimal(n)?, decimal(ta)?, decimal(ts)?).map_err(|_| Bad)?;
         let session = u32::try_from(decimal(session)?).map_err(|_| Bad)?;
         if settings.n() > MOST {
             return Err(Bad);
@@ -68,6 +69,7 @@ impl Setup {
                 session: self.session,
                 input,
                 coins: &coins,
+                weights: self.settings.weights(),
             };
             (own, Session::open(&opening).expect("the N line holds good settings"))
         };

@@ -1,4 +1,4 @@
--- The part that is lent is the state.
+-- The parts that are lent are the state and n weights of 1.
 use Rattle.drill_feeder.specs.Cases.{state-cases}
 use borrow.Author.Needs.{needs}
 use Rattle.drill_feeder.proofs.calls.open_at.Statement.{statement}
@@ -9,6 +9,9 @@ state-at-requires c κs = search needs
 
 part-of-requires : tie.Need-part-of-requires
 part-of-requires c κs = search needs
+
+part-of-requires-2 : tie.Need-part-of-requires-2
+part-of-requires-2 c κs = search needs
 
 mul-open : tie.Need-mul-open
 mul-open c = search needs
@@ -21,6 +24,15 @@ part-open-start c = search needs
 
 part-open-end : tie.Need-part-open-end
 part-open-end c = search needs
+
+sub-open-2 : tie.Need-sub-open-2
+sub-open-2 c = search needs
+
+part-open-start-2 : tie.Need-part-open-start-2
+part-open-start-2 c = search needs
+
+part-open-end-2 : tie.Need-part-open-end-2
+part-open-end-2 c = search needs
 
 open-requires : tie.Need-open-requires
 open-requires c κs = search needs
@@ -37,10 +49,14 @@ open-at-spec =
     (tie.spec
     state-at-requires
     part-of-requires
+    part-of-requires-2
     mul-open
     sub-open
     part-open-start
     part-open-end
+    sub-open-2
+    part-open-start-2
+    part-open-end-2
     open-requires
     same-length
     returns)

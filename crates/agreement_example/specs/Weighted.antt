@@ -1,0 +1,110 @@
+-- Three concentrators of weights 4, 1 and 1: ta = ts = 1, session 7; the coins of round 1 are 1, 0 and 1. Concentrators 1 and 2 put in 5;
+-- 3 lies and puts in 6. The broadcast of 2 is late, so that the votes decide.
+-- W = 6: a broadcast has output, a vote moves and a set is in force from weight 5 on, so nothing happens without the heavy one, and beside
+-- it one of the others. Votes 1 and 3 are decided 1, which is s = 5; only then vote 2 starts with 0. In S = {1, 3} the output 5 weighs 4 of
+-- 5: Exit 2 names {5}. By heads it were one of two, no majority, and Exit 3 would name {5, 6}.
+use Prim.Native.Nat.{ℕ, _+_, _^_}
+use mathlib.Core.Bool.{Bool, true}
+use mathlib.Core.List.{List, [], _∷_}
+use mathlib.Core.Path.{_≡_, refl}
+use lib.Dec.{leb}
+use lib.ListN.{length}
+use Rattle.records.specs.Layout.{stateWords}
+use Rattle.records.specs.Fill.{blank}
+use Rattle.wire.specs.declared.Message.{Message}
+use Rattle.wire.specs.declared.Message.the-variants.{Send, Echo, Ready, Est, Aux, Commit}
+use Rattle.report.specs.Report.{reportAnswer}
+use Rattle.report.specs.declared.Answer.{Answer}
+use Rattle.report.specs.declared.Answer.the-variants.{Refused, Given}
+use Rattle.agreement.specs.Evidence.{Honest}
+use Rattle.agreement.specs.Calls.{Call, opening, report, engine, Agreed, world}
+use Rattle.agreement_example.specs.Checking.{wordsOf, run}
+use Rattle.agreement_example.specs.Example.{Example, passes, passes-example}
+use Rattle.agreement_example.specs.Refusals.{refusals}
+use Rattle.agreement_example.specs.Messages.{openingWith, deliver, turnOf}
+use Rattle.turn_bound.specs.Computing.{calls}
+use Rattle.agreement_example.specs.Computing.{checks}
+
+-- the weights as one word: 1 has the marks 1, 17, 33 and 49, 2 and 3 the marks 2 and 3
+abbrev pub session : Agreed
+session = record { settings = record { n = 3; ta = 1; ts = 1; whole = 6; weights = 2 ^ 48 + 2 ^ 32 + 2 ^ 16 + 7 }; number = 7; coins = 1 ∷ 0 ∷ 1 ∷ [] }
+
+abbrev pub firstTwo : ℕ → Bool
+firstTwo p = leb p 2
+
+-- The last call stands first; `cs` are the calls before.
+
+unfoldable pub openings : List (Call engine)
+openings = opens 2 ∷ opens 1 ∷ []
+  where
+    opens : ℕ → Call engine
+    opens p = opening p (openingWith 3 1 1 (1 ∷ 0 ∷ 1 ∷ []) (4 ∷ 1 ∷ 1 ∷ []) p)
+
+-- a turn of each honest one
+unfoldable pub turns : List (Call engine) → List (Call engine)
+turns cs = turnOf 2 ∷ turnOf 1 ∷ cs
+
+-- the message m of p, with the set xs in a COMMIT, delivered to each honest one
+unfoldable pub toBoth : ℕ → Message → List ℕ → List (Call engine) → List (Call engine)
+toBoth p m xs cs = deliver 2 p m xs ∷ deliver 1 p m xs ∷ cs
+
+-- the same message of each honest one
+unfoldable pub fromBoth : Message → List ℕ → List (Call engine) → List (Call engine)
+fromBoth m xs cs = toBoth 2 m xs (toBoth 1 m xs cs)
+
+-- two turns of each honest one, and what they sent: m and then k
+unfoldable pub twice : Message → Message → List (Call engine) → List (Call engine)
+twice m k cs = fromBoth k [] (fromBoth m [] (turns (turns cs)))
+
+-- broadcasts 1 and 3
+unfoldable pub untilReadies : List (Call engine)
+untilReadies =
+    twice (Ready 1 5) (Ready 3 6)
+    (twice (Echo 1 5) (Echo 3 6)
+    (toBoth 3 (Send 3 6) [] (toBoth 1 (Send 1 5) [] (turns openings))))
+
+-- votes 1 and 3 start with 1 and are decided; the turn that decides vote 3 is followed by the start of vote 2
+unfoldable pub untilDecided : List (Call engine)
+untilDecided = turns (turns (twice (Aux 1 1 1) (Aux 3 1 1) (twice (Est 1 1 1) (Est 3 1 1) untilReadies)))
+
+-- vote 2 starts with 0 and is decided, then the COMMITs
+unfoldable pub weightedCalls : List (Call engine)
+weightedCalls =
+    report 1 (blank 16, blank 16)
+    ∷ turns (fromBoth (Commit 1) (5 ∷ []) (turns
+    (turns (fromBoth (Aux 2 1 0) [] (turns
+    (fromBoth (Est 2 1 0) [] (turns untilDecided)))))))
+
+-- whatever 2,048 words the buffers of the honest ones hold at the start
+abbrev pub WeightedMeet : Type 0
+WeightedMeet =
+    (start : ℕ → List ℕ) → ((p : ℕ) → Honest (world engine session firstTwo) p → length (start p) ≡ stateWords) → Example start session firstTwo weightedCalls 5
+
+-- the exit that a report gives
+unfoldable pub exitIn : Answer → ℕ
+exitIn (Refused k) = 0
+exitIn (Given f) = f .exit
+
+-- the list meets the conditions, and it was Exit 2 that named the set
+pub record HeavyDecides : Type 0 where
+  pub meets : WeightedMeet
+  pub exit : exitIn (reportAnswer (wordsOf (run session firstTwo 5 weightedCalls .states) 1) 16 16) ≡ 2
+
+weighted-pass : passes session firstTwo 5 weightedCalls ≡ true
+unfolding calls checks openings turns toBoth fromBoth twice untilReadies untilDecided weightedCalls
+weighted-pass = refl
+
+weighted-meet : WeightedMeet
+weighted-meet start room = passes-example start session firstTwo 5 weightedCalls room weighted-pass
+
+-- no call is refused
+pub weighted-refusals : refusals session firstTwo 5 weightedCalls .numbers ≡ []
+unfolding calls checks openings turns toBoth fromBoth twice untilReadies untilDecided weightedCalls
+weighted-refusals = refl
+
+exit-two : exitIn (reportAnswer (wordsOf (run session firstTwo 5 weightedCalls .states) 1) 16 16) ≡ 2
+unfolding calls checks openings turns toBoth fromBoth twice untilReadies untilDecided weightedCalls exitIn
+exit-two = refl
+
+pub heavy-decides : HeavyDecides
+heavy-decides = record { meets = weighted-meet; exit = exit-two }

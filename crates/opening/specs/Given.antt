@@ -1,0 +1,25 @@
+-- The lists that an opening is given: coin words, and weights (request N11), which are kept as one word.
+use Prim.Native.Nat.{ℕ, _-_}
+use mathlib.Core.Bool.{Bool, _&&_, cond}
+use mathlib.Core.List.{List}
+use lib.ListN.{length}
+use lib.Dec.{eqb, leb}
+use Rattle.quorum.specs.Every.{every}
+use Rattle.quorum.specs.Packed.{packed}
+use Rattle.records.specs.Words.{word}
+
+-- item i of a list, from 1; 0 where there is none
+unfoldable pub item : List ℕ → ℕ → ℕ
+item xs i = cond (eqb i 0) 0 (word xs (i - 1))
+
+-- "Every concentrator gets a weight from 1 to 4"
+unfoldable pub weightGiven : List ℕ → ℕ → Bool
+weightGiven weights p = leb 1 (item weights p) && leb (item weights p) 4
+
+-- .. exactly n of them, and n is at most 16
+unfoldable pub weightsGiven : ℕ → List ℕ → Bool
+weightsGiven n weights = leb n 16 && eqb (length weights) n && every (weightGiven weights) n
+
+-- the weights as they are stored; a list that is not right is the word 0, by which nobody has a weight, and so refused as 1
+unfoldable pub weightsWord : ℕ → List ℕ → ℕ
+weightsWord n weights = cond (weightsGiven n weights) (packed (item weights) n) 0

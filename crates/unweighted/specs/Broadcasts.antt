@@ -1,0 +1,49 @@
+-- Rules 4 and 5 of the turn order, and the output of a broadcast.
+-- The senders are 1 to n; `held p` tells whether a message is held from sender p, `value p` its value.
+use Prim.Native.Nat.{ℕ}
+use mathlib.Core.Bool.{Bool, _&&_, cond}
+use mathlib.Core.List.{List}
+use lib.Dec.{eqb, leb}
+use Rattle.quorum.specs.Total.{count}
+use Rattle.quorum.specs.Lowest.{lowest}
+use Rattle.records.specs.Records.{readySent, echoHeld, echoValue, readyHeld, readyValue}
+use Rattle.acts.specs.Acts.{firstAct}
+use Rattle.acts.specs.declared.Act.{Act}
+use Rattle.acts.specs.declared.Act.the-variants.{Idle}
+use Rattle.broadcasts.specs.Broadcasts.{echoAct, readyOf}
+use Rattle.broadcasts.specs.Leading.{valueOf, orOutput}
+use Rattle.broadcasts.specs.declared.Output.{Output}
+use Rattle.unweighted.specs.Settings.{Settings, quorum, copy}
+
+-- how many senders hold v
+unfoldable pub holders : (ℕ → Bool) → (ℕ → ℕ) → ℕ → ℕ → ℕ
+holders held value v n = count (λ p. held p && eqb (value p) v) n
+
+-- sender p holds a value that q senders hold
+unfoldable pub leads : (ℕ → Bool) → (ℕ → ℕ) → ℕ → ℕ → ℕ → Bool
+leads held value n q p = held p && leb q (holders held value (value p) n)
+
+-- a value that q senders hold: "of several, the lowest sender's"
+unfoldable pub leading : (ℕ → Bool) → (ℕ → ℕ) → ℕ → ℕ → Output
+leading held value n q = valueOf value (lowest (leads held value n q) n)
+
+-- "A broadcast has output v when n−ts senders' READYs hold v."
+unfoldable pub output : Settings → List ℕ → ℕ → Output
+output g s i = leading (readyHeld s i) (readyValue s i) (g .n) (quorum g)
+
+-- "a value with n−ts ECHOs, else one with ts+1 READYs (of several, the lowest sender's)"
+unfoldable pub readyDue : Settings → List ℕ → ℕ → Output
+readyDue g s i =
+    orOutput (leading (echoHeld s i) (echoValue s i) (g .n) (quorum g)) (leading (readyHeld s i) (readyValue s i) (g .n) (copy g))
+
+-- "READY, once for each instance"
+unfoldable pub readyAct : Settings → List ℕ → ℕ → Act
+readyAct g s i = cond (readySent s i) Idle (readyOf i (readyDue g s i))
+
+-- rule 4, lower instances first
+unfoldable pub echoRule : Settings → List ℕ → Act
+echoRule g s = firstAct (echoAct s) (g .n)
+
+-- rule 5, lower instances first
+unfoldable pub readyRule : Settings → List ℕ → Act
+readyRule g s = firstAct (readyAct g s) (g .n)

@@ -1,0 +1,44 @@
+-- "A turn does the first thing due in this order, lower instances first." The state s has the settings g.
+use Prim.Native.Nat.{ℕ}
+use mathlib.Core.Bool.{cond}
+use mathlib.Core.List.{List}
+use lib.Dec.{eqb}
+use Rattle.records.specs.Records.{commitSent}
+use Rattle.acts.specs.Acts.{orAct, firstAct}
+use Rattle.acts.specs.declared.Act.{Act}
+use Rattle.acts.specs.declared.Act.the-variants.{Idle, InForce}
+use Rattle.broadcasts.specs.Leading.{present}
+use Rattle.turn.specs.Due.{orSet, commitOf, sendRule}
+use Rattle.unweighted.specs.Settings.{Settings, quorum, copy}
+use Rattle.unweighted.specs.Broadcasts.{output, echoRule, readyRule}
+use Rattle.unweighted.specs.Votes.{votesDecidedOne, voteAct}
+use Rattle.unweighted.specs.Exits.{exitNow}
+use Rattle.unweighted.specs.Commits.{setLeader, leadingSet}
+
+-- 1. "In force: n−ts senders' COMMITs hold the same set."
+unfoldable pub inForceRule : Settings → List ℕ → Act
+inForceRule g s = cond (eqb (setLeader s (g .n) (quorum g)) 0) Idle InForce
+
+-- 2. "the set the exits name, else a set held from ts+1 senders (of several, the lowest sender's)"; none is []
+unfoldable pub commitDue : Settings → List ℕ → List ℕ
+commitDue g s = orSet (exitNow g s .names) (leadingSet s (g .n) (copy g))
+
+-- 2. "COMMIT, if none sent"
+unfoldable pub commitRule : Settings → List ℕ → Act
+commitRule g s = cond (commitSent s) Idle (commitOf (commitDue g s))
+
+-- 6. "Votes, unless Exit 1 holds."
+unfoldable pub votesRule : Settings → List ℕ → Act
+votesRule g s =
+    cond (eqb (exitNow g s .number) 1) Idle
+    (firstAct (λ i. voteAct g s (present (output g s i)) (votesDecidedOne g s) i) (g .n))
+
+-- the rules in their order
+unfoldable pub due : Settings → List ℕ → Act
+due g s =
+    orAct (inForceRule g s)
+    (orAct (commitRule g s)
+    (orAct (sendRule s)
+    (orAct (echoRule g s)
+    (orAct (readyRule g s)
+    (votesRule g s)))))

@@ -1,0 +1,13 @@
+pub mod Settings
+pub mod Broadcasts
+pub mod Votes
+pub mod Exits
+pub mod Commits
+pub mod Session
+pub mod Opening
+pub mod Delivery
+pub mod Due
+pub mod Turn
+pub mod Report
+pub mod Statement
+pub mod laws

@@ -1,0 +1,116 @@
+-- Request N11: "With all weights 1 every answer equals the unweighted one.", as a claim about the calls.
+-- The unweighted rules are those of this crate's files Settings to Report: they count, and no weight is among what they read.
+use Prim.Native.Nat.{ℕ, _-_, _^_, _≤_}
+use mathlib.Core.List.{List, [], _∷_}
+use mathlib.Core.Logic.{_≢_}
+use mathlib.Core.Path.{_≡_}
+use lib.ListN.{length}
+use Rattle.quorum.specs.Weights.{weightOf}
+use Rattle.records.specs.Layout.{nAt, weightsAt}
+use Rattle.records.specs.Words.{word, put}
+use Rattle.opening.specs.Given.{weightsWord}
+use Rattle.opening.specs.Ones.{onesGiven}
+use Rattle.opening.specs.Opening.{openAnswer, opened}
+use Rattle.delivery.specs.Delivery.{deliverAnswer, delivered}
+use Rattle.turn.specs.Turn.{turnOutcome, turnWords, turnBytes}
+use Rattle.report.specs.Report.{reportAnswer, reportNamed, reportInForce}
+use Rattle.turn_bound.specs.TurnBound.{Arguments, answer, openedBy, Step, opening, delivery, turn, report, after}
+use Rattle.unweighted.specs.Opening as unweighted-opening
+use Rattle.unweighted.specs.Delivery as unweighted-delivery
+use Rattle.unweighted.specs.Turn as unweighted-turn
+use Rattle.unweighted.specs.Report as unweighted-report
+
+-- ---- an opening that is given n weights of 1
+
+-- its answer, where the buffer has so many words, and so many coin words are given
+unfoldable pub AnswersAlike : Type 0
+AnswersAlike =
+    (words n ta ts own coinWords : ℕ) →
+    openAnswer words n ta ts (weightsWord n (onesGiven n)) own coinWords ≡ unweighted-opening.openAnswer words n ta ts own coinWords
+
+-- the words after it, on any words s
+pub record OpensAlike (s : List ℕ) (n ta ts own session input : ℕ) (coins : List ℕ) : Type 0 where
+  -- accepted: the unweighted words but for the word of the weights
+  pub accepted : unweighted-opening.openAnswer (length s) n ta ts own (length coins) ≡ 0 → opened s n ta ts (weightsWord n (onesGiven n)) own session input coins ≡ put (unweighted-opening.opened s n ta ts own session input coins) weightsAt (2 ^ n - 1)
+  -- refused: the words are untouched
+  pub refused : unweighted-opening.openAnswer (length s) n ta ts own (length coins) ≢ 0 → opened s n ta ts (weightsWord n (onesGiven n)) own session input coins ≡ s
+  pub unweighted-refused : unweighted-opening.openAnswer (length s) n ta ts own (length coins) ≢ 0 → unweighted-opening.opened s n ta ts own session input coins ≡ s
+
+-- ---- the other calls, on words in which all weights are 1
+
+-- each of the numbers 1 to n has weight 1
+unfoldable pub AllOne : List ℕ → Type 0
+AllOne s = (p : ℕ) → 1 ≤ p → p ≤ word s nAt → weightOf (word s weightsAt) p ≡ 1
+
+-- every delivery, turn and report on the words s gives what the unweighted one gives: answer, words, lent bytes and lent words
+pub record Alike (s : List ℕ) : Type 0 where
+  pub delivery-answer : (link : ℕ) (b : List ℕ) → deliverAnswer s link b ≡ unweighted-delivery.deliverAnswer s link b
+  pub delivery-words : (link : ℕ) (b : List ℕ) → delivered s link b ≡ unweighted-delivery.delivered s link b
+  pub turn-outcome : (room : ℕ) → turnOutcome s room ≡ unweighted-turn.turnOutcome s room
+  pub turn-words : (room : ℕ) → turnWords s room ≡ unweighted-turn.turnWords s room
+  pub turn-bytes : (out : List ℕ) → turnBytes s out ≡ unweighted-turn.turnBytes s out
+  pub report-answer : (namedWords inForceWords : ℕ) → reportAnswer s namedWords inForceWords ≡ unweighted-report.reportAnswer s namedWords inForceWords
+  pub report-named : (named : List ℕ) (inForceWords : ℕ) → reportNamed s named inForceWords ≡ unweighted-report.reportNamed s named inForceWords
+  pub report-in-force : (namedWords : ℕ) (inForce : List ℕ) → reportInForce s namedWords inForce ≡ unweighted-report.reportInForce s namedWords inForce
+
+-- ---- lists of calls
+
+-- an opening is given n weights of 1
+unfoldable pub GivenOnes : Arguments → Type 0
+GivenOnes o = o .weights ≡ onesGiven (o .n)
+
+-- so is each opening of a list of calls
+unfoldable pub EachGivenOnes : List Step → Type 0
+EachGivenOnes [] = Unit
+EachGivenOnes (opening o ∷ cs) = GivenOnes o × EachGivenOnes cs
+EachGivenOnes (delivery link b ∷ cs) = EachGivenOnes cs
+EachGivenOnes (turn out ∷ cs) = EachGivenOnes cs
+EachGivenOnes (report ∷ cs) = EachGivenOnes cs
+
+-- an unweighted opening takes the same arguments but the weights
+abbrev pub unweightedAnswer : List ℕ → Arguments → ℕ
+unweightedAnswer s o = unweighted-opening.openAnswer (length s) (o .n) (o .ta) (o .ts) (o .own) (length (o .coins))
+
+abbrev pub unweightedOpenedBy : List ℕ → Arguments → List ℕ
+unweightedOpenedBy s o = unweighted-opening.opened s (o .n) (o .ta) (o .ts) (o .own) (o .session) (o .input) (o .coins)
+
+-- the words after a list of calls of an unweighted session, newest first, on the words s; a report writes none of them
+unfoldable pub unweightedAfter : List ℕ → List Step → List ℕ
+unweightedAfter s [] = s
+unweightedAfter s (opening o ∷ cs) = unweightedOpenedBy (unweightedAfter s cs) o
+unweightedAfter s (delivery link b ∷ cs) = unweighted-delivery.delivered (unweightedAfter s cs) link b
+unweightedAfter s (turn out ∷ cs) = unweighted-turn.turnWords (unweightedAfter s cs) (length out)
+unweightedAfter s (report ∷ cs) = unweightedAfter s cs
+
+-- two runs side by side: w are the words of one with weights of 1, u those of the unweighted one
+pub record SideBySide (w u : List ℕ) : Type 0 where
+  -- the words are the same but for that of the weights: it is 0 in the unweighted run ..
+  pub words : u ≡ put w weightsAt 0
+  -- .. and gives each of 1 to n the weight 1 in the other
+  pub weights : AllOne w
+  -- a further opening, given weights of 1, has the same answer
+  pub opening-answer : (o : Arguments) → GivenOnes o → answer w o ≡ unweightedAnswer u o
+  -- a further delivery has the same answer
+  pub delivery-answer : (link : ℕ) (b : List ℕ) → deliverAnswer w link b ≡ unweighted-delivery.deliverAnswer u link b
+  -- a further turn has the same outcome ..
+  pub turn-outcome : (room : ℕ) → turnOutcome w room ≡ unweighted-turn.turnOutcome u room
+  -- .. and leaves the same bytes, those of its message among them
+  pub turn-bytes : (out : List ℕ) → turnBytes w out ≡ unweighted-turn.turnBytes u out
+  -- a further report has the same answer ..
+  pub report-answer : (namedWords inForceWords : ℕ) → reportAnswer w namedWords inForceWords ≡ unweighted-report.reportAnswer u namedWords inForceWords
+  -- .. leaves the same words lent for the set that the exits name ..
+  pub report-named : (named : List ℕ) (inForceWords : ℕ) → reportNamed w named inForceWords ≡ unweighted-report.reportNamed u named inForceWords
+  -- .. and the same words lent for the set in force
+  pub report-in-force : (namedWords : ℕ) (inForce : List ℕ) → reportInForce w namedWords inForce ≡ unweighted-report.reportInForce u namedWords inForce
+
+-- the claim
+pub record Unweighted : Type 0 where
+  -- an opening given weights of 1 has the unweighted answer ..
+  pub openings-answer : AnswersAlike
+  -- .. and leaves the unweighted words but for that of the weights, on any words, foreign ones too
+  pub openings : (s : List ℕ) (n ta ts own session input : ℕ) (coins : List ℕ) → OpensAlike s n ta ts own session input coins
+  -- every other call is the unweighted one on any words in which all weights are 1, foreign ones too
+  pub calls : (s : List ℕ) → AllOne s → Alike s
+  -- after an accepted opening of any words and every list of calls, further openings among them, each given weights of 1, the run
+  -- and the unweighted run of the same calls stand side by side
+  pub runs : (s : List ℕ) (o : Arguments) → answer s o ≡ 0 → GivenOnes o → (cs : List Step) → EachGivenOnes cs → SideBySide (after (openedBy s o) cs) (unweightedAfter (unweightedOpenedBy s o) cs)

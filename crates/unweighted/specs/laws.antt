@@ -1,0 +1,14 @@
+pub mod Counts
+pub mod Broadcasts
+pub mod Votes
+pub mod Exits
+pub mod Commits
+pub mod Due
+pub mod Session
+pub mod Delivery
+pub mod Turn
+pub mod Report
+pub mod Opening
+pub mod apart
+pub mod Runs
+pub mod Lists

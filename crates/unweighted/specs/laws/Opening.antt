@@ -1,0 +1,87 @@
+-- An opening that is given n weights of 1.
+use Prim.Native.Nat.{ℕ, zero, suc, _+_, _-_, _^_, _≤_}
+use mathlib.Core.List.{List}
+use mathlib.Core.Logic.{_≢_}
+use mathlib.Core.Path.{_≡_, refl, ap, _∙_}
+use native.Mathlib.Omega.{arith}
+use native.Mathlib.Decide.{decLe}
+use lib.ListN.{length}
+use lib.Seq.{set-comm}
+use borrow.Author.Tests.{le-leb, lt-leb, eq-eqb, ne-eqb}
+use Rattle.quorum.specs.Weights.{weightOf}
+use Rattle.quorum.specs.Whole.{ones-weight}
+use Rattle.settings.specs.Laws.{valid-rules}
+use Rattle.settings.specs.Settings.{namedTa}
+use Rattle.settings.specs.Settings as weighted-settings
+use Rattle.records.specs.Layout.{weightsAt, coinAt}
+use Rattle.records.specs.Words.{put}
+use Rattle.records.specs.Fill.{storeOf}
+use Rattle.opening.specs.Given.{item, weightsWord}
+use Rattle.opening.specs.Ones.{onesGiven, ones-word}
+use Rattle.opening.specs.Opening.{withCoins}
+use Rattle.opening.specs.Opening as weighted
+use Rattle.opening.specs.Cases as weighted-cases
+use Rattle.unweighted.specs.Settings.{validSettings}
+use Rattle.unweighted.specs.Opening.{openAnswer, withSettings, openWords, opened}
+use Rattle.unweighted.specs.Statement.{OpensAlike}
+use Rattle.unweighted.specs.laws.Counts.{valid-same}
+
+-- the n weights of 1 as one word
+abbrev pub onesWord : ℕ → ℕ
+onesWord n = weightsWord n (onesGiven n)
+
+pub each-one : (n : ℕ) → 1 ≤ n → n ≤ 16 → (p : ℕ) → 1 ≤ p → p ≤ n → weightOf (onesWord n) p ≡ 1
+each-one n some few p lo hi = ap (λ (w : ℕ). weightOf w p) (ones-word n some few) ∙ ones-weight n p lo hi few
+
+-- n = 0 and n > 16 are refused by both
+ones-valid : (n ta ts : ℕ) → weighted-settings.validSettings n ta ts (onesWord n) ≡ validSettings n ta ts
+unfolding weighted-settings.validSettings validSettings
+ones-valid n ta ts = at (decLe 1 n) (decLe n 16)
+  where
+    at : Dec (1 ≤ n) → Dec (n ≤ 16) → weighted-settings.validSettings n ta ts (onesWord n) ≡ validSettings n ta ts
+    at (yes some) (yes few) = valid-same (onesWord n) n (each-one n some few) ta ts
+    at (yes some) (no few) = rw (lt-leb n 16 (omega arith), le-leb 1 n some)
+    at (no some) d = rw (lt-leb 1 n (omega arith))
+
+pub answer-same : (words n ta ts own coinWords : ℕ) → weighted.openAnswer words n ta ts (onesWord n) own coinWords ≡ openAnswer words n ta ts own coinWords
+unfolding weighted.openAnswer openAnswer
+answer-same words n ta ts own coinWords = rw (ones-valid n (namedTa ta) ts)
+
+-- a run of stores beside a word that is put
+pub store-put : (f : ℕ → ℕ) (a : ℕ) (s : List ℕ) (k v n : ℕ) → ((j : ℕ) → 1 ≤ j → j ≤ n → k ≢ a + j) → storeOf f a (put s k v) n ≡ put (storeOf f a s n) k v
+unfolding storeOf put
+store-put f a s k v zero h = refl
+store-put f a s k v (suc n) h =
+    ap (λ (t : List ℕ). put t (a + suc n) (f (suc n))) (store-put f a s k v n (λ j lo hi. h j lo (omega arith)))
+    ∙ set-comm (storeOf f a s n) k (a + suc n) v (f (suc n)) (h (suc n) (omega arith) (omega arith))
+
+module _ (n ta ts own session input : ℕ) (coins : List ℕ) where
+  words-same : (w : ℕ) → n ≤ 16 → weighted.openWords n ta ts w own session input coins ≡ put (openWords n ta ts own session input coins) weightsAt w
+  unfolding weighted.openWords weighted.withSettings withCoins openWords withSettings
+  words-same w few = store-put (item coins) (coinAt 0) _ weightsAt w n (λ j lo hi z. omega arith)
+
+  module _ (s : List ℕ) where
+    pub accepted-few : openAnswer (length s) n ta ts own (length coins) ≡ 0 → (1 ≤ n) × (n ≤ 16)
+    accepted-few e =
+        let same = answer-same (length s) n ta ts own (length coins) in
+        let r = valid-rules n (namedTa ta) ts (onesWord n) (weighted-cases.accepted (length s) n ta ts (onesWord n) own (length coins) (same ∙ e) .valid) in
+        (r .some, r .few)
+
+    opened-accepted : openAnswer (length s) n ta ts own (length coins) ≡ 0 → weighted.opened s n ta ts (onesWord n) own session input coins ≡ put (opened s n ta ts own session input coins) weightsAt (2 ^ n - 1)
+    unfolding weighted.opened opened
+    opened-accepted e =
+        let few = accepted-few e in
+        rw (answer-same (length s) n ta ts own (length coins), eq-eqb (openAnswer (length s) n ta ts own (length coins)) 0 e)
+        (words-same (onesWord n) (few .1) ∙ ap (put (openWords n ta ts own session input coins) weightsAt) (ones-word n (few .0) (few .1)))
+
+    opened-refused : openAnswer (length s) n ta ts own (length coins) ≢ 0 → weighted.opened s n ta ts (onesWord n) own session input coins ≡ s
+    unfolding weighted.opened
+    opened-refused ne =
+        rw (answer-same (length s) n ta ts own (length coins), ne-eqb (openAnswer (length s) n ta ts own (length coins)) 0 ne)
+
+    both-refused : openAnswer (length s) n ta ts own (length coins) ≢ 0 → opened s n ta ts own session input coins ≡ s
+    unfolding opened
+    both-refused ne = rw (ne-eqb (openAnswer (length s) n ta ts own (length coins)) 0 ne)
+
+    pub opens-same : OpensAlike s n ta ts own session input coins
+    opens-same = record { accepted = opened-accepted; refused = opened-refused; unweighted-refused = both-refused }

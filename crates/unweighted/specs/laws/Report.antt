@@ -1,0 +1,77 @@
+-- A report on words in which all weights are 1.
+use Prim.Native.Nat.{ℕ}
+use mathlib.Core.Bool.{Bool, true, false, _||_, not, cond}
+use mathlib.Core.List.{List, []}
+use mathlib.Core.Path.{_≡_, refl, ap, ap₂, _∙_}
+use lib.Dec.{ltb}
+use lib.ListN.{length}
+use Rattle.settings.specs.Refusals.{SHORT, NO-STATE}
+use Rattle.records.specs.Layout.{turnsAt}
+use Rattle.records.specs.Words.{word}
+use Rattle.records.specs.Records.{closed}
+use Rattle.session.specs.Session.{stored, sessionWith, sessionOf}
+use Rattle.session.specs.Session as weighted-session
+use Rattle.session.specs.declared.Stored.the-variants.{NoState, Held}
+use Rattle.exits.specs.Exits.{Exit}
+use Rattle.report.specs.Report.{atFront}
+use Rattle.report.specs.Report as weighted
+use Rattle.report.specs.declared.Admitted.{Admitted}
+use Rattle.report.specs.declared.Admitted.the-variants.{Refused, Open}
+use Rattle.report.specs.declared.Answer.the-variants as answer
+use Rattle.report.specs.declared.Figures.{Figures}
+use Rattle.unweighted.specs.Session.{settingsOf}
+use Rattle.unweighted.specs.Report.{inForceSet, figuresOf, giving, reportAnswer, reportNamed, reportInForce}
+use Rattle.unweighted.specs.Statement.{AllOne}
+use Rattle.unweighted.specs.laws.Session.{stored-ones, state-same, stored-exit}
+use Rattle.unweighted.specs.laws.Counts.{quorum-same}
+use Rattle.unweighted.specs.laws.Commits.{leading-set-same}
+
+module _ (s : List ℕ) (all : AllOne s) where
+  -- what F makes of an admission: of the refusals in their order, or of the settings
+  module _ {A : Type 0} (F : Admitted → A) (namedWords inForceWords : ℕ) where
+    abbrev made : Bool → Bool → A
+    made t l = cond (not t) (F (Refused NO-STATE)) (cond l (F (Refused SHORT)) (F (Open (weighted-session.settingsOf s))))
+
+    by-room : (l : Bool) → F (cond l (Refused SHORT) (Open (weighted-session.settingsOf s))) ≡ made true l
+    by-room true = refl
+    by-room false = refl
+
+    by-state : (t : Bool) → F (weighted.admittedFor (cond t (Held (sessionOf s)) NoState) namedWords inForceWords) ≡ made t (ltb namedWords 16 || ltb inForceWords 16)
+    unfolding weighted.admittedFor weighted.admittedIn sessionOf sessionWith
+    by-state true = by-room (ltb namedWords 16 || ltb inForceWords 16)
+    by-state false = refl
+
+    given : F (weighted.admits s namedWords inForceWords) ≡ giving s namedWords inForceWords (λ k. F (Refused k)) (F (Open (weighted-session.settingsOf s)))
+    unfolding weighted.admits stored giving
+    given = by-state (weighted-session.isState s) ∙ ap (λ (t : Bool). made t (ltb namedWords 16 || ltb inForceWords 16)) (state-same s all)
+
+  in-force-same : weighted.inForceSet (weighted-session.settingsOf s) s ≡ inForceSet (settingsOf s) s
+  unfolding weighted.inForceSet weighted-session.settingsOf inForceSet settingsOf
+  in-force-same =
+      ap (λ (set : List ℕ). cond (closed s) set [])
+      (leading-set-same (weighted-session.settingsOf s) (stored-ones s all) s _ _ (quorum-same (weighted-session.settingsOf s) (stored-ones s all)))
+
+  figures-same : weighted.figuresOf (weighted-session.settingsOf s) s ≡ figuresOf (settingsOf s) s
+  unfolding weighted.figuresOf figuresOf
+  figures-same = ap₂ (λ (x : Exit) (set : List ℕ). figures x set) (stored-exit s all) in-force-same
+    where
+      figures : Exit → List ℕ → Figures
+      figures x set = record { exit = x .number; named = length (x .names); in_force = length set; turns = word s turnsAt }
+
+  pub report-answer-same : (namedWords inForceWords : ℕ) → weighted.reportAnswer s namedWords inForceWords ≡ reportAnswer s namedWords inForceWords
+  unfolding weighted.reportAnswer weighted.answerFor reportAnswer
+  report-answer-same namedWords inForceWords =
+      given (λ a. weighted.answerFor a s) namedWords inForceWords
+      ∙ ap (λ (x : Figures). giving s namedWords inForceWords (λ k. answer.Refused k) (answer.Given x)) figures-same
+
+  pub report-named-same : (named : List ℕ) (inForceWords : ℕ) → weighted.reportNamed s named inForceWords ≡ reportNamed s named inForceWords
+  unfolding weighted.reportNamed weighted.namedFor reportNamed
+  report-named-same named inForceWords =
+      given (λ a. weighted.namedFor a s named) (length named) inForceWords
+      ∙ ap (λ (x : Exit). giving s (length named) inForceWords (λ k. named) (atFront (x .names) named)) (stored-exit s all)
+
+  pub report-in-force-same : (namedWords : ℕ) (inForce : List ℕ) → weighted.reportInForce s namedWords inForce ≡ reportInForce s namedWords inForce
+  unfolding weighted.reportInForce weighted.inForceFor reportInForce
+  report-in-force-same namedWords inForce =
+      given (λ a. weighted.inForceFor a s inForce) namedWords (length inForce)
+      ∙ ap (λ (set : List ℕ). giving s namedWords (length inForce) (λ k. inForce) (atFront set inForce)) in-force-same

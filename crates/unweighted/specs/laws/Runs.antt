@@ -1,0 +1,142 @@
+-- A run with weights of 1 and an unweighted run of the same calls: their words are the same but for that of the weights.
+use Prim.Native.Nat.{ℕ, _-_, _^_, _≤_}
+use mathlib.Core.List.{List, [], _∷_}
+use mathlib.Core.Path.{_≡_, refl, sym, ap, _∙_}
+use native.Mathlib.Omega.{arith}
+use native.Mathlib.Decide.{ℕ-discrete}
+use lib.ListN.{length}
+use lib.Seq.{set-set, set-getD}
+use borrow.Author.Tests.{eq-eqb}
+use Rattle.settings.specs.Settings.{namedTa}
+use Rattle.records.specs.Layout.{stateWords, nAt, taAt, tsAt, ownAt, sessionAt, inputAt, weightsAt, coinAt}
+use Rattle.records.specs.Words.{word, put, length-put, word-put-other}
+use Rattle.records.specs.Fill.{word-blank, store-other}
+use Rattle.opening.specs.Given.{item, weightsWord}
+use Rattle.opening.specs.Ones.{onesGiven}
+use Rattle.opening.specs.Opening.{withCoins}
+use Rattle.opening.specs.Opening as weighted-opening
+use Rattle.turn_bound.specs.TurnBound.{Arguments, answer, openedBy, Step, opening, delivery, turn, report, after}
+use Rattle.unweighted.specs.Opening.{openAnswer, withSettings, openWords, opened}
+use Rattle.unweighted.specs.Delivery.{deliverAnswer, delivered}
+use Rattle.unweighted.specs.Turn.{turnOutcome, turnWords, turnBytes}
+use Rattle.unweighted.specs.Report.{reportAnswer, reportNamed, reportInForce}
+use Rattle.unweighted.specs.Statement.{AllOne, GivenOnes, EachGivenOnes, OpensAlike, unweightedAnswer, unweightedOpenedBy, unweightedAfter, SideBySide}
+use Rattle.unweighted.specs.laws.Opening.{answer-same, opens-same, accepted-few}
+use Rattle.unweighted.specs.laws.Delivery.{deliver-answer-same, delivered-same}
+use Rattle.unweighted.specs.laws.Turn.{turn-outcome-same, turn-words-same, turn-bytes-same}
+use Rattle.unweighted.specs.laws.Report.{report-answer-same, report-named-same, report-in-force-same}
+use Rattle.unweighted.specs.laws.apart.Delivery.{deliver-answer-apart, delivered-apart}
+use Rattle.unweighted.specs.laws.apart.Turn.{turn-outcome-apart, turn-words-apart, turn-bytes-apart}
+use Rattle.unweighted.specs.laws.apart.Report.{report-answer-apart, report-named-apart, report-in-force-apart}
+
+-- ---- an opening
+
+put-put : (s : List ℕ) (k v w : ℕ) → put (put s k v) k w ≡ put s k w
+unfolding put
+put-put s k v w = set-set s k v w
+
+put-word : (s : List ℕ) (k v : ℕ) → word s k ≡ v → put s k v ≡ s
+unfolding put word
+put-word s k v e = ap (put s k) (sym e) ∙ set-getD s k 0
+
+module _ (o : Arguments) where
+  -- an unweighted opening leaves 0 in the word of the weights
+  words-zero : o .n ≤ 16 → word (openWords (o .n) (o .ta) (o .ts) (o .own) (o .session) (o .input) (o .coins)) weightsAt ≡ 0
+  unfolding openWords withSettings withCoins
+  words-zero few =
+      store-other (item (o .coins)) (coinAt 0) _ (o .n) weightsAt (λ j lo hi z. omega arith)
+      ∙ word-put-other _ inputAt (o .input) weightsAt (λ z. omega arith)
+      ∙ word-put-other _ sessionAt (o .session) weightsAt (λ z. omega arith)
+      ∙ word-put-other _ ownAt (o .own) weightsAt (λ z. omega arith)
+      ∙ word-put-other _ tsAt (o .ts) weightsAt (λ z. omega arith)
+      ∙ word-put-other _ taAt (namedTa (o .ta)) weightsAt (λ z. omega arith)
+      ∙ word-put-other _ nAt (o .n) weightsAt (λ z. omega arith)
+      ∙ word-blank stateWords weightsAt (omega arith)
+
+  -- accepted, it sets all words
+  opened-all : (s : List ℕ) → unweightedAnswer s o ≡ 0 → unweightedOpenedBy s o ≡ openWords (o .n) (o .ta) (o .ts) (o .own) (o .session) (o .input) (o .coins)
+  unfolding opened
+  opened-all s e = rw (eq-eqb (unweightedAnswer s o) 0 e)
+
+  same-length : (s t : List ℕ) → length t ≡ length s → unweightedAnswer t o ≡ unweightedAnswer s o
+  same-length s t l = ap (λ (k : ℕ). openAnswer k (o .n) (o .ta) (o .ts) (o .own) (length (o .coins))) l
+
+  module _ (ones : GivenOnes o) where
+    answer-alike : (s : List ℕ) → answer s o ≡ unweightedAnswer s o
+    unfolding GivenOnes
+    answer-alike s =
+        ap (λ (ws : List ℕ). weighted-opening.openAnswer (length s) (o .n) (o .ta) (o .ts) (weightsWord (o .n) ws) (o .own) (length (o .coins))) ones
+        ∙ answer-same (length s) (o .n) (o .ta) (o .ts) (o .own) (length (o .coins))
+
+    module _ (s : List ℕ) where
+      with-ones : openedBy s o ≡ weighted-opening.opened s (o .n) (o .ta) (o .ts) (weightsWord (o .n) (onesGiven (o .n))) (o .own) (o .session) (o .input) (o .coins)
+      unfolding GivenOnes
+      with-ones = ap (λ (ws : List ℕ). weighted-opening.opened s (o .n) (o .ta) (o .ts) (weightsWord (o .n) ws) (o .own) (o .session) (o .input) (o .coins)) ones
+
+      alike : OpensAlike s (o .n) (o .ta) (o .ts) (o .own) (o .session) (o .input) (o .coins)
+      alike = opens-same (o .n) (o .ta) (o .ts) (o .own) (o .session) (o .input) (o .coins) s
+
+      -- accepted, from words of the same number
+      accepted-beside : (t : List ℕ) → length t ≡ length s → unweightedAnswer s o ≡ 0 → unweightedOpenedBy t o ≡ put (openedBy s o) weightsAt 0
+      accepted-beside t l e =
+          let all = opened-all s e in
+          let few = accepted-few (o .n) (o .ta) (o .ts) (o .own) (o .session) (o .input) (o .coins) s e .1 in
+          opened-all t (same-length s t l ∙ e)
+          ∙ sym (put-word _ weightsAt 0 (words-zero few))
+          ∙ sym (put-put _ weightsAt (2 ^ o .n - 1) 0)
+          ∙ ap (λ (u : List ℕ). put (put u weightsAt (2 ^ o .n - 1)) weightsAt 0) (sym all)
+          ∙ ap (λ (u : List ℕ). put u weightsAt 0) (sym (with-ones ∙ alike .accepted e))
+
+      -- accepted or refused, from words that are the same but for that of the weights
+      opened-beside : (t : List ℕ) → t ≡ put s weightsAt 0 → unweightedOpenedBy t o ≡ put (openedBy s o) weightsAt 0
+      opened-beside t same = by (ℕ-discrete (unweightedAnswer s o) 0)
+        where
+          l : length t ≡ length s
+          l = ap (λ (u : List ℕ). length u) same ∙ length-put s weightsAt 0
+
+          by : Dec (unweightedAnswer s o ≡ 0) → unweightedOpenedBy t o ≡ put (openedBy s o) weightsAt 0
+          by (yes e) = accepted-beside t l e
+          by (no ne) =
+              opens-same (o .n) (o .ta) (o .ts) (o .own) (o .session) (o .input) (o .coins) t .unweighted-refused (λ e. ne (sym (same-length s t l) ∙ e))
+              ∙ same
+              ∙ ap (λ (u : List ℕ). put u weightsAt 0) (sym (with-ones ∙ alike .refused ne))
+
+-- ---- lists of calls
+
+-- from words s of a run with weights of 1 and t of the unweighted one; all weights stay 1 in the one
+module _ (s t : List ℕ) (same : t ≡ put s weightsAt 0) (kept : (cs : List Step) → EachGivenOnes cs → AllOne (after s cs)) where
+  after-beside : (cs : List Step) → EachGivenOnes cs → unweightedAfter t cs ≡ put (after s cs) weightsAt 0
+  unfolding unweightedAfter after EachGivenOnes
+  after-beside [] hs = same
+  after-beside (opening o ∷ cs) hs = opened-beside o (hs .0) (after s cs) (unweightedAfter t cs) (after-beside cs (hs .1))
+  after-beside (delivery link b ∷ cs) hs =
+      ap (λ (u : List ℕ). delivered u link b) (after-beside cs hs)
+      ∙ delivered-apart (after s cs) 0 link b
+      ∙ ap (λ (u : List ℕ). put u weightsAt 0) (sym (delivered-same (after s cs) (kept cs hs) link b))
+  after-beside (turn out ∷ cs) hs =
+      ap (λ (u : List ℕ). turnWords u (length out)) (after-beside cs hs)
+      ∙ turn-words-apart (after s cs) 0 (length out)
+      ∙ ap (λ (u : List ℕ). put u weightsAt 0) (sym (turn-words-same (after s cs) (kept cs hs) (length out)))
+  after-beside (report ∷ cs) hs = after-beside cs hs
+
+-- words that are the same but for that of the weights
+beside : (w u : List ℕ) → u ≡ put w weightsAt 0 → AllOne w → SideBySide w u
+beside w u same all =
+    record {
+      words = same;
+      weights = all;
+      opening-answer = λ o ones. answer-alike o ones w ∙ sym (same-length o w u (ap (λ (v : List ℕ). length v) same ∙ length-put w weightsAt 0));
+      delivery-answer = λ link b. deliver-answer-same w all link b ∙ sym (ap (λ (v : List ℕ). deliverAnswer v link b) same ∙ deliver-answer-apart w 0 link b);
+      turn-outcome = λ room. turn-outcome-same w all room ∙ sym (ap (λ (v : List ℕ). turnOutcome v room) same ∙ turn-outcome-apart w 0 room);
+      turn-bytes = λ out. turn-bytes-same w all out ∙ sym (ap (λ (v : List ℕ). turnBytes v out) same ∙ turn-bytes-apart w 0 out);
+      report-answer = λ a b. report-answer-same w all a b ∙ sym (ap (λ (v : List ℕ). reportAnswer v a b) same ∙ report-answer-apart w 0 a b);
+      report-named = λ named b. report-named-same w all named b ∙ sym (ap (λ (v : List ℕ). reportNamed v named b) same ∙ report-named-apart w 0 named b);
+      report-in-force = λ a inForce. report-in-force-same w all a inForce ∙ sym (ap (λ (v : List ℕ). reportInForce v a inForce) same ∙ report-in-force-apart w 0 a inForce);
+    }
+
+pub runs : (s : List ℕ) (o : Arguments) → answer s o ≡ 0 → GivenOnes o → (cs : List Step) → EachGivenOnes cs → ((ds : List Step) → EachGivenOnes ds → AllOne (after (openedBy s o) ds)) → SideBySide (after (openedBy s o) cs) (unweightedAfter (unweightedOpenedBy s o) cs)
+runs s o e ones cs hs kept =
+    let first = accepted-beside o ones s s refl (sym (answer-alike o ones s) ∙ e) in
+    beside (after (openedBy s o) cs) (unweightedAfter (unweightedOpenedBy s o) cs)
+    (after-beside (openedBy s o) (unweightedOpenedBy s o) first kept cs hs)
+    (kept cs hs)

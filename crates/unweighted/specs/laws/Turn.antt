@@ -1,0 +1,78 @@
+-- A turn on words in which all weights are 1.
+use Prim.Native.Nat.{ℕ}
+use mathlib.Core.Bool.{Bool, true, false, not, cond}
+use mathlib.Core.List.{List}
+use mathlib.Core.Path.{_≡_, refl, ap, _∙_}
+use lib.Dec.{ltb}
+use lib.ListN.{length}
+use Rattle.settings.specs.Refusals.{SHORT, NO-STATE, CLOSED}
+use Rattle.records.specs.Layout.{ownAt}
+use Rattle.records.specs.Words.{word}
+use Rattle.records.specs.Records.{closed}
+use Rattle.acts.specs.declared.Act.{Act}
+use Rattle.session.specs.Session.{stored, sessionWith, sessionOf}
+use Rattle.session.specs.Session as weighted-session
+use Rattle.session.specs.declared.Stored.the-variants.{NoState, Held}
+use Rattle.wire.specs.Message.{encode, atFront}
+use Rattle.turn.specs.Turn.{outcomeOf, applied}
+use Rattle.turn.specs.Turn as weighted
+use Rattle.turn.specs.declared.Admitted.{Admitted}
+use Rattle.turn.specs.declared.Admitted.the-variants.{Refused, Open}
+use Rattle.turn.specs.declared.Outcome.{Outcome}
+use Rattle.turn.specs.declared.Outcome.the-variants as outcome
+use Rattle.unweighted.specs.Session.{sessionNumber}
+use Rattle.unweighted.specs.Turn.{dueIn, outcomeIn, bytesAfter, taking, turnOutcome, turnWords, turnBytes}
+use Rattle.unweighted.specs.Statement.{AllOne}
+use Rattle.unweighted.specs.laws.Session.{state-same, stored-commit, stored-due}
+
+module _ (s : List ℕ) (all : AllOne s) where
+  -- what F makes of an admission: of the refusals in their order, or of the session
+  module _ {A : Type 0} (F : Admitted → A) (room : ℕ) where
+    abbrev made : Bool → Bool → Bool → A
+    made t c l = cond (not t) (F (Refused NO-STATE)) (cond c (F (Refused CLOSED)) (cond l (F (Refused SHORT)) (F (Open (sessionOf s)))))
+
+    by-tests : (c l : Bool) → F (cond c (Refused CLOSED) (cond l (Refused SHORT) (Open (sessionOf s)))) ≡ made true c l
+    by-tests true l = refl
+    by-tests false true = refl
+    by-tests false false = refl
+
+    by-state : (t : Bool) → F (weighted.admittedFor (cond t (Held (sessionOf s)) NoState) s room) ≡ made t (closed s) (ltb room 140)
+    unfolding weighted.admittedFor weighted.admittedIn
+    by-state true = by-tests (closed s) (ltb room 140)
+    by-state false = refl
+
+    taken : F (weighted.admits s room) ≡ taking s room (λ k. F (Refused k)) (F (Open (sessionOf s)))
+    unfolding weighted.admits stored taking
+    taken = by-state (weighted-session.isState s) ∙ ap (λ (t : Bool). made t (closed s) (ltb room 140)) (state-same s all)
+
+  outcome-same : weighted.outcomeFor (Open (sessionOf s)) s ≡ outcomeIn s
+  unfolding weighted.outcomeFor sessionOf sessionWith outcomeIn dueIn
+  outcome-same = ap (λ (a : Act). outcomeOf (word s ownAt) s a) (stored-due s all)
+
+  words-same : weighted.wordsFor (Open (sessionOf s)) s ≡ applied s (dueIn s)
+  unfolding weighted.wordsFor sessionOf sessionWith dueIn
+  words-same = ap (λ (a : Act). applied s a) (stored-due s all)
+
+  after-same : (o : Outcome) (out : List ℕ) → weighted.bytesAfter (sessionOf s) s o out ≡ bytesAfter s o out
+  unfolding weighted.bytesAfter sessionOf sessionWith bytesAfter sessionNumber
+  after-same (outcome.Refused k) out = refl
+  after-same outcome.Idle out = refl
+  after-same (outcome.Sent m) out = ap (λ (set : List ℕ). atFront (encode m (word s ownAt) (sessionNumber s) set) out) (stored-commit s all)
+  after-same outcome.MovedOut out = refl
+  after-same outcome.InForce out = refl
+
+  bytes-same : (out : List ℕ) → weighted.bytesFor (Open (sessionOf s)) s out ≡ bytesAfter s (outcomeIn s) out
+  unfolding weighted.bytesFor weighted.outcomeFor
+  bytes-same out = ap (λ (o : Outcome). weighted.bytesAfter (sessionOf s) s o out) outcome-same ∙ after-same (outcomeIn s) out
+
+  pub turn-outcome-same : (room : ℕ) → weighted.turnOutcome s room ≡ turnOutcome s room
+  unfolding weighted.turnOutcome weighted.outcomeFor turnOutcome
+  turn-outcome-same room = taken (λ a. weighted.outcomeFor a s) room ∙ ap (taking s room (λ k. outcome.Refused k)) outcome-same
+
+  pub turn-words-same : (room : ℕ) → weighted.turnWords s room ≡ turnWords s room
+  unfolding weighted.turnWords weighted.wordsFor turnWords
+  turn-words-same room = taken (λ a. weighted.wordsFor a s) room ∙ ap (taking s room (λ k. s)) words-same
+
+  pub turn-bytes-same : (out : List ℕ) → weighted.turnBytes s out ≡ turnBytes s out
+  unfolding weighted.turnBytes weighted.bytesFor turnBytes
+  turn-bytes-same out = taken (λ a. weighted.bytesFor a s out) (length out) ∙ ap (taking s (length out) (λ k. out)) (bytes-same out)

@@ -1,0 +1,81 @@
+-- With all weights 1: what is due in a vote.
+use Prim.Native.Nat.{ℕ, min}
+use mathlib.Core.Bool.{Bool, _&&_}
+use mathlib.Core.List.{List}
+use mathlib.Core.Path.{_≡_, ap, ap₂, fun-ext}
+use lib.Dec.{leb, ltb}
+use Rattle.settings.specs.Settings.{roundLimit}
+use Rattle.records.specs.Records.{estHeld, auxHeld, round, decidedOne}
+use Rattle.acts.specs.Acts.{orAct, firstAct}
+use Rattle.acts.specs.declared.Act.{Act}
+use Rattle.votes.specs.Votes.{carries, viewOf}
+use Rattle.votes.specs.Votes as weighted
+use Rattle.settings.specs.declared.Settings as weighted-settings
+use Rattle.unweighted.specs.Votes.{estCount, accepted, votesDecidedOne, startAct, relayValue, relayRound, relayAct, auxValue, auxAct, carriers, auxCount, view, moveValue, moveAct, roundAct, voteAct}
+use Rattle.unweighted.specs.laws.Counts.{Ones, plain, counts, vote-quorum-same, relay-same, accept-same}
+
+module _ (g : weighted-settings.Settings) (one : Ones g) (s : List ℕ) where
+  pub decided-same : weighted.votesDecidedOne g s ≡ votesDecidedOne (plain g) s
+  unfolding weighted.votesDecidedOne votesDecidedOne
+  decided-same = counts g one (decidedOne s)
+
+  module _ (i : ℕ) where
+    est-same : (r b : ℕ) → weighted.estCount g s i r b ≡ estCount (plain g) s i r b
+    unfolding weighted.estCount estCount
+    est-same r b = counts g one (estHeld s i r b)
+
+    accepted-same : (r b : ℕ) → weighted.accepted g s i r b ≡ accepted (plain g) s i r b
+    unfolding weighted.accepted accepted
+    accepted-same r b = ap₂ leb (accept-same g) (est-same r b)
+
+    start-same : (hasOutput : Bool) (ones : ℕ) → weighted.startAct g s hasOutput ones i ≡ startAct (plain g) s hasOutput ones i
+    unfolding weighted.startAct startAct
+    start-same hasOutput ones = rw (vote-quorum-same g one)
+
+    relay-value-same : (r b : ℕ) → weighted.relayValue g s i r b ≡ relayValue (plain g) s i r b
+    unfolding weighted.relayValue relayValue
+    relay-value-same r b = rw (relay-same g, est-same r b)
+
+    relay-round-same : (r : ℕ) → weighted.relayRound g s i r ≡ relayRound (plain g) s i r
+    unfolding weighted.relayRound relayRound
+    relay-round-same r = ap₂ orAct (relay-value-same r 0) (relay-value-same r 1)
+
+    relay-act-same : weighted.relayAct g s i ≡ relayAct (plain g) s i
+    unfolding weighted.relayAct relayAct
+    relay-act-same = ap (λ (f : ℕ → Act). firstAct f (min (round s i) roundLimit)) (fun-ext relay-round-same)
+
+    aux-value-same : (r : ℕ) → weighted.auxValue g s i r ≡ auxValue (plain g) s i r
+    unfolding weighted.auxValue auxValue
+    aux-value-same r = rw (accepted-same r 0, accepted-same r 1)
+
+    aux-act-same : weighted.auxAct g s i ≡ auxAct (plain g) s i
+    unfolding weighted.auxAct auxAct
+    aux-act-same = rw (aux-value-same (round s i))
+
+    carriers-same : (r : ℕ) (a0 a1 : Bool) → weighted.carriers g s i r a0 a1 ≡ carriers (plain g) s i r a0 a1
+    unfolding weighted.carriers carriers
+    carriers-same r a0 a1 = counts g one (carries s i r a0 a1)
+
+    aux-count-same : (r b : ℕ) → weighted.auxCount g s i r b ≡ auxCount (plain g) s i r b
+    unfolding weighted.auxCount auxCount
+    aux-count-same r b = counts g one (auxHeld s i r b)
+
+    view-same : (r : ℕ) (a0 a1 : Bool) → weighted.view g s i r a0 a1 ≡ view (plain g) s i r a0 a1
+    unfolding weighted.view view
+    view-same r a0 a1 = ap₂ (λ (x y : ℕ). viewOf (a0 && ltb 0 x) (a1 && ltb 0 y)) (aux-count-same r 0) (aux-count-same r 1)
+
+    move-value-same : (r : ℕ) (a0 a1 : Bool) → weighted.moveValue g s i r a0 a1 ≡ moveValue (plain g) s i r a0 a1
+    unfolding weighted.moveValue moveValue
+    move-value-same r a0 a1 = rw (vote-quorum-same g one, carriers-same r a0 a1, view-same r a0 a1)
+
+    move-act-same : weighted.moveAct g s i ≡ moveAct (plain g) s i
+    unfolding weighted.moveAct moveAct
+    move-act-same = rw (accepted-same (round s i) 0, accepted-same (round s i) 1, move-value-same (round s i) (accepted (plain g) s i (round s i) 0) (accepted (plain g) s i (round s i) 1))
+
+    round-act-same : weighted.roundAct g s i ≡ roundAct (plain g) s i
+    unfolding weighted.roundAct roundAct
+    round-act-same = rw (aux-act-same, move-act-same)
+
+    pub vote-act-same : (hasOutput : Bool) (ones : ℕ) → weighted.voteAct g s hasOutput ones i ≡ voteAct (plain g) s hasOutput ones i
+    unfolding weighted.voteAct voteAct
+    vote-act-same hasOutput ones = rw (start-same hasOutput ones, relay-act-same, round-act-same)

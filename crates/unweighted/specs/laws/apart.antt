@@ -1,0 +1,7 @@
+pub mod Records
+pub mod Rules
+pub mod Stores
+pub mod Session
+pub mod Delivery
+pub mod Turn
+pub mod Report

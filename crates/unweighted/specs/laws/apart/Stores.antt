@@ -1,0 +1,110 @@
+-- What a delivery and an act write stands beside the word of the weights: whatever x stands there stays, and changes nothing else.
+use Prim.Native.Nat.{ℕ, _+_, _≤_}
+use mathlib.Core.Bool.{Bool, true, false, _&&_, not, cond}
+use mathlib.Core.List.{List}
+use mathlib.Core.Logic.{_≢_}
+use mathlib.Core.Path.{_≡_, refl, ap, _∙_}
+use native.Mathlib.Omega.{arith}
+use lib.Dec.{eqb, ltb}
+use lib.Seq.{set-comm}
+use Rattle.quorum.specs.Marks.{withMark}
+use Rattle.settings.specs.Settings.{roundLimit}
+use Rattle.records.specs.Layout.{weightsAt, turnsAt, flagsAt, closedMark, sendSentMark, commitSentMark, echoSentAt, readySentAt, decidedZeroAt, decidedOneAt, roundAt, estSentAt, estSentMark, auxSentAt, sendMarksAt, sendValueAt, echoMarksAt, echoValueAt, readyMarksAt, readyValueAt, voteAt, estMark, auxMark, commitCountAt, commitRowAt}
+use Rattle.records.specs.Words.{put, setMark}
+use Rattle.records.specs.Records.{coin, decided}
+use Rattle.records.specs.Fill.{storeOf}
+use Rattle.acts.specs.Acts.{isDue}
+use Rattle.acts.specs.declared.Act.{Act}
+use Rattle.acts.specs.declared.Act.the-variants.{Idle, InForce, Commit, Send, Echo, Ready, Start, Relay, Aux, Move}
+use Rattle.acts.specs.declared.View.{View}
+use Rattle.votes.specs.Votes.{estimate, decides}
+use Rattle.wire.specs.Bytes.{valueAt}
+use Rattle.wire.specs.declared.Message.{Message}
+use Rattle.wire.specs.declared.Message.the-variants as message
+use Rattle.delivery.specs.Delivery.{recorded}
+use Rattle.delivery.specs.Frame.{InLayout}
+use Rattle.turn.specs.Turn.{counted, entered, decidedAs, newDecision, moveDecided, moved, marked, applied}
+use Rattle.turn.specs.Frame.{Placed}
+use Rattle.unweighted.specs.laws.Opening.{store-put}
+use Rattle.unweighted.specs.laws.apart.Records.{word-apart, coin-apart, decided-apart}
+
+module _ (x : ℕ) where
+  put-apart : (s : List ℕ) (k v : ℕ) → weightsAt ≢ k → put (put s weightsAt x) k v ≡ put (put s k v) weightsAt x
+  unfolding put
+  put-apart s k v ne = set-comm s weightsAt k x v ne
+
+  mark-apart : (s : List ℕ) (k p : ℕ) → weightsAt ≢ k → setMark (put s weightsAt x) k p ≡ put (setMark s k p) weightsAt x
+  unfolding setMark
+  mark-apart s k p ne = ap (λ (w : ℕ). put (put s weightsAt x) k (withMark w p)) (word-apart s x k (λ e. ne (omega arith))) ∙ put-apart s k _ ne
+
+  -- a value, then its mark
+  both-apart : (s : List ℕ) (a v k p : ℕ) → weightsAt ≢ a → weightsAt ≢ k → setMark (put (put s weightsAt x) a v) k p ≡ put (setMark (put s a v) k p) weightsAt x
+  both-apart s a v k p na nk = ap (λ (u : List ℕ). setMark u k p) (put-apart s a v na) ∙ mark-apart (put s a v) k p nk
+
+  -- ---- a message that keeps to the layout
+  pub recorded-apart : (s v : List ℕ) (p : ℕ) (m : Message) → InLayout p m → recorded (put s weightsAt x) p m v ≡ put (recorded s p m v) weightsAt x
+  unfolding recorded
+  recorded-apart s v p (message.Send i y) h = both-apart s (sendValueAt i) y sendMarksAt i (λ e. omega arith) (λ e. omega arith)
+  recorded-apart s v p (message.Echo i y) h = both-apart s (echoValueAt i p) y (echoMarksAt i) p (λ e. omega arith) (λ e. omega arith)
+  recorded-apart s v p (message.Ready i y) h = both-apart s (readyValueAt i p) y (readyMarksAt i) p (λ e. omega arith) (λ e. omega arith)
+  recorded-apart s v p (message.Est i r b) h = mark-apart s (voteAt i r) (estMark b p) (λ e. omega arith)
+  recorded-apart s v p (message.Aux i r b) h = mark-apart s (voteAt i r) (auxMark b p) (λ e. omega arith)
+  recorded-apart s v p (message.Commit k) h =
+      ap (λ (u : List ℕ). put u (commitCountAt p) k) (store-put (valueAt v) (commitRowAt p) s weightsAt x k (λ j lo hi e. omega arith))
+      ∙ put-apart (storeOf (valueAt v) (commitRowAt p) s k) (commitCountAt p) k (λ e. omega arith)
+
+  -- ---- an act of one of the votes 1 to 16
+  counted-apart : (s : List ℕ) → counted (put s weightsAt x) ≡ put (counted s) weightsAt x
+  unfolding counted
+  counted-apart s = ap (λ (w : ℕ). put (put s weightsAt x) turnsAt (w + 1)) (word-apart s x turnsAt (λ e. omega arith)) ∙ put-apart s turnsAt _ (λ e. omega arith)
+
+  entered-apart : (s : List ℕ) (i r b : ℕ) → i ≤ 16 → entered (put s weightsAt x) i r b ≡ put (entered s i r b) weightsAt x
+  unfolding entered
+  entered-apart s i r b high = go (ltb roundLimit r)
+    where
+      go : (c : Bool) → cond c (put (put s weightsAt x) (roundAt i) r) (setMark (put (put s weightsAt x) (roundAt i) r) (estSentAt i) (estSentMark r b)) ≡ put (cond c (put s (roundAt i) r) (setMark (put s (roundAt i) r) (estSentAt i) (estSentMark r b))) weightsAt x
+      go true = put-apart s (roundAt i) r (λ e. omega arith)
+      go false = both-apart s (roundAt i) r (estSentAt i) (estSentMark r b) (λ e. omega arith) (λ e. omega arith)
+
+  decided-as-apart : (s : List ℕ) (i b : ℕ) → decidedAs (put s weightsAt x) i b ≡ put (decidedAs s i b) weightsAt x
+  unfolding decidedAs
+  decided-as-apart s i b = go (eqb b 0)
+    where
+      go : (c : Bool) → setMark (put s weightsAt x) (cond c decidedZeroAt decidedOneAt) i ≡ put (setMark s (cond c decidedZeroAt decidedOneAt) i) weightsAt x
+      go true = mark-apart s decidedZeroAt i (λ e. omega arith)
+      go false = mark-apart s decidedOneAt i (λ e. omega arith)
+
+  decision-apart : (s : List ℕ) (i r : ℕ) (v : View) → i ≤ 16 → moveDecided (put s weightsAt x) i r v ≡ put (moveDecided s i r v) weightsAt x
+  unfolding moveDecided newDecision
+  decision-apart s i r v high = rw (decided-apart s x i, coin-apart s x i high r) (go (not (decided s i) && decides (coin s i r) v))
+    where
+      go : (c : Bool) → cond c (decidedAs (put s weightsAt x) i (estimate (coin s i r) v)) (put s weightsAt x) ≡ put (cond c (decidedAs s i (estimate (coin s i r) v)) s) weightsAt x
+      go true = decided-as-apart s i (estimate (coin s i r) v)
+      go false = refl
+
+  moved-apart : (s : List ℕ) (i r : ℕ) (v : View) → i ≤ 16 → moved (put s weightsAt x) i r v ≡ put (moved s i r v) weightsAt x
+  unfolding moved
+  moved-apart s i r v high =
+      rw (decision-apart s i r v high, coin-apart s x i high r)
+      (entered-apart (moveDecided s i r v) i (r + 1) (estimate (coin s i r) v) high)
+
+  marked-apart : (s : List ℕ) (a : Act) → Placed a → marked (put s weightsAt x) a ≡ put (marked s a) weightsAt x
+  unfolding marked
+  marked-apart s Idle h = refl
+  marked-apart s InForce h = mark-apart s flagsAt closedMark (λ e. omega arith)
+  marked-apart s (Commit k) h = mark-apart s flagsAt commitSentMark (λ e. omega arith)
+  marked-apart s (Send v) h = mark-apart s flagsAt sendSentMark (λ e. omega arith)
+  marked-apart s (Echo i v) h = mark-apart s echoSentAt i (λ e. omega arith)
+  marked-apart s (Ready i v) h = mark-apart s readySentAt i (λ e. omega arith)
+  marked-apart s (Start i b) h = entered-apart s i 1 b (h .1)
+  marked-apart s (Relay i r b) h = mark-apart s (estSentAt i) (estSentMark r b) (λ e. omega arith)
+  marked-apart s (Aux i r b) h = mark-apart s (auxSentAt i) r (λ e. omega arith)
+  marked-apart s (Move i r v) h = moved-apart s i r v (h .1)
+
+  pub applied-apart : (s : List ℕ) (a : Act) → Placed a → applied (put s weightsAt x) a ≡ put (applied s a) weightsAt x
+  unfolding applied
+  applied-apart s a h = go (isDue a)
+    where
+      go : (b : Bool) → cond b (marked (counted (put s weightsAt x)) a) (put s weightsAt x) ≡ put (cond b (marked (counted s) a) s) weightsAt x
+      go true = ap (λ (u : List ℕ). marked u a) (counted-apart s) ∙ marked-apart (counted s) a h
+      go false = refl
