@@ -3,13 +3,14 @@ use Prim.Native.Nat.{ℕ, _+_, _*_, _≤_, _<_}
 use mathlib.Core.Bool.{Bool, true, false, _||_, cond}
 use mathlib.Core.List.{List}
 use mathlib.Core.Path.{_≡_, refl, sym, ap, _∙_}
-use lib.ListN.{drop}
+use lib.ListN.{drop, length}
 use Rattle.quorum.specs.Marks.{mark}
 use Rattle.records.specs.Layout.{voteAt}
 use Rattle.records.specs.Words.{word, put, marked, setMark}
 use Rattle.records.specs.Records.{closed, sendHeld, echoHeld, readyHeld, estHeld, auxHeld}
 use Rattle.records.specs.Fill.{storeOf}
 use Rattle.commits.specs.Commits.{commitHeld}
+use Rattle.session.specs.Cases.{size-wrong}
 use Rattle.session.specs.Session.{stored}
 use Rattle.session.specs.declared.Session.{Session}
 use Rattle.session.specs.declared.Stored.{Stored}
@@ -85,7 +86,10 @@ pub a-state : (s : List ℕ) (link : ℕ) (b : List ℕ) (y : Stored) (x : Sessi
 unfolding verdict verdictFor
 a-state s link b y x v e t f = rw (← e, t) f
 
-pub ruleset verdict-cases = (in-closed, in-refused, in-held, in-accepted, no-state, a-state)
+pub no-size : (s : List ℕ) (link : ℕ) (b : List ℕ) → (length s ≡ 2048 → ⊥) → Refused 9 ≡ verdict s link b
+no-size s link b h = no-state s link b NoState (size-wrong s h) refl
+
+pub ruleset verdict-cases = (in-closed, in-refused, in-held, in-accepted, no-size, no-state, a-state)
 
 module _ (s t v : List ℕ) (p : ℕ) (m : Message) where
   pub record-send : (i x : ℕ) → m ≡ Send i x → t ≡ setMark (put s (71 + i) x) 140 i → t ≡ recorded s p m v

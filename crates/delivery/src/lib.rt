@@ -85,6 +85,10 @@ fn verdict_in(s: &[u64], x: Session, link: u64, bytes: &[u8]) -> Verdict
 pub fn judge(s: &[u64], link: u64, bytes: &[u8]) -> Verdict
     ensures { λ r. ⌜ r ≡ verdict (now (s .entry)) link (now (bytes .entry)) ⌝ }
 {
+    // `state_of` asks the same: here it tells the compiler for all that is read later.
+    if s.len() != layout::STATE_WORDS {
+        return Verdict::Refused(refusal::NO_STATE);
+    }
     let held = session::state_of(s);
     match held {
         Stored::NoState => Verdict::Refused(refusal::NO_STATE),

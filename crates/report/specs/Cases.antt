@@ -21,6 +21,7 @@ use Rattle.exits.specs.Exits.{Exit, named}
 use Rattle.exits.specs.Now.{exitNow}
 use Rattle.exits.specs.Stated.{Stated}
 use Rattle.exits.specs.declared.Named.{Named}
+use Rattle.session.specs.Cases.{size-wrong}
 use Rattle.session.specs.Session.{stored}
 use Rattle.session.specs.declared.Session.{Session}
 use Rattle.session.specs.declared.Stored.{Stored}
@@ -79,7 +80,11 @@ module _ (s : List ℕ) (a b : ℕ) (y : Stored) (e : y ≡ stored s) where
   unfolding admits admittedFor
   a-state x v t f = rw (← e, t) f
 
-pub ruleset admit-cases = (short, long, no-state, a-state)
+pub no-size : (s : List ℕ) (a b : ℕ) → (length s ≡ 2048 → ⊥) → admitted.Refused 9 ≡ admits s a b
+unfolding admits admittedFor
+no-size s a b h = rw (← size-wrong s h)
+
+pub ruleset admit-cases = (short, long, no-size, no-state, a-state)
 
 -- the sender of the set in force
 

@@ -52,6 +52,10 @@ fn admit_in(g: Settings, named: usize, in_force: usize) -> Admitted
 fn admit(s: &[u64], named: usize, in_force: usize) -> Admitted
     ensures { λ r. ⌜ r ≡ admits (now (s .entry)) named «in_force» ⌝ }
 {
+    // `state_of` asks the same: here it tells the compiler for all that is read later.
+    if s.len() != layout::STATE_WORDS {
+        return Admitted::Refused(refusal::NO_STATE);
+    }
     let held = session::state_of(s);
     match held {
         Stored::NoState => Admitted::Refused(refusal::NO_STATE),

@@ -13,6 +13,7 @@ use Rattle.acts.specs.declared.Act.{Act}
 use Rattle.acts.specs.declared.Act.the-variants.{Idle, InForce, Commit, Send, Echo, Ready, Start, Relay, Aux, Move}
 use Rattle.acts.specs.declared.View.{View}
 use Rattle.votes.specs.Votes.{estimate}
+use Rattle.session.specs.Cases.{size-wrong}
 use Rattle.session.specs.Session.{stored}
 use Rattle.session.specs.declared.Session.{Session}
 use Rattle.session.specs.declared.Stored.{Stored}
@@ -50,7 +51,11 @@ module _ (s : List ℕ) (room : ℕ) (y : Stored) (ey : y ≡ stored s) where
     unfolding admits admittedFor admittedIn
     admit-open t l = rw (← ey, tx, ← ec, t, le-ltb room 140 l)
 
-pub ruleset admit-cases = (admit-none, admit-closed, admit-short, admit-open)
+pub admit-size : (s : List ℕ) (room : ℕ) → (length s ≡ 2048 → ⊥) → admitted.Refused 9 ≡ admits s room
+unfolding admits admittedFor
+admit-size s room h = rw (← size-wrong s h)
+
+pub ruleset admit-cases = (admit-size, admit-none, admit-closed, admit-short, admit-open)
 
 module _ (s : List ℕ) (i r : ℕ) (v : View) where
   pub move-sends : (c : Bool) (b : ℕ) → r < 32 → c ≡ coin s i r → b ≡ estimate c v → outcome.Sent (message.Est i (r + 1) b) ≡ moveOutcome s i r v

@@ -4,6 +4,7 @@ mod due;
 
 use acts::Act;
 use acts::View;
+use records::layout;
 use session::Session;
 use session::Stored;
 use settings::Settings;
@@ -39,6 +40,10 @@ pub const MESSAGE_BYTES: usize = 140;
 fn admit(s: &[u64], room: usize) -> Admitted
     ensures { λ r. ⌜ r ≡ admits (now (s .entry)) room ⌝ }
 {
+    // `state_of` asks the same: here it tells the compiler for all that is read later.
+    if s.len() != layout::STATE_WORDS {
+        return Admitted::Refused(refusal::NO_STATE);
+    }
     let held = session::state_of(s);
     match held {
         Stored::NoState => Admitted::Refused(refusal::NO_STATE),

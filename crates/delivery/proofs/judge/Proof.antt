@@ -4,6 +4,9 @@ use borrow.Author.Needs.{needs}
 use Rattle.delivery.proofs.judge.Statement.{statement}
 use Rattle.delivery.proofs.judge.Tie as tie
 
+returns : tie.Need-returns
+returns c = search verdict-cases
+
 state-of-requires : tie.Need-state-of-requires
 state-of-requires c κs = search needs
 
@@ -16,13 +19,20 @@ enum-known-held c = search needs
 verdict-in-requires : tie.Need-verdict-in-requires
 verdict-in-requires c κs = search needs
 
-returns : tie.Need-returns
-returns c = search verdict-cases
-
 returns-2 : tie.Need-returns-2
 returns-2 c = search verdict-cases
+
+returns-3 : tie.Need-returns-3
+returns-3 c = search verdict-cases
 
 pub judge-spec : {M : Type 1} → statement M
 judge-spec =
     tie.close
-    (tie.spec state-of-requires enum-told enum-known-held verdict-in-requires returns returns-2)
+    (tie.spec
+    returns
+    state-of-requires
+    enum-told
+    enum-known-held
+    verdict-in-requires
+    returns-2
+    returns-3)

@@ -4,6 +4,9 @@ use borrow.Author.Needs.{needs}
 use Rattle.turn.proofs.admit.Statement.{statement}
 use Rattle.turn.proofs.admit.Tie as tie
 
+returns : tie.Need-returns
+returns c = search admit-cases
+
 state-of-requires : tie.Need-state-of-requires
 state-of-requires c κs = search needs
 
@@ -16,9 +19,6 @@ enum-known-held c = search needs
 closed-requires : tie.Need-closed-requires
 closed-requires c κs = search needs
 
-returns : tie.Need-returns
-returns c = search admit-cases
-
 returns-2 : tie.Need-returns-2
 returns-2 c = search admit-cases
 
@@ -28,15 +28,19 @@ returns-3 c = search admit-cases
 returns-4 : tie.Need-returns-4
 returns-4 c = search admit-cases
 
+returns-5 : tie.Need-returns-5
+returns-5 c = search admit-cases
+
 pub admit-spec : {M : Type 1} → statement M
 admit-spec =
     tie.close
     (tie.spec
+    returns
     state-of-requires
     enum-told
     enum-known-held
     closed-requires
-    returns
     returns-2
     returns-3
-    returns-4)
+    returns-4
+    returns-5)
