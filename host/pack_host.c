@@ -52,7 +52,7 @@ static const char *const usage =
     "Runs an agreement session of N concentrators, all honest, and prints a line for each, fields parted by tabs:\n"
     "number, exit (0 for none), closed (0 or 1), turns, the values in force in hexadecimal, or \"-\".\n"
     "\n"
-    "  N TA TS         the settings (4 - 1); TA as \"-\" is 0\n"
+    "  N TA TS         the settings (4 - 1); TA as \"-\" is 0, as 255 the largest that the rules allow\n"
     "  INPUT           the pack number of each concentrator, N of them (5 for each)\n"
     "  -s SESSION      the session number, 32 bits (1)\n"
     "  -c COIN         the coin word of every vote, 32 bits; bit r-1 is the coin of round r (0x55555555)\n"

@@ -7,9 +7,7 @@ use std::time::Instant;
 
 use pack_bench::Masks;
 use pack_reference::c_engine::{CEngine, Words};
-use pack_reference::compare::{
-    damaged_deliveries, foreign_calls, random_calls, unnamed_openings,
-};
+use pack_reference::compare::{damaged_deliveries, foreign_calls, random_calls, unnamed_openings};
 use pack_reference::engine::Engine;
 use pack_reference::Opening;
 
