@@ -1,11 +1,11 @@
 -- A ta that is left unnamed is the largest that the rules allow with the other settings (request N8).
 use Prim.Native.Nat.{ℕ, _+_, _*_, _<_, _≤_}
-use mathlib.Core.Bool.{Bool, true, false, true≢false}
-use mathlib.Core.Path.{_≡_, refl, sym, _∙_}
+use mathlib.Core.Bool.{Bool, true, false}
+use mathlib.Core.Path.{_≡_, refl}
 use native.Mathlib.Omega.{arith}
 use Rattle.quorum.specs.Whole.{wholeOf, weightsRight}
-use Rattle.settings.specs.Settings.{validSettings, UNNAMED, largestTa, namedTa}
-use Rattle.settings.specs.Laws.{valid-rules, rules-valid}
+use Rattle.settings.specs.Settings.{validSettings, UNNAMED, largestTa, namedTa, settingsFrom}
+use Rattle.settings.specs.Laws.{Rules, valid-rules, rules-valid, whole-few}
 
 -- the ta that 255 means
 abbrev pub unnamedTa : ℕ → ℕ → ℕ → ℕ
@@ -41,10 +41,17 @@ module _ (n ts w : ℕ) where
   pub unnamed-largest : (ta : ℕ) → validSettings n ta ts w ≡ true → Largest n ts w (unnamedTa n ts w)
   unnamed-largest ta e = let r = valid-rules n ta ts w e in unnamed-allowed (r .some) (r .few) (r .right) (omega (arith, r .margin))
 
-  -- "if 2·ts ≥ n it is refused as 1", as is every other ta
-  pub none-allowed : wholeOf w n ≤ 2 * ts → (ta : ℕ) → validSettings n ta ts w ≡ false
-  none-allowed h ta = by (validSettings n ta ts w) refl
+  refused : (ta : ℕ) → (Rules n ta ts (wholeOf w n) w → ⊥) → validSettings n ta ts w ≡ false
+  refused ta h = by (validSettings n ta ts w) refl
     where
       by : (b : Bool) → validSettings n ta ts w ≡ b → validSettings n ta ts w ≡ false
-      by true e = absurd (omega (arith, valid-rules n ta ts w e .margin))
+      by true e = absurd (h (valid-rules n ta ts w e))
       by false e = e
+
+  -- "if 2·ts ≥ n it is refused as 1", as is every other ta
+  pub none-allowed : wholeOf w n ≤ 2 * ts → (ta : ℕ) → validSettings n ta ts w ≡ false
+  none-allowed h ta = refused ta (λ r. omega (arith, r .margin))
+
+  -- 255 itself is no ta: no session is lost by reading it otherwise, and "a stored ta of 255" is refused
+  pub unnamed-no-number : validSettings n UNNAMED ts w ≡ false
+  unnamed-no-number = refused UNNAMED (λ r. omega (arith, r .ordered, r .margin, whole-few (settingsFrom n UNNAMED ts w) r))
