@@ -16,12 +16,12 @@ validSettings n ta ts w = leb 1 n && leb n 16 && weightsRight w n && leb ta ts &
 abbrev pub UNNAMED : ℕ
 UNNAMED = 255
 
--- and is then "the smaller of ts and n−1−2·ts" (request N8), n being the sum of the weights. Where 2·ts ≥ n the difference is 0, and
--- `validSettings` refuses that ta too, since 2·ts + 0 < n does not hold: "if 2·ts ≥ n it is refused as 1"
+-- "the smaller of ts and n−1−2·ts" (request N8), n being the sum of the weights. Where 2·ts ≥ n the difference is 0, and `validSettings`
+-- refuses that ta too, since 2·ts + 0 < n does not hold: "if 2·ts ≥ n it is refused as 1"
 unfoldable pub largestTa : ℕ → ℕ → ℕ
 largestTa whole ts = min ts (whole - 1 - 2 * ts)
 
--- the ta that is meant by the one given
+-- the ta that is meant by the one given: "255 shall mean the smaller of .."
 unfoldable pub namedTa : ℕ → ℕ → ℕ → ℕ → ℕ
 namedTa n ta ts w = cond (eqb ta UNNAMED) (largestTa (wholeOf w n) ts) ta
 
