@@ -52,7 +52,7 @@ static const char *const usage =
     "Runs an agreement session of N concentrators, all honest, and prints a line for each, fields parted by tabs:\n"
     "number, exit (0 for none), closed (0 or 1), turns, the values in force in hexadecimal, or \"-\".\n"
     "\n"
-    "  N TA TS         the settings (4 - 1); TA as \"-\" is unnamed and then 0\n"
+    "  N TA TS         the settings (4 - 1); TA as \"-\" is 0, as 255 the largest that the rules allow\n"
     "  INPUT           the pack number of each concentrator, N of them (5 for each)\n"
     "  -s SESSION      the session number, 32 bits (1)\n"
     "  -c COIN         the coin word of every vote, 32 bits; bit r-1 is the coin of round r (0x55555555)\n"
@@ -140,7 +140,7 @@ static bool read_settings(char **argv, struct options *o)
         return false;
     if (o->n < 1 || o->n > PACK_CONCENTRATORS)
         return fail("N is not 1 to 16", argv[0]);
-    o->ta = PACK_UNNAMED;
+    o->ta = 0;
     return strcmp(argv[1], "-") == 0 || read_number(argv[1], UINT64_MAX, &o->ta);
 }
 
@@ -167,7 +167,7 @@ static bool read_rest(int argc, char **argv, int at, struct options *o)
 static bool read_options(int argc, char **argv, struct options *o)
 {
     int at = 1;
-    *o = (struct options){.n = 4, .ta = PACK_UNNAMED, .ts = 1, .session = 1, .coin = 0x55555555};
+    *o = (struct options){.n = 4, .ta = 0, .ts = 1, .session = 1, .coin = 0x55555555};
     for (size_t i = 0; i < PACK_CONCENTRATORS; i++) {
         o->inputs[i] = 5;
         o->weights[i] = 1;

@@ -40,7 +40,7 @@ extern "C" {
 #define PACK_CONCENTRATORS 16
 /* The largest weight of a concentrator; the smallest is 1. */
 #define PACK_WEIGHT_MAX 4
-/* ta as it is given where none is named; it is then 0. */
+/* ta as it is given where none is named: it is then the largest that the rules allow. */
 #define PACK_UNNAMED 255
 
 /* The refusals, bits 0 to 7 of an answer. */
@@ -82,9 +82,12 @@ enum pack_outcome {
 
 /*
  * Opens a session of n concentrators, 1 to 16, with ta <= ts and 2 * ts + ta < W, at the one numbered own, 1 to n.
+ * ta given as PACK_UNNAMED is the largest that these rules allow, the smaller of ts and W - 1 - 2 * ts; where 2 * ts >= W
+ * they allow none, and the opening is refused.
  * input is the own pack number, any value. coins are n words: bit r - 1 of word i, counted from 1, is the coin of vote
  * i in round r. weights are n bytes, that of concentrator 1 first, each 1 to PACK_WEIGHT_MAX; where all are 1, W is n.
- * n, ta, ts, session, coins and weights are the same at all concentrators of a session.
+ * n, ta, ts, session, coins and weights are the same at all concentrators of a session; it is the same ta whether it was
+ * named or left unnamed.
  * Refusals, in this order: PACK_NO_STATE (the word count only), PACK_SETTINGS. The answer has no other bits.
  */
 uint64_t pack_open(uint64_t *state, size_t words, uint64_t n, uint64_t ta, uint64_t ts, uint64_t own, uint32_t session,

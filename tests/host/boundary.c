@@ -48,7 +48,23 @@ static void test_opening(void)
     expect(open_four(PACK_STATE_WORDS, 1, 1, 5) == PACK_SETTINGS, "opening, own above n");
     expect(open_four(PACK_STATE_WORDS, 1, UINT64_MAX, 1) == PACK_SETTINGS, "opening, huge ts");
     expect(memcmp(old, state, sizeof old) == 0, "a refused opening leaves the state");
+}
+
+static void test_unnamed_ta(void)
+{
+    static const uint8_t mixed[4] = {4, 3, 2, 1};
+    uint64_t old[PACK_STATE_WORDS];
+    expect(open_four(PACK_STATE_WORDS, 1, 1, 4) == PACK_ACCEPTED, "opening, ta named");
+    memcpy(old, state, sizeof old);
+    expect(open_four(PACK_STATE_WORDS, PACK_UNNAMED, 2, 4) == PACK_SETTINGS, "opening, ta unnamed, 2 * ts is n");
+    expect(open_four(PACK_STATE_WORDS, PACK_UNNAMED, UINT64_MAX / 2 + 1, 4) == PACK_SETTINGS, "opening, ta unnamed, huge ts");
+    expect(memcmp(old, state, sizeof old) == 0, "an opening refused with ta unnamed leaves the state");
     expect(open_four(PACK_STATE_WORDS, PACK_UNNAMED, 1, 4) == PACK_ACCEPTED, "opening, ta unnamed");
+    expect(memcmp(old, state, sizeof old) == 0, "ta unnamed is ts");
+    expect(open_weighted(1, 4, mixed, 4) == PACK_ACCEPTED, "opening, ta named, weights");
+    memcpy(old, state, sizeof old);
+    expect(open_weighted(PACK_UNNAMED, 4, mixed, 4) == PACK_ACCEPTED, "opening, ta unnamed, weights");
+    expect(memcmp(old, state, sizeof old) == 0, "ta unnamed is W - 1 - 2 * ts");
 }
 
 static void test_weights(void)
@@ -140,6 +156,7 @@ int main(void)
 {
     test_opening();
     test_weights();
+    test_unnamed_ta();
     test_turn();
     test_delivery();
     test_session();

@@ -7,7 +7,7 @@ use std::time::Instant;
 
 use pack_bench::Masks;
 use pack_reference::c_engine::{CEngine, Words};
-use pack_reference::compare::{damaged_deliveries, foreign_calls, random_calls};
+use pack_reference::compare::{damaged_deliveries, foreign_calls, random_calls, unnamed_openings};
 use pack_reference::engine::Engine;
 use pack_reference::Opening;
 
@@ -71,6 +71,7 @@ fn main() -> ExitCode {
         println!("{part}: {what} ({:.1} s since the start)", start.elapsed().as_secs_f64());
     };
     note("damaged messages", &damaged_deliveries(&SameWords));
+    note("ta unnamed", &unnamed_openings(&SameWords, seed, 20));
     note("random calls", &random_calls(&SameWords, seed, calls));
     note("planted words", &foreign_calls(&CEngine, &Masks, seed, foreign));
     println!("no difference");

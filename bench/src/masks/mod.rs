@@ -41,10 +41,10 @@ pub fn open(state: &mut [u64], opening: &Opening) -> u64 {
         return refusal::NO_STATE;
     };
     let Opening { n, ta, ts, own, session, input, coins, weights } = *opening;
-    let ta = if ta == UNNAMED { 0 } else { ta };
     let Some(weights) = weights_word(n, weights) else {
         return refusal::SETTINGS;
     };
+    let ta = if ta == UNNAMED { largest_ta(weights, ts) } else { ta };
     let valid = Session::new(n, ta, ts, weights).is_some() && (1..=n).contains(&own);
     if !valid || coins.len() as u64 != n {
         return refusal::SETTINGS;
@@ -56,6 +56,13 @@ pub fn open(state: &mut [u64], opening: &Opening) -> u64 {
         *word = u64::from(coin);
     }
     0
+}
+
+/// The smaller of ts and W − 1 − 2·ts, and 0 where that is below 0. W is the number of marks.
+#[inline]
+fn largest_ta(weights: u64, ts: u64) -> u64 {
+    let whole = u64::from(weights.count_ones());
+    ts.min(whole.saturating_sub(1).saturating_sub(ts.saturating_mul(2)))
 }
 
 /// The word of n weights of at most 4; `None` if there is a larger one, or not n, up to 16.

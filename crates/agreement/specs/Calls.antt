@@ -7,8 +7,7 @@ use mathlib.Core.Logic.{_⊎_, _≢_}
 use mathlib.Core.Path.{_≡_}
 use lib.Dec.{eqb}
 use lib.ListN.{length, take}
-use Rattle.settings.specs.Settings.{namedTa}
-use Rattle.quorum.specs.Whole.{wholeOf}
+use Rattle.settings.specs.Settings.{settingsNamed}
 use Rattle.settings.specs.declared.Settings.{Settings}
 use Rattle.quorum.specs.Marks.{mark}
 use Rattle.records.specs.Words.{word}
@@ -204,7 +203,7 @@ pub record Agreed : Type 0 where
 abbrev pub agreed : Arguments → Agreed
 agreed o =
     record {
-      settings = record { n = o .n; ta = namedTa (o .ta); ts = o .ts; whole = wholeOf (weightsOf o) (o .n); weights = weightsOf o };
+      settings = settingsNamed (o .n) (o .ta) (o .ts) (weightsOf o);
       number = o .session;
       coins = o .coins;
     }

@@ -53,7 +53,7 @@ module _ (w : List ℕ) (o : Arguments) (e : engine .opens w o ≡ true) where
   opened-first = rw e
 
   pub open-ruled : Ruled (agreed o .settings)
-  open-ruled = valid-rules (o .n) (namedTa (o .ta)) (o .ts) (weightsOf o) (told .valid)
+  open-ruled = valid-rules (o .n) (namedTa (o .n) (o .ta) (o .ts) (weightsOf o)) (o .ts) (weightsOf o) (told .valid)
 
 -- ---- the words of a new state
 

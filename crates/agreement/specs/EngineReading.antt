@@ -37,7 +37,7 @@ pub record Belongs (o : Arguments) (w : List ℕ) : Type 0 where
   pub own-high : o .own ≤ o .n
   pub size : length w ≡ 2048
   pub is-n : word w nAt ≡ o .n
-  pub is-ta : word w taAt ≡ namedTa (o .ta)
+  pub is-ta : word w taAt ≡ namedTa (o .n) (o .ta) (o .ts) (weightsOf o)
   pub is-ts : word w tsAt ≡ o .ts
   pub is-weights : word w weightsAt ≡ weightsOf o
   pub is-own : word w ownAt ≡ o .own

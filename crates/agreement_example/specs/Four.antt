@@ -6,6 +6,7 @@ use mathlib.Core.Path.{_≡_, refl}
 use lib.Dec.{leb}
 use lib.ListN.{length}
 use Rattle.settings.specs.Refusals.{SENDER, CLOSED, HELD}
+use Rattle.settings.specs.Settings.{UNNAMED}
 use Rattle.records.specs.Layout.{stateWords}
 use Rattle.records.specs.Fill.{blank}
 use Rattle.wire.specs.Message.{encode}
@@ -39,8 +40,9 @@ toAll p m xs cs = deliver 3 p m xs ∷ deliver 2 p m xs ∷ deliver 1 p m xs ∷
 unfoldable pub fromAll : Message → List ℕ → List (Call engine) → List (Call engine)
 fromAll m xs cs = toAll 3 m xs (toAll 2 m xs (toAll 1 m xs cs))
 
+-- 3 leaves ta unnamed, which means 1 too
 unfoldable pub openings : List (Call engine)
-openings = opening 3 (openingOf 4 1 1 3) ∷ opening 2 (openingOf 4 1 1 2) ∷ opening 1 (openingOf 4 1 1 1) ∷ []
+openings = opening 3 (openingOf 4 UNNAMED 1 3) ∷ opening 2 (openingOf 4 1 1 2) ∷ opening 1 (openingOf 4 1 1 1) ∷ []
 
 -- the SENDs; the liar sends 5 to 1, 6 to 2, and to 3 a SEND in the name of 1, which is refused (5 SENDER)
 unfoldable pub untilSends : List (Call engine)

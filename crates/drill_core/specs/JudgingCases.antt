@@ -19,6 +19,7 @@ use Rattle.quorum.specs.Marks.{mark}
 use Rattle.quorum.specs.Ones.{machine-power}
 use Rattle.quorum.specs.Packed.{packed}
 use Rattle.session.specs.Session.{numbered}
+use Rattle.opening.specs.Cases.{accepted-answer}
 use Rattle.opening.specs.Given.{weightsGiven, weightsWord}
 use Rattle.opening.specs.GivenCases.{weights-many}
 use Rattle.opening.specs.Ones.{onesGiven, ones-word}
@@ -47,24 +48,20 @@ ones-many n h = rw (← weights-many n (onesGiven n) h)
 pub ruleset ones-cases = (power-some, ones-few, ones-many)
 
 -- settings within the rules are taken by opening, and no others
-opens : (n ta ts w : ℕ) → validSettings n (namedTa ta) ts w ≡ true → openAnswer 2048 n ta ts w 1 n ≡ 0
-unfolding openAnswer numbered
+opens : (n ta ts w : ℕ) → validSettings n (namedTa n ta ts w) ts w ≡ true → openAnswer 2048 n ta ts w 1 n ≡ 0
+unfolding numbered
 opens n ta ts w e =
-    let low : leb 1 n ≡ true = le-leb 1 n (valid-rules n (namedTa ta) ts w e .some) in
-    rw (e, low, eq-eqb n n refl)
+    let low : leb 1 n ≡ true = le-leb 1 n (valid-rules n (namedTa n ta ts w) ts w e .some) in
+    accepted-answer 2048 n ta ts w 1 n (record { size = refl; valid = e; own-number = rw low; coin-words = refl })
 
-module _ (n ta ts m w : ℕ) (c : Checked) (d : m ≡ namedTa ta) (o : w ≡ weightsWord n (onesGiven n)) (e : c ≡ checkSettings n m ts w) where
+module _ (n ta ts w : ℕ) (c : Checked) (o : w ≡ weightsWord n (onesGiven n)) (e : c ≡ checkSettings n (namedTa n ta ts w) ts w) where
   pub valid-opens : (g : Settings) → c ≡ Valid g → true ≡ settingsOpen n ta ts
   unfolding settingsOpen
-  valid-opens g f =
-      let v : validSettings n (namedTa ta) ts w ≡ true = rw (← d) (check-taken n m ts w g (sym e ∙ f) .valid) in
-      rw (← o, opens n ta ts w v)
+  valid-opens g f = rw (← o, opens n ta ts w (check-taken n (namedTa n ta ts w) ts w g (sym e ∙ f) .valid))
 
   pub invalid-refused : c ≡ Invalid → false ≡ settingsOpen n ta ts
   unfolding settingsOpen openAnswer
-  invalid-refused f =
-      let v : validSettings n (namedTa ta) ts w ≡ false = rw (← d) (check-refused n m ts w (sym e ∙ f)) in
-      rw (← o, v)
+  invalid-refused f = rw (← o, check-refused n (namedTa n ta ts w) ts w (sym e ∙ f))
 
 pub ruleset open-cases = (valid-opens, invalid-refused)
 

@@ -83,7 +83,7 @@ fn ones_word(n: u64) -> u64
 fn settings_open(n: u64, ta: u64, ts: u64) -> bool
     ensures { λ r. ⌜ r ≡ settingsOpen n ta ts ⌝ }
 {
-    let c = Settings::check(n, Settings::named_ta(ta), ts, ones_word(n));
+    let c = Settings::check_named(n, ta, ts, ones_word(n));
     match c {
         Checked::Valid(_) => true,
         Checked::Invalid => false,

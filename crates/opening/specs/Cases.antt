@@ -32,28 +32,28 @@ module _ (words n ta ts w own coins : ℕ) where
   unfolding openAnswer
   answer-words h = rw (ne-eqb words 2048 h)
 
-  module _ (ew : words ≡ 2048) (m : ℕ) (em : m ≡ namedTa ta) (v : Bool) (ev : v ≡ validSettings n m ts w) where
+  module _ (ew : words ≡ 2048) (v : Bool) (ev : v ≡ validSettings n (namedTa n ta ts w) ts w) where
     pub answer-settings : not v ≡ true → 1 ≡ openAnswer words n ta ts w own coins
     unfolding openAnswer
-    answer-settings t = rw (eq-eqb words 2048 ew, ← em, ← ev, not-true v t)
+    answer-settings t = rw (eq-eqb words 2048 ew, ← ev, not-true v t)
 
     module _ (tv : not v ≡ false) (o : Bool) (eo : o ≡ numbered n own) where
       pub answer-own : not o ≡ true → 1 ≡ openAnswer words n ta ts w own coins
       unfolding openAnswer
-      answer-own t = rw (eq-eqb words 2048 ew, ← em, ← ev, not-false v tv, ← eo, not-true o t)
+      answer-own t = rw (eq-eqb words 2048 ew, ← ev, not-false v tv, ← eo, not-true o t)
 
       pub answer-coins : not o ≡ false → (coins ≡ n → ⊥) → 1 ≡ openAnswer words n ta ts w own coins
       unfolding openAnswer
-      answer-coins t h = rw (eq-eqb words 2048 ew, ← em, ← ev, not-false v tv, ← eo, not-false o t, ne-eqb coins n h)
+      answer-coins t h = rw (eq-eqb words 2048 ew, ← ev, not-false v tv, ← eo, not-false o t, ne-eqb coins n h)
 
       pub answer-accepted : not o ≡ false → coins ≡ n → 0 ≡ openAnswer words n ta ts w own coins
       unfolding openAnswer
-      answer-accepted t h = rw (eq-eqb words 2048 ew, ← em, ← ev, not-false v tv, ← eo, not-false o t, eq-eqb coins n h)
+      answer-accepted t h = rw (eq-eqb words 2048 ew, ← ev, not-false v tv, ← eo, not-false o t, eq-eqb coins n h)
 
 -- what an accepted opening tells
 pub record Accepted (words n ta ts w own coins : ℕ) : Type 0 where
   pub size : words ≡ 2048
-  pub valid : validSettings n (namedTa ta) ts w ≡ true
+  pub valid : validSettings n (namedTa n ta ts w) ts w ≡ true
   pub own-number : numbered n own ≡ true
   pub coin-words : coins ≡ n
 
@@ -61,19 +61,23 @@ pub accepted : (words n ta ts w own coins : ℕ) → openAnswer words n ta ts w 
 unfolding openAnswer
 accepted words n ta ts w own coins e =
     let a = refusal-passed (not (eqb words 2048)) 9 _ (λ z. omega arith) e in
-    let b = refusal-passed (not (validSettings n (namedTa ta) ts w)) 1 _ (λ z. omega arith) (a .1) in
+    let b = refusal-passed (not (validSettings n (namedTa n ta ts w) ts w)) 1 _ (λ z. omega arith) (a .1) in
     let c = refusal-passed (not (numbered n own)) 1 _ (λ z. omega arith) (b .1) in
     let d = refusal-passed (not (eqb coins n)) 1 0 (λ z. omega arith) (c .1) in
     record {
       size = eqb-true words 2048 (not-passed (eqb words 2048) (a .0));
-      valid = not-passed (validSettings n (namedTa ta) ts w) (b .0);
+      valid = not-passed (validSettings n (namedTa n ta ts w) ts w) (b .0);
       own-number = not-passed (numbered n own) (c .0);
       coin-words = eqb-true coins n (not-passed (eqb coins n) (d .0));
     }
 
+pub accepted-answer : (words n ta ts w own coins : ℕ) → Accepted words n ta ts w own coins → openAnswer words n ta ts w own coins ≡ 0
+unfolding openAnswer
+accepted-answer words n ta ts w own coins a = rw (eq-eqb words 2048 (a .size), a .valid, a .own-number, eq-eqb coins n (a .coin-words))
+
 pub accepted-few : (words n ta ts w own coins a : ℕ) → a ≡ openAnswer words n ta ts w own coins → a ≡ 0 → Fits w8 n
 accepted-few words n ta ts w own coins a e z =
-    let k = valid-rules n (namedTa ta) ts w (accepted words n ta ts w own coins (sym e ∙ z) .valid) in
+    let k = valid-rules n (namedTa n ta ts w) ts w (accepted words n ta ts w own coins (sym e ∙ z) .valid) in
     record { fits = omega (arith, k .few) }
 
 pub coin-none : (coins : List ℕ) (i : ℕ) → i < 1 → 0 ≡ item coins i
@@ -94,7 +98,7 @@ unfolding withCoins
 coins-stored s t coins n e = e
 
 module _ (s coins : List ℕ) (n ta ts w own session input a : ℕ) (e : a ≡ openAnswer (length s) n ta ts w own (length coins)) where
-  pub open-done : (m : ℕ) (s0 s1 s2 : List ℕ) → a ≡ 0 → m ≡ namedTa ta → s0 ≡ blank (length s) → s1 ≡ withSettings s0 n m ts w own session input → s2 ≡ withCoins s1 coins n → s2 ≡ opened s n ta ts w own session input coins
+  pub open-done : (m : ℕ) (s0 s1 s2 : List ℕ) → a ≡ 0 → m ≡ namedTa n ta ts w → s0 ≡ blank (length s) → s1 ≡ withSettings s0 n m ts w own session input → s2 ≡ withCoins s1 coins n → s2 ≡ opened s n ta ts w own session input coins
   unfolding opened openWords
   open-done m s0 s1 s2 z em f g h =
       rw (← e, eq-eqb a 0 z, h, g, f, em, accepted (length s) n ta ts w own (length coins) (sym e ∙ z) .size)

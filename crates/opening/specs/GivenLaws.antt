@@ -58,7 +58,7 @@ accepted-given words n ta ts own coins ws e = at (weightsGiven n ws) refl
     at : (b : Bool) → weightsGiven n ws ≡ b → weightsGiven n ws ≡ true
     at true f = f
     at false f =
-        let r = valid-rules n (namedTa ta) ts (weightsWord n ws) (accepted words n ta ts (weightsWord n ws) own coins e .valid) in
+        let r = valid-rules n (namedTa n ta ts (weightsWord n ws)) ts (weightsWord n ws) (accepted words n ta ts (weightsWord n ws) own coins e .valid) in
         let none : weightsWord n ws ≡ 0 = rw f in
         absurd (omega (arith, weight-low (weightsWord n ws) n (r .right) 1 (omega arith) (r .some), ap (λ (w : ℕ). weightOf w 1) none, nobody))
 

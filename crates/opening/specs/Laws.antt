@@ -104,14 +104,14 @@ module _ (n ta ts w own session input : ℕ) (coins : List ℕ) where
   first = openWords n ta ts w own session input coins
 
   abbrev base : List ℕ
-  base = withSettings (blank stateWords) n (namedTa ta) ts w own session input
+  base = withSettings (blank stateWords) n (namedTa n ta ts w) ts w own session input
 
   room : 6 ≤ length (blank stateWords)
   room = rw length-blank (omega arith)
 
   pub length-first : length first ≡ 2048
   unfolding openWords withCoins
-  length-first = length-storeOf (item coins) (coinAt 0) base n ∙ length-settled (blank stateWords) n (namedTa ta) ts w own session input ∙ length-blank stateWords
+  length-first = length-storeOf (item coins) (coinAt 0) base n ∙ length-settled (blank stateWords) n (namedTa n ta ts w) ts w own session input ∙ length-blank stateWords
 
   -- no coin word stands at a
   first-base : (a : ℕ) → ((j : ℕ) → 1 ≤ j → j ≤ n → a ≡ coinAt 0 + j → ⊥) → word first a ≡ word base a
@@ -119,33 +119,33 @@ module _ (n ta ts w own session input : ℕ) (coins : List ℕ) where
   first-base a h = store-other (item coins) (coinAt 0) base n a h
 
   pub first-n : word first nAt ≡ n
-  first-n = first-base nAt (λ j lo hi z. omega arith) ∙ settled-n (blank stateWords) n (namedTa ta) ts w own session input room
+  first-n = first-base nAt (λ j lo hi z. omega arith) ∙ settled-n (blank stateWords) n (namedTa n ta ts w) ts w own session input room
 
-  pub first-ta : word first taAt ≡ namedTa ta
-  first-ta = first-base taAt (λ j lo hi z. omega arith) ∙ settled-ta (blank stateWords) n (namedTa ta) ts w own session input room
+  pub first-ta : word first taAt ≡ namedTa n ta ts w
+  first-ta = first-base taAt (λ j lo hi z. omega arith) ∙ settled-ta (blank stateWords) n (namedTa n ta ts w) ts w own session input room
 
   pub first-ts : word first tsAt ≡ ts
-  first-ts = first-base tsAt (λ j lo hi z. omega arith) ∙ settled-ts (blank stateWords) n (namedTa ta) ts w own session input room
+  first-ts = first-base tsAt (λ j lo hi z. omega arith) ∙ settled-ts (blank stateWords) n (namedTa n ta ts w) ts w own session input room
 
   pub first-own : word first ownAt ≡ own
-  first-own = first-base ownAt (λ j lo hi z. omega arith) ∙ settled-own (blank stateWords) n (namedTa ta) ts w own session input room
+  first-own = first-base ownAt (λ j lo hi z. omega arith) ∙ settled-own (blank stateWords) n (namedTa n ta ts w) ts w own session input room
 
   pub first-session : word first sessionAt ≡ session
-  first-session = first-base sessionAt (λ j lo hi z. omega arith) ∙ settled-session (blank stateWords) n (namedTa ta) ts w own session input room
+  first-session = first-base sessionAt (λ j lo hi z. omega arith) ∙ settled-session (blank stateWords) n (namedTa n ta ts w) ts w own session input room
 
   pub first-input : word first inputAt ≡ input
-  first-input = first-base inputAt (λ j lo hi z. omega arith) ∙ settled-input (blank stateWords) n (namedTa ta) ts w own session input room
+  first-input = first-base inputAt (λ j lo hi z. omega arith) ∙ settled-input (blank stateWords) n (namedTa n ta ts w) ts w own session input room
 
   pub first-turns : word first turnsAt ≡ 0
   first-turns =
       first-base turnsAt (λ j lo hi z. omega arith)
-      ∙ settled-other (blank stateWords) n (namedTa ta) ts w own session input turnsAt (omega arith) (λ z. omega arith)
+      ∙ settled-other (blank stateWords) n (namedTa n ta ts w) ts w own session input turnsAt (omega arith) (λ z. omega arith)
       ∙ word-blank stateWords turnsAt (omega arith)
 
   pub first-flags : word first flagsAt ≡ 0
   first-flags =
       first-base flagsAt (λ j lo hi z. omega arith)
-      ∙ settled-other (blank stateWords) n (namedTa ta) ts w own session input flagsAt (omega arith) (λ z. omega arith)
+      ∙ settled-other (blank stateWords) n (namedTa n ta ts w) ts w own session input flagsAt (omega arith) (λ z. omega arith)
       ∙ word-blank stateWords flagsAt (omega arith)
 
   module _ (few : n ≤ 16) where
@@ -153,7 +153,7 @@ module _ (n ta ts w own session input : ℕ) (coins : List ℕ) where
     unfolding openWords withCoins
     first-coin i lo hi =
         store-same (item coins) (coinAt 0) base n i lo hi
-        (omega (arith, length-settled (blank stateWords) n (namedTa ta) ts w own session input, length-blank stateWords))
+        (omega (arith, length-settled (blank stateWords) n (namedTa n ta ts w) ts w own session input, length-blank stateWords))
 
     pub first-weights : word first weightsAt ≡ w
     unfolding withSettings
@@ -161,15 +161,15 @@ module _ (n ta ts w own session input : ℕ) (coins : List ℕ) where
 
     -- nothing is recorded
     pub first-zero : (a : ℕ) → 24 ≤ a → (a ≡ 141 → ⊥) → word first a ≡ 0
-    first-zero a h ne = first-base a (λ j lo hi z. omega arith) ∙ settled-other (blank stateWords) n (namedTa ta) ts w own session input a (omega arith) ne ∙ empty (decLt a stateWords)
+    first-zero a h ne = first-base a (λ j lo hi z. omega arith) ∙ settled-other (blank stateWords) n (namedTa n ta ts w) ts w own session input a (omega arith) ne ∙ empty (decLt a stateWords)
       where
         empty : Dec (a < stateWords) → word (blank stateWords) a ≡ 0
         empty (yes l) = word-blank stateWords a l
         empty (no l) = sym (word-past-end (blank stateWords) a (rw length-blank (omega arith)))
 
-  pub fit-first : n < 2 ^ 64 → namedTa ta < 2 ^ 64 → ts < 2 ^ 64 → own < 2 ^ 64 → session < 2 ^ 64 → input < 2 ^ 64 → w < 2 ^ 64 → ((i : ℕ) → item coins i < 2 ^ 64) → Fit first
+  pub fit-first : n < 2 ^ 64 → namedTa n ta ts w < 2 ^ 64 → ts < 2 ^ 64 → own < 2 ^ 64 → session < 2 ^ 64 → input < 2 ^ 64 → w < 2 ^ 64 → ((i : ℕ) → item coins i < 2 ^ 64) → Fit first
   unfolding openWords withCoins
   fit-first a b c d e g v h =
       fit-storeOf (item coins) (coinAt 0) base n
-      (fit-settled (blank stateWords) n (namedTa ta) ts w own session input (fit-blank stateWords) a b c d e g v)
+      (fit-settled (blank stateWords) n (namedTa n ta ts w) ts w own session input (fit-blank stateWords) a b c d e g v)
       (λ k lo hi. h k)

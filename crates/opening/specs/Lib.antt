@@ -5,3 +5,4 @@ pub mod Cases
 pub mod Laws
 pub mod GivenLaws
 pub mod Ones
+pub mod Unnamed

@@ -17,7 +17,7 @@ use Rattle.opening.specs.Given.{item}
 unfoldable pub openAnswer : ℕ → ℕ → ℕ → ℕ → ℕ → ℕ → ℕ → ℕ
 openAnswer words n ta ts w own coinWords =
     cond (not (eqb words stateWords)) NO-STATE
-    (cond (not (validSettings n (namedTa ta) ts w)) SETTINGS
+    (cond (not (validSettings n (namedTa n ta ts w) ts w)) SETTINGS
     (cond (not (numbered n own)) SETTINGS
     (cond (not (eqb coinWords n)) SETTINGS
     0)))
@@ -34,7 +34,7 @@ withCoins s coins n = storeOf (item coins) (coinAt 0) s n
 -- "Opening sets all of it.": what is not given is 0
 unfoldable pub openWords : ℕ → ℕ → ℕ → ℕ → ℕ → ℕ → ℕ → List ℕ → List ℕ
 openWords n ta ts w own session input coins =
-    withCoins (withSettings (blank stateWords) n (namedTa ta) ts w own session input) coins n
+    withCoins (withSettings (blank stateWords) n (namedTa n ta ts w) ts w own session input) coins n
 
 -- the words after an opening, accepted or not
 unfoldable pub opened : List ℕ → ℕ → ℕ → ℕ → ℕ → ℕ → ℕ → ℕ → List ℕ → List ℕ

@@ -8,16 +8,16 @@ use settings::refusal;
 ghost use mathlib.Core.Path.{_≡_};
 ghost use Prim.Native.Nat.{_≤_};
 ghost use lib.ListN.{length};
-ghost use Rattle.settings.specs.Settings.{validSettings};
+ghost use Rattle.settings.specs.Settings.{validSettings, namedTa};
 ghost use Rattle.records.specs.Fill.{blank};
 ghost use Rattle.opening.specs.Opening.{openAnswer, withSettings, withCoins, opened};
 ghost use Rattle.opening.specs.Given.{item, weightsWord};
 
-// Whether the numbers and the word of weights are settings of a session.
+// Whether the numbers and the word of weights are settings of a session, ta as it is given.
 fn settings_valid(n: u64, ta: u64, ts: u64, weights: u64) -> bool
-    ensures { λ r. ⌜ r ≡ validSettings n ta ts weights ⌝ }
+    ensures { λ r. ⌜ r ≡ validSettings n (namedTa n ta ts weights) ts weights ⌝ }
 {
-    let c = Settings::check(n, ta, ts, weights);
+    let c = Settings::check_named(n, ta, ts, weights);
     match c {
         Checked::Valid(_) => true,
         Checked::Invalid => false,
@@ -31,7 +31,7 @@ fn open_answer(words: usize, n: u64, ta: u64, ts: u64, weights: u64, own: u64, c
     if words != layout::STATE_WORDS {
         return refusal::NO_STATE;
     }
-    if !settings_valid(n, Settings::named_ta(ta), ts, weights) {
+    if !settings_valid(n, ta, ts, weights) {
         return refusal::SETTINGS;
     }
     if !session::numbered(n, own) {
@@ -119,18 +119,19 @@ fn open_weighted(
 {
     let answer = open_answer(state.len(), n, ta, ts, weights, own, coins.len());
     if answer == 0 {
+        let number = n as u8;
         clear(state);
         put_settings(
             state,
             n,
-            Settings::named_ta(ta),
+            Settings::named_ta(number, ta, ts, weights),
             ts,
             weights,
             own,
             session,
             input,
         );
-        put_coins(state, coins, n as u8);
+        put_coins(state, coins, number);
     }
     answer
 }

@@ -1,4 +1,4 @@
--- The paths of `named_ta` and `check`.
+-- The paths of `named_ta`, `check_named` and `check`.
 use Prim.Native.Nat.{ℕ, _+_, _*_, _<_, _≤_, _^_}
 use mathlib.Core.Bool.{Bool, true, false, not}
 use mathlib.Core.Path.{_≡_, sym, _∙_}
@@ -7,26 +7,27 @@ use borrow.Author.Tests.{lt-leb, le-leb, le-ltb, ne-eqb, not-true, not-false}
 use mir.Val.{Fits}
 use mir.Syntax.{w8, w64}
 use Rattle.quorum.specs.Whole.{wholeOf, weightsRight, whole-le}
-use Rattle.settings.specs.Settings.{validSettings, namedTa, checkSettings}
+use Rattle.settings.specs.Settings.{validSettings, UNNAMED, largestTa, namedTa, checkSettings}
 use Rattle.settings.specs.Laws.{rules-valid, refused-check}
 use Rattle.settings.specs.declared.Checked.the-variants.{Valid, Invalid}
 
-pub unnamed : (ta : ℕ) → ta ≡ 255 → 0 ≡ namedTa ta
-unfolding namedTa
-unnamed ta e = rw e
+module _ (n ta ts w : ℕ) where
+  pub unnamed : (whole m : ℕ) → ta ≡ UNNAMED → whole ≡ wholeOf w n → m ≡ largestTa whole ts → m ≡ namedTa n ta ts w
+  unfolding namedTa
+  unnamed whole m e f g = rw (e, ← f, g)
 
-pub named : (ta : ℕ) → (ta ≡ 255 → ⊥) → ta ≡ namedTa ta
-unfolding namedTa
-named ta e = rw (ne-eqb ta 255 e)
+  pub named : (ta ≡ UNNAMED → ⊥) → ta ≡ namedTa n ta ts w
+  unfolding namedTa
+  named e = rw (ne-eqb ta UNNAMED e)
 
 module _ (n ta ts w : ℕ) where
   pub none : n < 1 → Invalid ≡ checkSettings n ta ts w
   unfolding validSettings
   none h = sym (refused-check n ta ts w (simp (lt-leb 1 n h)))
 
-  pub too-many : 1 ≤ n → 16 < n → Invalid ≡ checkSettings n ta ts w
+  pub too-many : 16 < n → Invalid ≡ checkSettings n ta ts w
   unfolding validSettings
-  too-many a h = sym (refused-check n ta ts w (simp (le-leb 1 n a, lt-leb n 16 h)))
+  too-many h = sym (refused-check n ta ts w (simp (le-leb 1 n (omega arith), lt-leb n 16 h)))
 
   pub weights-wrong : (b : Bool) → 1 ≤ n → n ≤ 16 → b ≡ weightsRight w n → not b ≡ true → Invalid ≡ checkSettings n ta ts w
   unfolding validSettings

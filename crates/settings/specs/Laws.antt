@@ -7,7 +7,7 @@ use lib.Dec.{ltb, leb}
 use borrow.Author.Tests.{le-leb, lt-ltb, leb-true, ltb-true}
 use Rattle.quorum.specs.Bools.{and-left, and-right}
 use Rattle.quorum.specs.Whole.{wholeOf, weightsRight, whole-le}
-use Rattle.settings.specs.Settings.{validSettings, checkSettings}
+use Rattle.settings.specs.Settings.{validSettings, settingsFrom, checkSettings}
 use Rattle.settings.specs.declared.Settings.{Settings}
 use Rattle.settings.specs.declared.Checked.the-variants.{Valid, Invalid}
 
@@ -53,13 +53,13 @@ refused-check n ta ts w e = rw e
 -- what `checkSettings` takes, and the settings that it makes
 pub record Taken (n ta ts w : ℕ) (g : Settings) : Type 0 where
   pub valid : validSettings n ta ts w ≡ true
-  pub same : g ≡ record { n = n; ta = ta; ts = ts; whole = wholeOf w n; weights = w }
+  pub same : g ≡ settingsFrom n ta ts w
 
 pub check-taken : (n ta ts w : ℕ) (g : Settings) → checkSettings n ta ts w ≡ Valid g → Taken n ta ts w g
 unfolding checkSettings
 check-taken n ta ts w g e = go (validSettings n ta ts w) refl e
   where
-    go : (b : Bool) → validSettings n ta ts w ≡ b → cond b (Valid (record { n = n; ta = ta; ts = ts; whole = wholeOf w n; weights = w })) Invalid ≡ Valid g → Taken n ta ts w g
+    go : (b : Bool) → validSettings n ta ts w ≡ b → cond b (Valid (settingsFrom n ta ts w)) Invalid ≡ Valid g → Taken n ta ts w g
     go true v q = record { valid = v; same = cc }
     go false v q = absurd (let z : _≡_ {A = ℕ} 0 1 = cc in omega arith)
 
@@ -67,6 +67,6 @@ pub check-refused : (n ta ts w : ℕ) → checkSettings n ta ts w ≡ Invalid �
 unfolding checkSettings
 check-refused n ta ts w e = go (validSettings n ta ts w) e
   where
-    go : (b : Bool) → cond b (Valid (record { n = n; ta = ta; ts = ts; whole = wholeOf w n; weights = w })) Invalid ≡ Invalid → b ≡ false
+    go : (b : Bool) → cond b (Valid (settingsFrom n ta ts w)) Invalid ≡ Invalid → b ≡ false
     go true q = absurd (let z : _≡_ {A = ℕ} 0 1 = cc in omega arith)
     go false q = refl

@@ -3,3 +3,4 @@ pub mod Settings
 pub mod Laws
 pub mod Thresholds
 pub mod Cases
+pub mod Unnamed

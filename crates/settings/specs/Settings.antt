@@ -1,6 +1,6 @@
 -- The rules on a session's settings, and the thresholds worked out from them. With weights (request N11) n in a threshold is the sum of
 -- all weights, and what is compared with it a sum of weights; n itself stays the number of concentrators. w are the weights as one word.
-use Prim.Native.Nat.{ℕ, _+_, _*_, _-_}
+use Prim.Native.Nat.{ℕ, _+_, _*_, _-_, min}
 use mathlib.Core.Bool.{Bool, _&&_, cond}
 use lib.Dec.{eqb, ltb, leb}
 use Rattle.quorum.specs.Whole.{wholeOf, weightsRight}
@@ -12,13 +12,30 @@ use Rattle.settings.specs.declared.Checked.the-variants.{Valid, Invalid}
 unfoldable pub validSettings : ℕ → ℕ → ℕ → ℕ → Bool
 validSettings n ta ts w = leb 1 n && leb n 16 && weightsRight w n && leb ta ts && ltb (2 * ts + ta) (wholeOf w n)
 
--- "ta given as 255 means unnamed and is then 0"
-unfoldable pub namedTa : ℕ → ℕ
-namedTa ta = cond (eqb ta 255) 0 ta
+-- "ta given as 255 means unnamed"
+abbrev pub UNNAMED : ℕ
+UNNAMED = 255
 
--- the settings of numbers and weights within the rules
+-- "the smaller of ts and n−1−2·ts" (request N8), n being the sum of the weights. Where 2·ts ≥ n the difference is 0, and `validSettings`
+-- refuses that ta too, since 2·ts + 0 < n does not hold: "if 2·ts ≥ n it is refused as 1"
+unfoldable pub largestTa : ℕ → ℕ → ℕ
+largestTa whole ts = min ts (whole - 1 - 2 * ts)
+
+-- the ta that is meant by the one given: "255 shall mean the smaller of .."
+unfoldable pub namedTa : ℕ → ℕ → ℕ → ℕ → ℕ
+namedTa n ta ts w = cond (eqb ta UNNAMED) (largestTa (wholeOf w n) ts) ta
+
+-- the settings of numbers and weights
+abbrev pub settingsFrom : ℕ → ℕ → ℕ → ℕ → Settings
+settingsFrom n ta ts w = record { n = n; ta = ta; ts = ts; whole = wholeOf w n; weights = w }
+
+-- .. where ta is the one given
+abbrev pub settingsNamed : ℕ → ℕ → ℕ → ℕ → Settings
+settingsNamed n ta ts w = settingsFrom n (namedTa n ta ts w) ts w
+
+-- settings within the rules; ta is taken as it is, so that a stored 255 is refused
 unfoldable pub checkSettings : ℕ → ℕ → ℕ → ℕ → Checked
-checkSettings n ta ts w = cond (validSettings n ta ts w) (Valid (record { n = n; ta = ta; ts = ts; whole = wholeOf w n; weights = w })) Invalid
+checkSettings n ta ts w = cond (validSettings n ta ts w) (Valid (settingsFrom n ta ts w)) Invalid
 
 -- "n−ts senders' COMMITs", "n−ts ECHOs", "n−ts senders' READYs", "at least n−ts broadcasts"
 unfoldable pub quorum : Settings → ℕ

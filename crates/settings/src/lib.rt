@@ -3,7 +3,7 @@ pub mod refusal;
 
 ghost use mathlib.Core.Path.{_≡_};
 ghost use Prim.Native.Nat.{_-_};
-ghost use Rattle.settings.specs.Settings.{namedTa, checkSettings};
+ghost use Rattle.settings.specs.Settings.{largestTa, namedTa, checkSettings};
 ghost use Rattle.settings.specs.Settings.{quorum, copy, voteQuorum, relay, accept, turnBound};
 
 // u8 fields: no threshold can wrap, so none has a `requires`. `whole` is the sum of the weights, which are one word.
@@ -27,20 +27,51 @@ fn difference(a: u8, b: u8) -> u64
     if b <= a { (a - b) as u64 } else { 0 }
 }
 
+// The largest ta that the rules allow where the weights sum up to `whole`: the smaller of ts and whole − 1 − 2·ts. 0 where they
+// allow none.
+fn largest_ta(whole: u64, ts: u64) -> u64
+    ensures { λ r. ⌜ r ≡ largestTa whole ts ⌝ }
+{
+    if whole <= ts {
+        return 0;
+    }
+    let rest = whole - 1 - ts;
+    if rest <= ts {
+        return 0;
+    }
+    let room = rest - ts;
+    if ts < room { ts } else { room }
+}
+
 impl Settings {
     // The last round of a vote.
     pub const ROUND_LIMIT: u8 = 32;
-    // The ta that stands for none.
+    // The ta that leaves it unnamed.
     pub const UNNAMED: u64 = 255;
 
-    // The ta that is meant by the one given.
-    pub fn named_ta(ta: u64) -> u64
-        ensures { λ r. ⌜ r ≡ namedTa ta ⌝ }
+    // The ta that is meant by the one given: the largest that the rules allow, where none is named.
+    pub fn named_ta(n: u8, ta: u64, ts: u64, weights: u64) -> u64
+        ensures { λ r. ⌜ r ≡ namedTa n ta ts weights ⌝ }
     {
-        if ta == Settings::UNNAMED { 0 } else { ta }
+        if ta == Settings::UNNAMED {
+            largest_ta(quorum::whole(weights, n), ts)
+        } else {
+            ta
+        }
     }
 
-    // The settings of any numbers and weights, ta already read by `named_ta`.
+    // The settings that an opening names.
+    pub fn check_named(n: u64, ta: u64, ts: u64, weights: u64) -> Checked
+        ensures { λ r. ⌜ r ≡ checkSettings n (namedTa n ta ts weights) ts weights ⌝ }
+    {
+        if 16 < n {
+            return Checked::Invalid;
+        }
+        let meant = Settings::named_ta(n as u8, ta, ts, weights);
+        Settings::check(n, meant, ts, weights)
+    }
+
+    // The settings of any numbers and weights, ta taken as it is.
     pub fn check(n: u64, ta: u64, ts: u64, weights: u64) -> Checked
         ensures { λ r. ⌜ r ≡ checkSettings n ta ts weights ⌝ }
     {

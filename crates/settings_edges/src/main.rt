@@ -78,19 +78,30 @@ fn main() {
     edge(0, 0, 0);
     edge(17, 0, 0);
     unnamed();
+    unnamed_weighted();
     huge();
     heavy();
     all_four();
     wrong_weights();
 }
 
-// A ta of 255 is 0.
+// A ta of 255 is the largest that is left, and refused where 2·ts is n.
 fn unnamed() {
     edge(4, 255, 1);
+    edge(4, 255, 2);
     edge(2, 255, 1);
+    edge(16, 255, 7);
+    edge(16, 255, 8);
+    edge(17, 255, 0);
+    edge(4, 255, HALF);
+    edge(4, 255, LARGEST);
     edge(4, 256, 1);
+}
+
+fn unnamed_weighted() {
     weighted(2, 255, 2, &[4, 1]);
     weighted(2, 255, 3, &[4, 1]);
+    weighted(2, 255, 0, &[0, 1]);
 }
 
 // Numbers that a sum or a narrower type would wrap.

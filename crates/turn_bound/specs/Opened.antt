@@ -8,11 +8,10 @@ use lib.ListN.{length}
 use lib.Dec.{leb}
 use borrow.Author.Tests.{eq-eqb, leb-true}
 use Rattle.quorum.specs.Bools.{and-left, and-right}
-use Rattle.settings.specs.Settings.{namedTa}
+use Rattle.settings.specs.Settings.{namedTa, settingsNamed}
 use Rattle.settings.specs.Laws.{Ruled, valid-rules}
 use Rattle.settings.specs.declared.Settings.{Settings}
 use Rattle.quorum.specs.Marks.{mark}
-use Rattle.quorum.specs.Whole.{wholeOf}
 use Rattle.quorum.specs.MarkLaws.{mark-zero}
 use Rattle.quorum.specs.Total.{total, everyone}
 use Rattle.records.specs.Layout.{turnsAt, flagsAt, roundAt, estSentAt, estSentMark, auxSentAt, commitCountAt}
@@ -30,7 +29,7 @@ module _ (n ta ts w own session input : ℕ) (coins : List ℕ) (few : n ≤ 16)
   abbrev new : List ℕ
   new = openWords n ta ts w own session input coins
 
-  new-settings : settingsOf new ≡ record { n = n; ta = namedTa ta; ts = ts; whole = wholeOf w n; weights = w }
+  new-settings : settingsOf new ≡ settingsNamed n ta ts w
   unfolding settingsOf
   new-settings = rw (first-n n ta ts w own session input coins, first-ta n ta ts w own session input coins, first-ts n ta ts w own session input coins, first-weights n ta ts w own session input coins few)
 
@@ -61,7 +60,7 @@ module _ (n ta ts w own session input : ℕ) (coins : List ℕ) (few : n ≤ 16)
   unfolding potential
   new-potential = omega (arith, zero-count (word new flagsAt) 3 (first-flags n ta ts w own session input coins), parts-zero n (omega arith))
 
-  new-sound : 1 ≤ own → own ≤ n → Sound (record { n = n; ta = namedTa ta; ts = ts; whole = wholeOf w n; weights = w }) new
+  new-sound : 1 ≤ own → own ≤ n → Sound (settingsNamed n ta ts w) new
   new-sound low high =
       record {
         size = length-first n ta ts w own session input coins;
@@ -80,13 +79,13 @@ module _ (n ta ts w own session input : ℕ) (coins : List ℕ) (few : n ≤ 16)
 
 module _ (s coins : List ℕ) (n ta ts w own session input : ℕ) (e : openAnswer (length s) n ta ts w own (length coins) ≡ 0) where
   abbrev g : Settings
-  g = record { n = n; ta = namedTa ta; ts = ts; whole = wholeOf w n; weights = w }
+  g = settingsNamed n ta ts w
 
   is-accepted : Accepted (length s) n ta ts w own (length coins)
   is-accepted = accepted (length s) n ta ts w own (length coins) e
 
   pub opened-ruled : Ruled g
-  opened-ruled = valid-rules n (namedTa ta) ts w (is-accepted .valid)
+  opened-ruled = valid-rules n (namedTa n ta ts w) ts w (is-accepted .valid)
 
   opened-new : opened s n ta ts w own session input coins ≡ openWords n ta ts w own session input coins
   unfolding opened

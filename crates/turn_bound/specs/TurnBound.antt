@@ -5,10 +5,9 @@ use mathlib.Core.List.{List, [], _∷_}
 use mathlib.Core.Path.{_≡_}
 use lib.Dec.{eqb}
 use lib.ListN.{length}
-use Rattle.settings.specs.Settings.{namedTa, turnBound}
+use Rattle.settings.specs.Settings.{settingsNamed, turnBound}
 use Rattle.settings.specs.declared.Settings.{Settings}
 use Rattle.records.specs.Layout.{turnsAt}
-use Rattle.quorum.specs.Whole.{wholeOf}
 use Rattle.records.specs.Words.{word}
 use Rattle.session.specs.Session.{isState}
 use Rattle.opening.specs.Given.{weightsWord}
@@ -45,7 +44,7 @@ abbrev pub openedBy : List ℕ → Arguments → List ℕ
 openedBy s o = opened s (o .n) (o .ta) (o .ts) (weightsBy o) (o .own) (o .session) (o .input) (o .coins)
 
 abbrev pub settingsBy : Arguments → Settings
-settingsBy o = record { n = o .n; ta = namedTa (o .ta); ts = o .ts; whole = wholeOf (weightsBy o) (o .n); weights = weightsBy o }
+settingsBy o = settingsNamed (o .n) (o .ta) (o .ts) (weightsBy o)
 
 -- a call: an opening, a delivery of any bytes from any link, a turn lent any bytes, or a report
 pub data Step : Type 0 where

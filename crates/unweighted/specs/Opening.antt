@@ -5,20 +5,19 @@ use mathlib.Core.List.{List}
 use lib.ListN.{length}
 use lib.Dec.{eqb}
 use Rattle.settings.specs.Refusals.{SETTINGS, NO-STATE}
-use Rattle.settings.specs.Settings.{namedTa}
 use Rattle.records.specs.Layout.{stateWords, nAt, taAt, tsAt, ownAt, sessionAt, inputAt}
 use Rattle.records.specs.Words.{put}
 use Rattle.records.specs.Fill.{blank}
 use Rattle.session.specs.Session.{numbered}
 use Rattle.opening.specs.Opening.{withCoins}
-use Rattle.unweighted.specs.Settings.{validSettings}
+use Rattle.unweighted.specs.Settings.{validSettings, namedTa}
 
 -- "Order: opening 9 (word count only), 1."; 0 is accepted
 -- "1 SETTINGS: a setting or own number outside the rules above, or not exactly n coin words."
 unfoldable pub openAnswer : ℕ → ℕ → ℕ → ℕ → ℕ → ℕ → ℕ
 openAnswer words n ta ts own coinWords =
     cond (not (eqb words stateWords)) NO-STATE
-    (cond (not (validSettings n (namedTa ta) ts)) SETTINGS
+    (cond (not (validSettings n (namedTa n ta ts) ts)) SETTINGS
     (cond (not (numbered n own)) SETTINGS
     (cond (not (eqb coinWords n)) SETTINGS
     0)))
@@ -31,7 +30,7 @@ withSettings s n ta ts own session input =
 -- "Opening sets all of it.": what is not given is 0
 unfoldable pub openWords : ℕ → ℕ → ℕ → ℕ → ℕ → ℕ → List ℕ → List ℕ
 openWords n ta ts own session input coins =
-    withCoins (withSettings (blank stateWords) n (namedTa ta) ts own session input) coins n
+    withCoins (withSettings (blank stateWords) n (namedTa n ta ts) ts own session input) coins n
 
 -- the words after an opening, accepted or not
 unfoldable pub opened : List ℕ → ℕ → ℕ → ℕ → ℕ → ℕ → ℕ → List ℕ → List ℕ

@@ -1,7 +1,8 @@
 -- The rules on a session's settings, and the thresholds worked out from them.
 use Prim.Native.Nat.{ℕ, _+_, _*_, _-_}
-use mathlib.Core.Bool.{Bool, _&&_}
-use lib.Dec.{ltb, leb}
+use mathlib.Core.Bool.{Bool, _&&_, cond}
+use lib.Dec.{eqb, ltb, leb}
+use Rattle.settings.specs.Settings.{UNNAMED, largestTa}
 
 -- "the session's own n, ta and ts"
 pub record Settings : Type 0 where
@@ -12,6 +13,10 @@ pub record Settings : Type 0 where
 -- "n from 1 to 16, with ta ≤ ts and 2·ts + ta < n"
 unfoldable pub validSettings : ℕ → ℕ → ℕ → Bool
 validSettings n ta ts = leb 1 n && leb n 16 && leb ta ts && ltb (2 * ts + ta) n
+
+-- "255 shall mean the smaller of ts and n−1−2·ts"
+unfoldable pub namedTa : ℕ → ℕ → ℕ → ℕ
+namedTa n ta ts = cond (eqb ta UNNAMED) (largestTa n ts) ta
 
 -- "n−ts senders' COMMITs", "n−ts ECHOs", "n−ts senders' READYs", "at least n−ts broadcasts"
 unfoldable pub quorum : Settings → ℕ

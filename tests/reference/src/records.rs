@@ -12,7 +12,7 @@ use crate::settings::{Number, Round, Settings, Weight};
 pub type BySender<V> = BTreeMap<Number, V>;
 
 /// The messages held.
-#[derive(Clone, Debug, Default)]
+#[derive(Clone, Debug, Default, PartialEq, Eq)]
 pub struct Records {
     /// By instance, which is the sender.
     sends: BySender<u64>,

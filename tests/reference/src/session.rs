@@ -32,7 +32,7 @@ pub enum Outcome {
 }
 
 /// One concentrator's end of an agreement session.
-#[derive(Clone, Debug)]
+#[derive(Clone, Debug, PartialEq, Eq)]
 pub struct Session {
     pub(crate) settings: Settings,
     pub(crate) own: Number,

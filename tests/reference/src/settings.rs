@@ -1,4 +1,4 @@
-//! 01, "Settings", with the weights of 02, N11. Every threshold is worked out from the session's own weights, ta and ts.
+//! 01, "Settings", with the weights of 02, N11, and the unnamed ta of N8. Every threshold is worked out from the session's own weights, ta and ts.
 
 use crate::fault::Fault;
 use crate::refusal::Refusal;
@@ -27,7 +27,7 @@ pub struct Settings {
 impl Settings {
     /// The most concentrators a session can have.
     pub const MOST: u64 = 16;
-    /// ta given so means unnamed, and is then 0.
+    /// ta given so means unnamed.
     pub const UNNAMED: u64 = 255;
     /// The largest weight.
     pub const HEAVIEST: u8 = 4;
@@ -35,12 +35,12 @@ impl Settings {
     pub const ROUND_LIMIT: Round = 32;
 
     /// "n from 1 to 16, with ta ≤ ts and 2·ts + ta < n"; N11: n weights from 1 to 4, whose sum W stands for n in the
-    /// last of these.
+    /// last of these. A ta that is not named is then worked out from the others.
     pub fn new(n: u64, ta: u64, ts: u64, weights: &[u8]) -> Result<Settings, Refusal> {
-        let ta = if ta == Self::UNNAMED { 0 } else { ta };
         let n_fits = (1..=Self::MOST).contains(&n) && weights.len() as u64 == n;
         let weights_fit = weights.iter().all(|weight| (1..=Self::HEAVIEST).contains(weight));
         let whole: Weight = weights.iter().map(|&weight| Weight::from(weight)).sum();
+        let ta = if ta == Self::UNNAMED { unnamed_ta(whole, ts)? } else { ta };
         // ts < W keeps the sum small; 2·ts + ta < W asks for it anyway.
         let most_fit = ta <= ts && ts < whole.into() && 2 * ts + ta < whole.into();
         if !(n_fits && weights_fit && most_fit) {
@@ -165,5 +165,13 @@ impl Settings {
 
     fn with_heads(self) -> Settings {
         Settings { weights: [1; Self::MOST as usize], whole: self.n.into(), ..self }
+    }
+}
+
+/// N8: "the smaller of ts and n−1−2·ts; if 2·ts ≥ n it is refused as 1", W standing for n.
+fn unnamed_ta(whole: Weight, ts: u64) -> Result<u64, Refusal> {
+    match ts.checked_mul(2) {
+        Some(twice) if twice < whole.into() => Ok(ts.min(u64::from(whole) - 1 - twice)),
+        _ => Err(Refusal::Settings),
     }
 }

@@ -9,7 +9,7 @@ use crate::session::{Outcome, Session};
 use crate::settings::{Number, Round, Settings, Weight};
 
 /// The own part in one vote.
-#[derive(Clone, Debug, Default)]
+#[derive(Clone, Debug, Default, PartialEq, Eq)]
 pub struct Vote {
     /// 0 before the start, 33 after the move out of round 32.
     round: Round,

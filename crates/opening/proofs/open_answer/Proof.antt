@@ -7,9 +7,6 @@ use Rattle.opening.proofs.open_answer.Tie as tie
 returns : tie.Need-returns
 returns c = search open-cases
 
-named-ta-requires : tie.Need-named-ta-requires
-named-ta-requires c κs = search needs
-
 settings-valid-requires : tie.Need-settings-valid-requires
 settings-valid-requires c κs = search needs
 
@@ -33,7 +30,6 @@ open-answer-spec =
     tie.close
     (tie.spec
     returns
-    named-ta-requires
     settings-valid-requires
     returns-2
     numbered-requires

@@ -7,6 +7,9 @@ use Rattle.opening.proofs.open_weighted.Tie as tie
 open-answer-requires : tie.Need-open-answer-requires
 open-answer-requires c κs = search needs
 
+cast-number : tie.Need-cast-number
+cast-number c = search open-cases
+
 clear-requires : tie.Need-clear-requires
 clear-requires c κs = search needs
 
@@ -15,9 +18,6 @@ named-ta-requires c κs = search needs
 
 put-settings-requires : tie.Need-put-settings-requires
 put-settings-requires c κs = search needs
-
-cast-put-coins : tie.Need-cast-put-coins
-cast-put-coins c = search open-cases
 
 put-coins-requires : tie.Need-put-coins-requires
 put-coins-requires c κs = search needs
@@ -36,10 +36,10 @@ open-weighted-spec =
     tie.close
     (tie.spec
     open-answer-requires
+    cast-number
     clear-requires
     named-ta-requires
     put-settings-requires
-    cast-put-coins
     put-coins-requires
     same-length
     returns

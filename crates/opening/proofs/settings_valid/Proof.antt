@@ -4,8 +4,8 @@ use borrow.Author.Needs.{needs}
 use Rattle.opening.proofs.settings_valid.Statement.{statement}
 use Rattle.opening.proofs.settings_valid.Tie as tie
 
-check-requires : tie.Need-check-requires
-check-requires c κs = search needs
+check-named-requires : tie.Need-check-named-requires
+check-named-requires c κs = search needs
 
 enum-told : tie.Need-enum-told
 enum-told c = search needs
@@ -20,4 +20,4 @@ returns-2 : tie.Need-returns-2
 returns-2 c = search open-cases
 
 pub settings-valid-spec : {M : Type 1} → statement M
-settings-valid-spec = tie.close (tie.spec check-requires enum-told enum-told-2 returns returns-2)
+settings-valid-spec = tie.close (tie.spec check-named-requires enum-told enum-told-2 returns returns-2)

@@ -10,7 +10,7 @@ use Rattle.quorum.specs.Whole.{wholeOf, weightRight, weightsRight, total-weight
 use Rattle.quorum.specs.Every.{each-every}
 use Rattle.settings.specs.Settings as weighted
 use Rattle.settings.specs.declared.Settings as weighted-settings
-use Rattle.unweighted.specs.Settings.{Settings, validSettings, quorum, copy, voteQuorum, relay, accept, turnBound}
+use Rattle.unweighted.specs.Settings.{Settings, validSettings, namedTa, quorum, copy, voteQuorum, relay, accept, turnBound}
 
 module _ (w n : ℕ) (each : (p : ℕ) → 1 ≤ p → p ≤ n → weightOf w p ≡ 1) where
   pub weigh-count : (M : ℕ → Bool) → weigh w M n ≡ count M n
@@ -31,6 +31,10 @@ module _ (w n : ℕ) (each : (p : ℕ) → 1 ≤ p → p ≤ n → weightOf w p 
       and-true : (b : Bool) → b && true ≡ b
       and-true true = refl
       and-true false = refl
+
+  pub named-same : (ta ts : ℕ) → weighted.namedTa n ta ts w ≡ namedTa n ta ts
+  unfolding weighted.namedTa namedTa
+  named-same ta ts = rw whole-count
 
 -- settings in which all weights are 1
 pub record Ones (g : weighted-settings.Settings) : Type 0 where

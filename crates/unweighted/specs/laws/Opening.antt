@@ -11,7 +11,6 @@ use borrow.Author.Tests.{le-leb, lt-leb, eq-eqb, ne-eqb}
 use Rattle.quorum.specs.Weights.{weightOf}
 use Rattle.quorum.specs.Whole.{ones-weight}
 use Rattle.settings.specs.Laws.{valid-rules}
-use Rattle.settings.specs.Settings.{namedTa}
 use Rattle.settings.specs.Settings as weighted-settings
 use Rattle.records.specs.Layout.{weightsAt, coinAt}
 use Rattle.records.specs.Words.{put}
@@ -21,10 +20,10 @@ use Rattle.opening.specs.Ones.{onesGiven, ones-word}
 use Rattle.opening.specs.Opening.{withCoins}
 use Rattle.opening.specs.Opening as weighted
 use Rattle.opening.specs.Cases as weighted-cases
-use Rattle.unweighted.specs.Settings.{validSettings}
+use Rattle.unweighted.specs.Settings.{validSettings, namedTa}
 use Rattle.unweighted.specs.Opening.{openAnswer, withSettings, openWords, opened}
 use Rattle.unweighted.specs.Statement.{OpensAlike}
-use Rattle.unweighted.specs.laws.Counts.{valid-same}
+use Rattle.unweighted.specs.laws.Counts.{valid-same, named-same}
 
 -- the n weights of 1 as one word
 abbrev pub onesWord : ℕ → ℕ
@@ -33,19 +32,23 @@ onesWord n = weightsWord n (onesGiven n)
 pub each-one : (n : ℕ) → 1 ≤ n → n ≤ 16 → (p : ℕ) → 1 ≤ p → p ≤ n → weightOf (onesWord n) p ≡ 1
 each-one n some few p lo hi = ap (λ (w : ℕ). weightOf w p) (ones-word n some few) ∙ ones-weight n p lo hi few
 
+-- the same ta is meant
+ones-named : (n ta ts : ℕ) → 1 ≤ n → n ≤ 16 → weighted-settings.namedTa n ta ts (onesWord n) ≡ namedTa n ta ts
+ones-named n ta ts some few = named-same (onesWord n) n (each-one n some few) ta ts
+
 -- n = 0 and n > 16 are refused by both
-ones-valid : (n ta ts : ℕ) → weighted-settings.validSettings n ta ts (onesWord n) ≡ validSettings n ta ts
+ones-valid : (n ta ts : ℕ) → weighted-settings.validSettings n (weighted-settings.namedTa n ta ts (onesWord n)) ts (onesWord n) ≡ validSettings n (namedTa n ta ts) ts
 unfolding weighted-settings.validSettings validSettings
 ones-valid n ta ts = at (decLe 1 n) (decLe n 16)
   where
-    at : Dec (1 ≤ n) → Dec (n ≤ 16) → weighted-settings.validSettings n ta ts (onesWord n) ≡ validSettings n ta ts
-    at (yes some) (yes few) = valid-same (onesWord n) n (each-one n some few) ta ts
+    at : Dec (1 ≤ n) → Dec (n ≤ 16) → weighted-settings.validSettings n (weighted-settings.namedTa n ta ts (onesWord n)) ts (onesWord n) ≡ validSettings n (namedTa n ta ts) ts
+    at (yes some) (yes few) = rw (ones-named n ta ts some few) (valid-same (onesWord n) n (each-one n some few) (namedTa n ta ts) ts)
     at (yes some) (no few) = rw (lt-leb n 16 (omega arith), le-leb 1 n some)
     at (no some) d = rw (lt-leb 1 n (omega arith))
 
 pub answer-same : (words n ta ts own coinWords : ℕ) → weighted.openAnswer words n ta ts (onesWord n) own coinWords ≡ openAnswer words n ta ts own coinWords
 unfolding weighted.openAnswer openAnswer
-answer-same words n ta ts own coinWords = rw (ones-valid n (namedTa ta) ts)
+answer-same words n ta ts own coinWords = rw (ones-valid n ta ts)
 
 -- a run of stores beside a word that is put
 pub store-put : (f : ℕ → ℕ) (a : ℕ) (s : List ℕ) (k v n : ℕ) → ((j : ℕ) → 1 ≤ j → j ≤ n → k ≢ a + j) → storeOf f a (put s k v) n ≡ put (storeOf f a s n) k v
@@ -56,15 +59,15 @@ store-put f a s k v (suc n) h =
     ∙ set-comm (storeOf f a s n) k (a + suc n) v (f (suc n)) (h (suc n) (omega arith) (omega arith))
 
 module _ (n ta ts own session input : ℕ) (coins : List ℕ) where
-  words-same : (w : ℕ) → n ≤ 16 → weighted.openWords n ta ts w own session input coins ≡ put (openWords n ta ts own session input coins) weightsAt w
+  words-same : 1 ≤ n → n ≤ 16 → weighted.openWords n ta ts (onesWord n) own session input coins ≡ put (openWords n ta ts own session input coins) weightsAt (onesWord n)
   unfolding weighted.openWords weighted.withSettings withCoins openWords withSettings
-  words-same w few = store-put (item coins) (coinAt 0) _ weightsAt w n (λ j lo hi z. omega arith)
+  words-same some few = rw (ones-named n ta ts some few) (store-put (item coins) (coinAt 0) _ weightsAt (onesWord n) n (λ j lo hi z. omega arith))
 
   module _ (s : List ℕ) where
     pub accepted-few : openAnswer (length s) n ta ts own (length coins) ≡ 0 → (1 ≤ n) × (n ≤ 16)
     accepted-few e =
         let same = answer-same (length s) n ta ts own (length coins) in
-        let r = valid-rules n (namedTa ta) ts (onesWord n) (weighted-cases.accepted (length s) n ta ts (onesWord n) own (length coins) (same ∙ e) .valid) in
+        let r = valid-rules n (weighted-settings.namedTa n ta ts (onesWord n)) ts (onesWord n) (weighted-cases.accepted (length s) n ta ts (onesWord n) own (length coins) (same ∙ e) .valid) in
         (r .some, r .few)
 
     opened-accepted : openAnswer (length s) n ta ts own (length coins) ≡ 0 → weighted.opened s n ta ts (onesWord n) own session input coins ≡ put (opened s n ta ts own session input coins) weightsAt (2 ^ n - 1)
@@ -72,7 +75,7 @@ module _ (n ta ts own session input : ℕ) (coins : List ℕ) where
     opened-accepted e =
         let few = accepted-few e in
         rw (answer-same (length s) n ta ts own (length coins), eq-eqb (openAnswer (length s) n ta ts own (length coins)) 0 e)
-        (words-same (onesWord n) (few .1) ∙ ap (put (openWords n ta ts own session input coins) weightsAt) (ones-word n (few .0) (few .1)))
+        (words-same (few .0) (few .1) ∙ ap (put (openWords n ta ts own session input coins) weightsAt) (ones-word n (few .0) (few .1)))
 
     opened-refused : openAnswer (length s) n ta ts own (length coins) ≢ 0 → weighted.opened s n ta ts (onesWord n) own session input coins ≡ s
     unfolding weighted.opened

@@ -7,7 +7,6 @@ use native.Mathlib.Decide.{ℕ-discrete}
 use lib.ListN.{length}
 use lib.Seq.{set-set, set-getD}
 use borrow.Author.Tests.{eq-eqb}
-use Rattle.settings.specs.Settings.{namedTa}
 use Rattle.records.specs.Layout.{stateWords, nAt, taAt, tsAt, ownAt, sessionAt, inputAt, weightsAt, coinAt}
 use Rattle.records.specs.Words.{word, put, length-put, word-put-other}
 use Rattle.records.specs.Fill.{word-blank, store-other}
@@ -16,6 +15,7 @@ use Rattle.opening.specs.Ones.{onesGiven}
 use Rattle.opening.specs.Opening.{withCoins}
 use Rattle.opening.specs.Opening as weighted-opening
 use Rattle.turn_bound.specs.TurnBound.{Arguments, answer, openedBy, Step, opening, delivery, turn, report, after}
+use Rattle.unweighted.specs.Settings.{namedTa}
 use Rattle.unweighted.specs.Opening.{openAnswer, withSettings, openWords, opened}
 use Rattle.unweighted.specs.Delivery.{deliverAnswer, delivered}
 use Rattle.unweighted.specs.Turn.{turnOutcome, turnWords, turnBytes}
@@ -49,7 +49,7 @@ module _ (o : Arguments) where
       ∙ word-put-other _ sessionAt (o .session) weightsAt (λ z. omega arith)
       ∙ word-put-other _ ownAt (o .own) weightsAt (λ z. omega arith)
       ∙ word-put-other _ tsAt (o .ts) weightsAt (λ z. omega arith)
-      ∙ word-put-other _ taAt (namedTa (o .ta)) weightsAt (λ z. omega arith)
+      ∙ word-put-other _ taAt (namedTa (o .n) (o .ta) (o .ts)) weightsAt (λ z. omega arith)
       ∙ word-put-other _ nAt (o .n) weightsAt (λ z. omega arith)
       ∙ word-blank stateWords weightsAt (omega arith)
 

@@ -70,12 +70,13 @@ fn weights(random: &mut Random) -> Vec<u8> {
     (0..n).map(|_| 1 + random.below(u64::from(Settings::HEAVIEST)) as u8).collect()
 }
 
-pub fn ta_given(random: &mut Random, settings: &Settings) -> u64 {
-    if settings.ta() == 0 && random.once_in(4) {
-        Settings::UNNAMED
-    } else {
-        u64::from(settings.ta())
+/// Who leaves ta unnamed: some, where that means the ta of the settings.
+pub fn unnamed(random: &mut Random, settings: &Settings) -> BTreeSet<Number> {
+    let [n, ts] = [settings.n(), settings.ts()].map(u64::from);
+    if Settings::new(n, Settings::UNNAMED, ts, settings.weights()) != Ok(*settings) {
+        return BTreeSet::new();
     }
+    settings.numbers().filter(|_| random.once_in(4)).collect()
 }
 
 /// Mostly of as much weight as there may be.

@@ -88,8 +88,8 @@ pub struct Pace {
 #[derive(Clone, Debug)]
 pub struct Plan {
     pub settings: Settings,
-    /// ta as it is given: 255 at times, if it is 0.
-    ta_given: u64,
+    /// Who gives ta as 255.
+    unnamed: BTreeSet<Number>,
     pub session: u32,
     coins: Vec<u32>,
     /// Of the honest ones.
@@ -117,7 +117,7 @@ impl Plan {
         let target = pick::target(random, &settings, aim);
         Plan {
             settings,
-            ta_given: pick::ta_given(random, &settings),
+            unnamed: pick::unnamed(random, &settings),
             session: random.word() as u32,
             inputs: pick::inputs(random, &settings, &honest, &packs, aim),
             openings: honest.iter().map(|&number| (number, pick::opened(random))).collect(),
@@ -133,9 +133,10 @@ impl Plan {
 
     /// The opening of one concentrator, honest or not.
     pub fn opening(&self, own: Number, input: u64) -> Opening<'_> {
+        let named = u64::from(self.settings.ta());
         Opening {
             n: u64::from(self.settings.n()),
-            ta: self.ta_given,
+            ta: if self.unnamed.contains(&own) { Settings::UNNAMED } else { named },
             ts: u64::from(self.settings.ts()),
             own: u64::from(own),
             session: self.session,

@@ -7,7 +7,9 @@ use std::time::Instant;
 
 use pack_reference::attack::attack;
 use pack_reference::c_engine::{check_word_counts, CEngine};
-use pack_reference::compare::{damaged_deliveries, foreign_calls, longest_sessions, random_calls};
+use pack_reference::compare::{
+    damaged_deliveries, foreign_calls, longest_sessions, random_calls, unnamed_openings,
+};
 use pack_reference::engine::{Lockstep, Reference};
 use pack_reference::Opening;
 
@@ -37,6 +39,7 @@ fn main() -> ExitCode {
     };
     note("damaged messages", &damaged_deliveries(&engine));
     note("longest sessions", &longest_sessions(&engine, 7));
+    note("ta unnamed", &unnamed_openings(&engine, seed, 20));
     note("random calls", &random_calls(&engine, seed, calls));
     note("planted words", &foreign_calls(&CEngine, &CEngine, seed, foreign));
     let (statistics, finding) = attack(&engine, seed, feeders);

@@ -48,6 +48,7 @@ impl<E: Engine> Caller<'_, E> {
         let random = &mut self.random;
         let most = random.pick(&[5, 5, 7, Settings::MOST]);
         let ([n, ta, ts], mut weights) = good_settings(random, most);
+        let ta = if random.once_in(4) { Settings::UNNAMED } else { ta };
         let mut numbers = [n, ta, ts, 1 + random.below(n)];
         if random.once_in(3) {
             numbers[random.below(4) as usize] = random.pick(&EDGES);

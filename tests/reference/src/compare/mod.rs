@@ -1,10 +1,12 @@
-//! Calls for a comparison of two engines in lockstep: random ones, damaged messages, and words that no engine wrote.
+//! Calls for a comparison of two engines in lockstep: random ones, damaged messages, openings with ta unnamed, and words
+//! that no engine wrote.
 
 mod calls;
 mod damage;
 #[cfg(feature = "c-engine")]
 mod foreign;
 mod longest;
+mod unnamed;
 
 use std::fmt;
 
@@ -13,6 +15,7 @@ pub use damage::damaged_deliveries;
 #[cfg(feature = "c-engine")]
 pub use foreign::foreign_calls;
 pub use longest::{all_settings, longest_sessions};
+pub use unnamed::unnamed_openings;
 
 use crate::packing::refusal;
 

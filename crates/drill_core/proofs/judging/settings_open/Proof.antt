@@ -4,14 +4,11 @@ use borrow.Author.Needs.{needs}
 use Rattle.drill_core.proofs.judging.settings_open.Statement.{statement}
 use Rattle.drill_core.proofs.judging.settings_open.Tie as tie
 
-named-ta-requires : tie.Need-named-ta-requires
-named-ta-requires c κs = search needs
-
 ones-word-requires : tie.Need-ones-word-requires
 ones-word-requires c κs = search needs
 
-check-requires : tie.Need-check-requires
-check-requires c κs = search needs
+check-named-requires : tie.Need-check-named-requires
+check-named-requires c κs = search needs
 
 enum-told : tie.Need-enum-told
 enum-told c = search needs
@@ -27,12 +24,4 @@ returns-2 c = search open-cases
 
 pub settings-open-spec : {M : Type 1} → statement M
 settings-open-spec =
-    tie.close
-    (tie.spec
-    named-ta-requires
-    ones-word-requires
-    check-requires
-    enum-told
-    enum-told-2
-    returns
-    returns-2)
+    tie.close (tie.spec ones-word-requires check-named-requires enum-told enum-told-2 returns returns-2)
