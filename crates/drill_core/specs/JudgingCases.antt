@@ -7,7 +7,7 @@ use lib.Dec.{leb, ltb}
 use lib.Pow.{pow-pos}
 use mir.Val.{Fits}
 use mir.Syntax.{w8, w16, w32}
-use borrow.Author.Tests.{le-leb, eq-eqb, leb-true, ltb-true}
+use borrow.Author.Tests.{le-leb, leb-true, ltb-true}
 use Rattle.quorum.specs.Bools.{and-left, and-right, not-passed}
 use Rattle.settings.specs.Settings.{validSettings, namedTa, checkSettings}
 use Rattle.settings.specs.Laws.{check-taken, check-refused, valid-rules}

@@ -1,8 +1,8 @@
 -- The cases of the code.
-use Prim.Native.Nat.{ℕ, _+_, _-_, _≤_, _<_}
-use mathlib.Core.Bool.{Bool, true, false, not, cond}
+use Prim.Native.Nat.{ℕ, _-_, _≤_, _<_}
+use mathlib.Core.Bool.{Bool, true, false, not}
 use mathlib.Core.List.{List}
-use mathlib.Core.Path.{_≡_, refl, sym, ap, _∙_}
+use mathlib.Core.Path.{_≡_, sym, ap, _∙_}
 use native.Mathlib.Omega.{arith}
 use lib.ListN.{length, getD}
 use lib.Dec.{eqb}
@@ -11,11 +11,11 @@ use mir.Val.{Fits}
 use mir.Syntax.{w8}
 use Rattle.quorum.specs.Bools.{refusal-passed, not-passed}
 use Rattle.settings.specs.Settings.{validSettings, namedTa, checkSettings}
-use Rattle.settings.specs.Laws.{Taken, check-taken, check-refused, rules-valid, valid-rules}
+use Rattle.settings.specs.Laws.{check-taken, check-refused, valid-rules}
 use Rattle.settings.specs.declared.Settings.{Settings}
 use Rattle.settings.specs.declared.Checked.{Checked}
 use Rattle.settings.specs.declared.Checked.the-variants.{Valid, Invalid}
-use Rattle.records.specs.Words.{word, put, word-within, word-past-end}
+use Rattle.records.specs.Words.{word-within, word-past-end}
 use Rattle.records.specs.Fill.{blank, storeOf}
 use Rattle.session.specs.Session.{numbered}
 use Rattle.opening.specs.Opening.{openAnswer, withSettings, withCoins, openWords, opened}

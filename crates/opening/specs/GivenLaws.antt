@@ -1,24 +1,24 @@
 -- The word of the weights holds each weight that is given, and a list that is not right opens no session.
-use Prim.Native.Nat.{ℕ, zero, suc, _+_, _^_, _≤_, _<_}
+use Prim.Native.Nat.{ℕ, zero, suc, _^_, _≤_, _<_}
 use mathlib.Core.Bool.{Bool, true, false, _&&_, cond}
 use mathlib.Core.List.{List}
-use mathlib.Core.Path.{_≡_, refl, sym, ap, _∙_}
+use mathlib.Core.Path.{_≡_, refl, ap}
 use native.Mathlib.Omega.{arith}
 use lib.Dec.{eqb, leb}
 use lib.ListN.{length}
 use borrow.Author.Tests.{leb-true, eqb-true}
 use Rattle.quorum.specs.Bools.{and-left, and-right}
 use Rattle.quorum.specs.Marks.{mark}
-use Rattle.quorum.specs.MarkLaws.{mark-zero, with-mark-fits}
+use Rattle.quorum.specs.MarkLaws.{with-mark-fits}
 use Rattle.quorum.specs.Every.{every, every-each}
 use Rattle.quorum.specs.Packed.{markIf, withWeight, packed, weight-packed}
 use Rattle.quorum.specs.Weights.{weightOf}
-use Rattle.quorum.specs.Whole.{weightsRight, weight-low}
+use Rattle.quorum.specs.Whole.{weight-low}
 use Rattle.settings.specs.Laws.{valid-rules}
 use Rattle.settings.specs.Settings.{namedTa}
 use Rattle.opening.specs.Given.{item, weightGiven, weightsGiven, weightsWord}
 use Rattle.opening.specs.Opening.{openAnswer}
-use Rattle.opening.specs.Cases.{Accepted, accepted}
+use Rattle.opening.specs.Cases.{accepted}
 
 -- what a list of weights that is right tells
 pub record WeightsGiven (n : ℕ) (ws : List ℕ) : Type 0 where

@@ -1,13 +1,13 @@
 -- Opening: its answer, and the words of a new state. w are the weights as one word (opening/Given).
-use Prim.Native.Nat.{ℕ, _+_, _-_}
-use mathlib.Core.Bool.{Bool, cond, not}
+use Prim.Native.Nat.{ℕ}
+use mathlib.Core.Bool.{cond, not}
 use mathlib.Core.List.{List}
 use lib.ListN.{length}
 use lib.Dec.{eqb}
 use Rattle.settings.specs.Refusals.{SETTINGS, NO-STATE}
 use Rattle.settings.specs.Settings.{validSettings, namedTa}
 use Rattle.records.specs.Layout.{stateWords, nAt, taAt, tsAt, ownAt, sessionAt, inputAt, weightsAt, coinAt}
-use Rattle.records.specs.Words.{word, put}
+use Rattle.records.specs.Words.{put}
 use Rattle.records.specs.Fill.{blank, storeOf}
 use Rattle.session.specs.Session.{numbered}
 use Rattle.opening.specs.Given.{item}
