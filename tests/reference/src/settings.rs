@@ -1,4 +1,5 @@
-//! 01, "Settings", with the weights of 02, N11, and the unnamed ta of N8. Every threshold is worked out from the session's own weights, ta and ts.
+//! 01, "Settings", with the weights of 02, N11, and the unnamed ta of N8. Every threshold is worked out from the
+//! session's own weights, ta and ts.
 
 use crate::fault::Fault;
 use crate::refusal::Refusal;
