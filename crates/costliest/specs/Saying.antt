@@ -7,10 +7,11 @@ use mathlib.Core.Path.{_≡_, refl, sym, ap, subst, _∙_}
 use native.Mathlib.Omega.{arith}
 use lib.ListN.{take, drop}
 use Rattle.settings.specs.Laws.{Ruled}
+use Rattle.settings.specs.Settings.{settingsFrom}
 use Rattle.settings.specs.declared.Settings.{Settings}
 use Rattle.quorum.specs.Marks.{mark}
 use Rattle.quorum.specs.Every.{each-every}
-use Rattle.quorum.specs.Whole.{wholeOf, weightRight, weightsRight, ones-weight, ones-whole}
+use Rattle.quorum.specs.Whole.{weightRight, weightsRight, ones-weight, ones-whole}
 use Rattle.records.specs.Layout.{flagsAt, sessionAt}
 use Rattle.records.specs.Words.{word, marked}
 use Rattle.records.specs.Records.{closed, sendHeld, echoHeld, readyHeld, estHeld, auxHeld}
@@ -41,7 +42,7 @@ use Rattle.costliest.specs.Packs.{packs-many, packs-fit, packs-rise}
 
 -- ta = ts = 0
 abbrev pub settings : ℕ → Settings
-settings n = record { n = n; ta = 0; ts = 0; whole = wholeOf (2 ^ n - 1) n; weights = 2 ^ n - 1 }
+settings n = settingsFrom n 0 0 (2 ^ n - 1)
 
 -- what is said in the session, COMMITs from 1 to c only
 abbrev pub Allowed : ℕ → ℕ → ℕ → Message → Type 0

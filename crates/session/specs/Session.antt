@@ -4,10 +4,9 @@ use mathlib.Core.Bool.{Bool, _&&_, cond}
 use mathlib.Core.List.{List}
 use lib.ListN.{length}
 use lib.Dec.{eqb, leb}
-use Rattle.settings.specs.Settings.{validSettings, turnBound}
+use Rattle.settings.specs.Settings.{validSettings, settingsFrom, turnBound}
 use Rattle.settings.specs.declared.Settings.{Settings}
 use Rattle.quorum.specs.Every.{every}
-use Rattle.quorum.specs.Whole.{wholeOf}
 use Rattle.records.specs.Layout.{stateWords, nAt, taAt, tsAt, ownAt, sessionAt, weightsAt, turnsAt, roundAt, commitCountAt}
 use Rattle.records.specs.Words.{word}
 use Rattle.session.specs.declared.Session.{Session}
@@ -32,7 +31,7 @@ numbersRight g s =
     numbered (g .n) (word s ownAt) && leb (word s turnsAt) (turnBound g) && roundsRight s (g .n) && commitsRight s (g .n)
 
 unfoldable pub settingsOf : List ℕ → Settings
-settingsOf s = record { n = word s nAt; ta = word s taAt; ts = word s tsAt; whole = wholeOf (word s weightsAt) (word s nAt); weights = word s weightsAt }
+settingsOf s = settingsFrom (word s nAt) (word s taAt) (word s tsAt) (word s weightsAt)
 
 -- "wrong word count, stored settings or own number that opening would refuse (a stored ta of 255 too), ..": no such thing
 unfoldable pub isState : List ℕ → Bool
