@@ -18,8 +18,9 @@ use Rattle.report.specs.Laws.{Reported, reported}
 use Rattle.report.specs.declared.Figures.{Figures}
 use Rattle.report.specs.declared.Answer.{Answer}
 use Rattle.report.specs.declared.Answer.the-variants.{Refused, Given}
-use Rattle.drill_lines.specs.Text.{decimalIn, decimalText, hexText, commaTexts, valuesText, fieldText, resultLine, endText, sentLine, badLine}
-use Rattle.drill_lines.specs.Paste.{Wrote, wrote-whole}
+use Rattle.text.specs.Numbers.{decimalIn, decimalText, hexText}
+use Rattle.drill_lines.specs.Text.{commaTexts, valuesText, fieldText, resultLine, endText, sentLine, badLine}
+use Rattle.text.specs.Paste.{Wrote, wrote-whole}
 use Rattle.drill_feeder.specs.Parts.{stateOf}
 use Rattle.drill_core.specs.Judging.{afterSettings}
 use Rattle.drill_core.specs.Feeding.{Drilling, drilling, fedBytes, startDrilling, atEnd}

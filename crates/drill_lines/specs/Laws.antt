@@ -8,7 +8,7 @@ use native.Mathlib.Nat.{pow-suc, pow-le-pow-right}
 use lib.Dec.{eqb, ltb}
 use lib.ListN.{length}
 use borrow.Author.Tests.{lt-ltb, ne-eqb, ltb-true, eqb-true}
-use Rattle.drill_lines.specs.Grammar.{digitOf, baseOf, allDigits, valueFrom, valueOf, complete, right}
+use Rattle.text.specs.Numbers.{digitOf, baseOf, allDigits, valueFrom, valueOf, complete, right}
 use Rattle.drill_lines.specs.Automaton.{fed, fedAll}
 use Rattle.drill_lines.specs.declared.Reader.{Reader}
 

@@ -6,8 +6,9 @@ use native.Mathlib.Omega.{arith}
 use native.Mathlib.Numerals.{add-one}
 use lib.ListN.{length, getD, take, drop}
 use lib.Seq.{take-suc, take-all, length-take-le}
-use Rattle.drill_lines.specs.Text.{decimalText, hexText, commaTexts, valuesText, fieldText, resultLine, endText, sentLine, badLine}
-use Rattle.drill_lines.specs.Paste.{Wrote, wrote-both, length-pasted, ended, pasted}
+use Rattle.text.specs.Numbers.{decimalText, hexText}
+use Rattle.drill_lines.specs.Text.{commaTexts, valuesText, fieldText, resultLine, endText, sentLine, badLine}
+use Rattle.text.specs.Paste.{Wrote, wrote-both, length-pasted, ended, pasted}
 
 module _ (s s' s'' : List ℕ) (a r q : ℕ) where
   pub wrote-comma : (n : ℕ) → Wrote (44 ∷ []) s a r s' → Wrote (hexText n) s' r q s'' → Wrote (44 ∷ hexText n) s a q s''

@@ -1,32 +1,14 @@
 -- The bytes that the drill prints.
-use Prim.Native.Nat.{ℕ, zero, suc, _+_, _/_, _%_}
-use mathlib.Core.Bool.{cond}
+use Prim.Native.Nat.{ℕ}
 use mathlib.Core.List.{List, [], _∷_, _++_}
-use lib.Dec.{ltb}
-use Rattle.io.specs.Digits.{digits}
-use Rattle.drill_lines.specs.Grammar.{TAB}
-
-abbrev pub LF : ℕ
-LF = 10
+use Rattle.text.specs.Fields.{TAB, LF}
+use Rattle.text.specs.Numbers.{decimalText, hexText}
 
 abbrev pub COMMA : ℕ
 COMMA = 44
 
 abbrev pub DASH : ℕ
 DASH = 45
-
--- a number in decimal digits without leading zeros, `0` being 48; at most k of them
-unfoldable pub decimalIn : ℕ → ℕ → List ℕ
-decimalIn zero n = []
-decimalIn (suc k) n = cond (ltb n 10) ((48 + n) ∷ []) (decimalIn k (n / 10) ++ ((48 + n % 10) ∷ []))
-
--- a number below 2^64 has at most 20 digits
-unfoldable pub decimalText : ℕ → List ℕ
-decimalText n = decimalIn 20 n
-
--- "16 lower-case hexadecimal digits"
-unfoldable pub hexText : ℕ → List ℕ
-hexText n = digits 16 16 n
 
 -- a comma before each value
 unfoldable pub commaTexts : List ℕ → List ℕ

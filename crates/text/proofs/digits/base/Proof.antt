@@ -1,8 +1,8 @@
 -- `base` is 10 or 16.
-use Rattle.drill_lines.specs.Cases.{base-cases}
+use Rattle.text.specs.DigitCases.{base-cases}
 use native.Mathlib.Omega.{arith}
-use Rattle.drill_lines.proofs.reading.base.Statement.{statement}
-use Rattle.drill_lines.proofs.reading.base.Tie as tie
+use Rattle.text.proofs.digits.base.Statement.{statement}
+use Rattle.text.proofs.digits.base.Tie as tie
 
 returns : tie.Need-returns
 returns c = (search base-cases, omega arith)

@@ -1,11 +1,11 @@
--- `put_hex` writes the digits that the `io` library gives, which are the text of the definition.
-use Rattle.drill_lines.specs.Digits.{wrote-hex}
+-- `put_decimal` writes the digits that the `io` library gives, which are the text of the definition.
+use Rattle.text.specs.Digits.{wrote-decimal}
 use borrow.Author.Needs.{needs}
-use Rattle.drill_lines.proofs.printing.put_hex.Statement.{statement}
-use Rattle.drill_lines.proofs.printing.put_hex.Tie as tie
+use Rattle.text.proofs.writing.put_decimal.Statement.{statement}
+use Rattle.text.proofs.writing.put_decimal.Tie as tie
 
-hex-requires : tie.Need-hex-requires
-hex-requires c κs = search needs
+decimal-requires : tie.Need-decimal-requires
+decimal-requires c κs = search needs
 
 array-share-prefix-text : tie.Need-array-share-prefix-text
 array-share-prefix-text c = search needs
@@ -20,13 +20,13 @@ same-length : tie.Need-same-length
 same-length c = search needs
 
 returns : tie.Need-returns
-returns c = search wrote-hex
+returns c = search wrote-decimal
 
-pub put-hex-spec : {M : Type 1} → statement M
-put-hex-spec =
+pub put-decimal-spec : {M : Type 1} → statement M
+put-decimal-spec =
     tie.close
     (tie.spec
-    hex-requires
+    decimal-requires
     array-share-prefix-text
     slice-aggregate-put-text
     put-text-requires

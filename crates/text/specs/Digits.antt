@@ -8,8 +8,8 @@ use native.Mathlib.Nat.{le-div-iff-mul-le, div-lt-iff-lt-mul, mod-eq-of-lt, mod-
 use lib.ListN.{take}
 use borrow.Author.Tests.{lt-ltb, le-ltb}
 use Rattle.io.specs.Digits.{digits, glyph, Fewest}
-use Rattle.drill_lines.specs.Text.{decimalIn, decimalText, hexText}
-use Rattle.drill_lines.specs.Paste.{Wrote}
+use Rattle.text.specs.Numbers.{decimalIn, decimalText, hexText}
+use Rattle.text.specs.Paste.{Wrote}
 
 less-one : (j : ℕ) → suc j - 1 ≡ j
 less-one j = omega arith

@@ -1,8 +1,8 @@
 -- `put_byte` writes within the bytes, and nothing past their end.
-use Rattle.drill_lines.specs.Paste.{byte-cases}
+use Rattle.text.specs.Paste.{byte-cases}
 use borrow.Author.Needs.{needs}
-use Rattle.drill_lines.proofs.printing.put_byte.Statement.{statement}
-use Rattle.drill_lines.proofs.printing.put_byte.Tie as tie
+use Rattle.text.proofs.writing.put_byte.Statement.{statement}
+use Rattle.text.proofs.writing.put_byte.Tie as tie
 
 returns : tie.Need-returns
 returns c = search byte-cases

@@ -1,8 +1,8 @@
 -- `digit` is that of the definition, by the ranges of bytes.
-use Rattle.drill_lines.specs.Cases.{digit-cases}
+use Rattle.text.specs.DigitCases.{digit-cases}
 use borrow.Author.Needs.{needs}
-use Rattle.drill_lines.proofs.reading.digit.Statement.{statement}
-use Rattle.drill_lines.proofs.reading.digit.Tie as tie
+use Rattle.text.proofs.digits.digit.Statement.{statement}
+use Rattle.text.proofs.digits.digit.Tie as tie
 
 returns : tie.Need-returns
 returns c = search digit-cases

@@ -1,8 +1,8 @@
 -- `fits` divides where the definition multiplies, so that nothing wraps.
-use Rattle.drill_lines.specs.Cases.{fits-cases}
+use Rattle.text.specs.DigitCases.{fits-cases}
 use borrow.Author.Needs.{needs}
-use Rattle.drill_lines.proofs.reading.fits.Statement.{statement}
-use Rattle.drill_lines.proofs.reading.fits.Tie as tie
+use Rattle.text.proofs.digits.fits.Statement.{statement}
+use Rattle.text.proofs.digits.fits.Tie as tie
 
 sub-result : tie.Need-sub-result
 sub-result c = search needs

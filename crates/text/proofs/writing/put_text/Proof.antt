@@ -1,10 +1,10 @@
 -- `put_text` writes byte by byte: after k turns the first k.
 use Prim.Native.Nat.{_-_}
 use lib.ListN.{length}
-use Rattle.drill_lines.specs.Paste.{Writing, writing}
+use Rattle.text.specs.Paste.{Writing, writing}
 use borrow.Author.Needs.{needs}
-use Rattle.drill_lines.proofs.printing.put_text.Statement.{statement}
-use Rattle.drill_lines.proofs.printing.put_text.Tie as tie
+use Rattle.text.proofs.writing.put_text.Statement.{statement}
+use Rattle.text.proofs.writing.put_text.Tie as tie
 
 abbrev Inv-loop : tie.InvT-loop
 Inv-loop out₀ at text place₀ k₀ out place k = Writing text out₀ at k place out

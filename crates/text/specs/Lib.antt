@@ -1,0 +1,5 @@
+pub mod Fields
+pub mod Numbers
+pub mod Paste
+pub mod Digits
+pub mod DigitCases

@@ -1,0 +1,42 @@
+// Text written into lent bytes. Each function writes from a place on, as far as the bytes go, and answers the place after it.
+ghost use mathlib.Core.List.{[], _∷_};
+ghost use Rattle.text.specs.Numbers.{decimalText, hexText};
+ghost use Rattle.text.specs.Paste.{Wrote};
+
+pub fn put_byte(out: &mut [u8], at: usize, byte: u8) -> usize
+    ensures { λ r. ⌜ Wrote (byte ∷ []) (now (out .entry)) at r (now (out .exit)) ⌝ }
+{
+    if out.len() <= at {
+        return at;
+    }
+    out[at] = byte;
+    at + 1
+}
+
+pub fn put_text(out: &mut [u8], at: usize, text: &[u8]) -> usize
+    ensures { λ r. ⌜ Wrote (now (text .entry)) (now (out .entry)) at r (now (out .exit)) ⌝ }
+{
+    let mut place = at;
+    let mut k: usize = 0;
+    while k < text.len() {
+        place = put_byte(out, place, text[k]);
+        k += 1;
+    }
+    place
+}
+
+pub fn put_decimal(out: &mut [u8], at: usize, n: u64) -> usize
+    ensures { λ r. ⌜ Wrote (decimalText n) (now (out .entry)) at r (now (out .exit)) ⌝ }
+{
+    let mut text = [0u8; 20];
+    let k = io::decimal(n, &mut text);
+    put_text(out, at, &text[..k])
+}
+
+pub fn put_hex(out: &mut [u8], at: usize, n: u64) -> usize
+    ensures { λ r. ⌜ Wrote (hexText n) (now (out .entry)) at r (now (out .exit)) ⌝ }
+{
+    let mut text = [0u8; 16];
+    let k = io::hex(n, 16, &mut text);
+    put_text(out, at, &text[..k])
+}
