@@ -3,6 +3,7 @@ use Prim.Native.Nat.{ℕ}
 use mathlib.Core.List.{List, [], _∷_, _++_}
 use Rattle.text.specs.Fields.{TAB, LF}
 use Rattle.text.specs.Numbers.{decimalText, hexText}
+use Rattle.text.specs.Each.{eachText}
 
 abbrev pub COMMA : ℕ
 COMMA = 44
@@ -10,15 +11,14 @@ COMMA = 44
 abbrev pub DASH : ℕ
 DASH = 45
 
--- a comma before each value
-unfoldable pub commaTexts : List ℕ → List ℕ
-commaTexts [] = []
-commaTexts (x ∷ xs) = COMMA ∷ (hexText x ++ commaTexts xs)
+-- a further value, after a comma
+unfoldable pub commaText : ℕ → List ℕ
+commaText x = COMMA ∷ hexText x
 
 -- "values in force in 16 lower-case hexadecimal digits parted by commas or "-""
 unfoldable pub valuesText : List ℕ → List ℕ
 valuesText [] = DASH ∷ []
-valuesText (x ∷ xs) = hexText x ++ commaTexts xs
+valuesText (x ∷ xs) = hexText x ++ eachText commaText xs
 
 -- a decimal and the tab after it
 unfoldable pub fieldText : ℕ → List ℕ

@@ -1,10 +1,10 @@
 // The bytes that the drill prints. Each function writes a text into the lent bytes from a place on, as far as they go,
 // and answers the place after it.
-ghost use mathlib.Core.List.{[], _∷_};
 ghost use lib.ListN.{take};
 ghost use Rattle.text.specs.Numbers.{decimalText, hexText};
-ghost use Rattle.drill_lines.specs.Text.{commaTexts, valuesText, fieldText, resultLine, endText, sentLine, badLine};
+ghost use Rattle.drill_lines.specs.Text.{commaText, valuesText, fieldText, resultLine, endText, sentLine, badLine};
 ghost use Rattle.text.specs.Paste.{Wrote};
+ghost use Rattle.text.specs.Each.{eachText};
 
 const TAB: u8 = 9;
 
@@ -15,7 +15,7 @@ const COMMA: u8 = 44;
 const DASH: u8 = 45;
 
 fn put_comma_hex(out: &mut [u8], at: usize, n: u64) -> usize
-    ensures { λ r. ⌜ Wrote (44 ∷ hexText n) (now (out .entry)) at r (now (out .exit)) ⌝ }
+    ensures { λ r. ⌜ Wrote (commaText n) (now (out .entry)) at r (now (out .exit)) ⌝ }
 {
     let place = text::put_byte(out, at, COMMA);
     text::put_hex(out, place, n)
@@ -23,7 +23,7 @@ fn put_comma_hex(out: &mut [u8], at: usize, n: u64) -> usize
 
 // A comma before each value.
 fn put_comma_values(out: &mut [u8], at: usize, values: &[u64]) -> usize
-    ensures { λ r. ⌜ Wrote (commaTexts (now (values .entry))) (now (out .entry)) at r (now (out .exit)) ⌝ }
+    ensures { λ r. ⌜ Wrote (eachText commaText (now (values .entry))) (now (out .entry)) at r (now (out .exit)) ⌝ }
 {
     let mut place = at;
     let mut k: usize = 0;

@@ -71,7 +71,7 @@ unfoldable pub turnRoom : (room line : ℕ) → ℕ
 turnRoom room line = cond (ltb line LINE-BYTES) 0 room
 
 -- "neither idle nor refused"
-unfoldable pub acts : Outcome → Bool
+abbrev pub acts : Outcome → Bool
 acts (outcome.Refused k) = false
 acts outcome.Idle = false
 acts (outcome.Sent m) = true

@@ -1,2 +1,5 @@
 pub mod Lines
 pub mod Journal
+pub mod Parts
+pub mod Fitting
+pub mod Cases

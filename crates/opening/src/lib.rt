@@ -43,6 +43,21 @@ fn open_answer(words: usize, n: u64, ta: u64, ts: u64, weights: u64, own: u64, c
     0
 }
 
+// The answer of an opening with a list of weights.
+pub fn answer(words: usize, n: u64, ta: u64, ts: u64, own: u64, coins: usize, weights: &[u8]) -> u64
+    ensures { λ r. ⌜ r ≡ openAnswer words n ta ts (weightsWord n (now (weights .entry))) own coins ⌝ }
+{
+    open_answer(
+        words,
+        n,
+        ta,
+        ts,
+        weights::weights_word(n, weights),
+        own,
+        coins,
+    )
+}
+
 // Sets every word to 0.
 fn clear(s: &mut [u64])
     ensures { λ _. ⌜ now (s .exit) ≡ blank (length (now (s .entry))) ⌝ }

@@ -7,6 +7,7 @@ use native.Mathlib.Decide.{decLe}
 use native.Mathlib.Nat.{le-div-iff-mul-le}
 use lib.Dec.{eqb, leb, ltb}
 use borrow.Author.Tests.{lt-ltb, le-ltb, le-leb, lt-leb, eq-eqb, ne-eqb}
+use Rattle.io.specs.Digits.{glyph}
 use Rattle.text.specs.Numbers.{digitOf, baseOf, complete}
 
 module _ (c : ℕ) where
@@ -67,3 +68,13 @@ fits-largest v b d h l =
     go (no t) q = absurd (q (le-div-iff-mul-le h .1 (omega arith)))
 
 pub ruleset fits-cases = fits-largest
+
+-- the character of a digit
+module _ (d : ℕ) where
+  pub character-figure : d < 10 → 48 + d ≡ glyph d
+  character-figure h = rw (lt-ltb d 10 h)
+
+  pub character-letter : 10 ≤ d → 87 + d ≡ glyph d
+  character-letter h = rw (le-ltb d 10 h)
+
+pub ruleset character-cases = (character-figure, character-letter)

@@ -8,8 +8,8 @@ use native.Mathlib.Nat.{le-div-iff-mul-le, div-lt-iff-lt-mul, mod-eq-of-lt, mod-
 use lib.ListN.{take}
 use borrow.Author.Tests.{lt-ltb, le-ltb}
 use Rattle.io.specs.Digits.{digits, glyph, Fewest}
-use Rattle.text.specs.Numbers.{decimalIn, decimalText, hexText}
-use Rattle.text.specs.Paste.{Wrote}
+use Rattle.text.specs.Numbers.{decimalIn, decimalText, hexText, wordText, byteText}
+use Rattle.text.specs.Paste.{Wrote, wrote-both}
 
 less-one : (j : ℕ) → suc j - 1 ≡ j
 less-one j = omega arith
@@ -45,23 +45,33 @@ pub decimal-text : (n k : ℕ) → n < 2 ^ 64 → Fewest 10 1 n k → digits 10 
 unfolding decimalText
 decimal-text n k h w = decimal-digits 19 k n (omega arith) w
 
-sixteen : (n k : ℕ) → n < 2 ^ 64 → Fewest 16 16 n k → k ≡ 16
-sixteen n k h w = go (decLe k 16)
+-- a number that so many digits hold has exactly so many
+exactly : (least n k : ℕ) → n < 16 ^ least → Fewest 16 least n k → k ≡ least
+exactly least n k h w = go (decLe k least)
   where
-    go : Dec (k ≤ 16) → k ≡ 16
+    go : Dec (k ≤ least) → k ≡ least
     go (yes l) = omega (arith, w .0)
     go (no l) =
         let p : 16 ^ (k - 1) ≤ n = w .2 (omega arith) in
-        let q : 16 ^ 16 ≤ 16 ^ (k - 1) = pow-le-pow-right {n = 16} (omega arith) {i = 16} {j = k - 1} (omega arith) in
+        let q : 16 ^ least ≤ 16 ^ (k - 1) = pow-le-pow-right {n = 16} (omega arith) {i = least} {j = k - 1} (omega arith) in
         absurd (omega arith)
-
-pub hex-text : (n k : ℕ) → n < 2 ^ 64 → Fewest 16 16 n k → digits 16 k n ≡ hexText n
-unfolding hexText
-hex-text n k h w = ap (λ (m : ℕ). digits 16 m n) (sixteen n k h w)
 
 module _ (n k : ℕ) (t s after : List ℕ) (a r : ℕ) (h : n < 2 ^ 64) (w : Wrote (take k t) s a r after) where
   pub wrote-decimal : Fewest 10 1 n k → take k t ≡ digits 10 k n → Wrote (decimalText n) s a r after
   wrote-decimal f e = subst (λ (u : List ℕ). Wrote u s a r after) (e ∙ decimal-text n k h f) w
 
   pub wrote-hex : Fewest 16 16 n k → take k t ≡ digits 16 k n → Wrote (hexText n) s a r after
-  wrote-hex f e = subst (λ (u : List ℕ). Wrote u s a r after) (e ∙ hex-text n k h f) w
+  unfolding hexText
+  wrote-hex f e = subst (λ (u : List ℕ). Wrote u s a r after) (e ∙ ap (λ (m : ℕ). digits 16 m n) (exactly 16 n k (omega arith) f)) w
+
+pub wrote-word : (n k : ℕ) (t s after : List ℕ) (a r : ℕ) → n < 2 ^ 32 → Wrote (take k t) s a r after → Fewest 16 8 n k → take k t ≡ digits 16 k n → Wrote (wordText n) s a r after
+unfolding wordText
+wrote-word n k t s after a r h w f e = subst (λ (u : List ℕ). Wrote u s a r after) (e ∙ ap (λ (m : ℕ). digits 16 m n) (exactly 8 n k (omega arith) f)) w
+
+-- two digits are a byte's text
+pub wrote-byte : (b c d a r q : ℕ) (s s' s'' : List ℕ) → c ≡ glyph (b / 16) → d ≡ glyph (b % 16) →
+    Wrote (c ∷ []) s a r s' → Wrote (d ∷ []) s' r q s'' → Wrote (byteText b) s a q s''
+unfolding byteText
+wrote-byte b c d a r q s s' s'' e f h l =
+    wrote-both (glyph (b / 16) ∷ []) (glyph (b % 16) ∷ []) s s' s'' a r q
+    (subst (λ (x : ℕ). Wrote (x ∷ []) s a r s') e h) (subst (λ (x : ℕ). Wrote (x ∷ []) s' r q s'') f l)

@@ -6,8 +6,8 @@ use mathlib.Core.Path.{_≡_, refl, sym, ap, subst, _∙_}
 use native.Mathlib.Omega.{arith}
 use native.Mathlib.Numerals.{add-one}
 use lib.Dec.{ltb}
-use lib.ListN.{length, getD, take, set, length-set}
-use lib.Seq.{set-out, take-suc, take-all, take-suc-set}
+use lib.ListN.{length, getD, take, drop, set, length-set, take-append-drop}
+use lib.Seq.{set-out, take-suc, take-all, take-suc-set, drop-set-lt}
 use borrow.Author.Tests.{lt-ltb, le-ltb}
 
 -- the place after a byte at place a of n bytes
@@ -114,3 +114,23 @@ pub wrote-whole : (t s after : List ℕ) (a r : ℕ) → Wrote t s a r after →
 wrote-whole t s after a r w h =
     let e : r ≡ a + length t = w .answer ∙ ended-whole t (length s) a h in
     record { place = e; text = rw (e, w .bytes) (pasted-whole t s a h) }
+
+-- what stands after it stays
+pasted-rest : (t s : List ℕ) (a : ℕ) → a + length t ≤ length s → drop (a + length t) (pasted t s a) ≡ drop (a + length t) s
+unfolding pasted next
+pasted-rest [] s a h = refl
+pasted-rest (b ∷ t) s a h =
+    let e : a + suc (length t) ≡ a + 1 + length t = omega arith in
+    rw (e, lt-ltb a (length s) (omega arith))
+    (pasted-rest t (set s a b) (a + 1) (rw length-set (omega arith)) ∙ drop-set-lt (a + 1 + length t) s a b (omega arith))
+
+-- a text at the front of bytes that hold it: the bytes are the text and what stood after it
+pub wrote-front : (t s after : List ℕ) (r : ℕ) → Wrote t s 0 r after → length t ≤ length s → (r ≡ length t) × (after ≡ t ++ drop (length t) s)
+wrote-front t s after r w h =
+    let l : 0 + length t ≤ length s = omega arith in
+    let p = wrote-whole t s after 0 r w l in
+    let place : r ≡ length t = p .place ∙ omega arith in
+    let z : 0 + length t ≡ length t = omega arith in
+    let front : take (length t) after ≡ t = ap (λ (k : ℕ). take k after) (sym place) ∙ p .text in
+    let rest : drop (length t) after ≡ drop (length t) s = ap (λ (u : List ℕ). drop (length t) u) (w .bytes) ∙ rw z at (pasted-rest t s 0 l) in
+    (place, sym (take-append-drop (length t) after) ∙ rw (front, rest))

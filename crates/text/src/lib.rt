@@ -10,4 +10,6 @@ pub use digits::fits;
 pub use writing::put_byte;
 pub use writing::put_decimal;
 pub use writing::put_hex;
+pub use writing::put_hex_bytes;
 pub use writing::put_text;
+pub use writing::put_word;

@@ -1,7 +1,11 @@
 // Text written into lent bytes. Each function writes from a place on, as far as the bytes go, and answers the place after it.
 ghost use mathlib.Core.List.{[], _∷_};
-ghost use Rattle.text.specs.Numbers.{decimalText, hexText};
+ghost use Rattle.text.specs.Numbers.{decimalText, hexText, wordText, byteText};
+ghost use Rattle.io.specs.Digits.{glyph};
+ghost use Prim.Native.Nat.{_<_};
+ghost use mathlib.Core.Path.{_≡_};
 ghost use Rattle.text.specs.Paste.{Wrote};
+ghost use Rattle.text.specs.Each.{eachText};
 
 pub fn put_byte(out: &mut [u8], at: usize, byte: u8) -> usize
     ensures { λ r. ⌜ Wrote (byte ∷ []) (now (out .entry)) at r (now (out .exit)) ⌝ }
@@ -39,4 +43,40 @@ pub fn put_hex(out: &mut [u8], at: usize, n: u64) -> usize
     let mut text = [0u8; 16];
     let k = io::hex(n, 16, &mut text);
     put_text(out, at, &text[..k])
+}
+
+pub fn put_word(out: &mut [u8], at: usize, n: u32) -> usize
+    ensures { λ r. ⌜ Wrote (wordText n) (now (out .entry)) at r (now (out .exit)) ⌝ }
+{
+    let mut text = [0u8; 16];
+    let k = io::hex(n as u64, 8, &mut text);
+    put_text(out, at, &text[..k])
+}
+
+// The character of a digit below 16.
+fn character(digit: u8) -> u8
+    requires { ⌜ digit < 16 ⌝ }
+    ensures { λ r. ⌜ r ≡ glyph digit ⌝ }
+{
+    if digit < 10 { 48 + digit } else { 87 + digit }
+}
+
+// A byte as two hexadecimal digits.
+fn put_hex_byte(out: &mut [u8], at: usize, byte: u8) -> usize
+    ensures { λ r. ⌜ Wrote (byteText byte) (now (out .entry)) at r (now (out .exit)) ⌝ }
+{
+    let place = put_byte(out, at, character(byte / 16));
+    put_byte(out, place, character(byte % 16))
+}
+
+pub fn put_hex_bytes(out: &mut [u8], at: usize, bytes: &[u8]) -> usize
+    ensures { λ r. ⌜ Wrote (eachText byteText (now (bytes .entry))) (now (out .entry)) at r (now (out .exit)) ⌝ }
+{
+    let mut place = at;
+    let mut k: usize = 0;
+    while k < bytes.len() {
+        place = put_hex_byte(out, place, bytes[k]);
+        k += 1;
+    }
+    place
 }

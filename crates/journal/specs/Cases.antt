@@ -1,0 +1,250 @@
+-- The cases of the code of the three calls.
+use Prim.Native.Nat.{ℕ, _≤_, _<_}
+use mathlib.Core.Bool.{Bool, true, false, cond}
+use mathlib.Core.List.{List, [], _∷_, _++_}
+use mathlib.Core.Path.{_≡_, refl, sym, ap, _∙_}
+use native.Mathlib.Omega.{arith}
+use lib.Dec.{eqb, ltb}
+use lib.ListN.{length, drop}
+use borrow.Author.Tests.{lt-ltb, le-ltb, eq-eqb, ne-eqb, eqb-true}
+use Rattle.text.specs.Paste.{Wrote, wrote-front}
+use Rattle.opening.specs.Given.{weightsWord}
+use Rattle.opening.specs.Opening.{openAnswer, opened}
+use Rattle.delivery.specs.Delivery.{deliverAnswer, delivered, verdict, answerOf}
+use Rattle.delivery.specs.declared.Verdict.{Verdict}
+use Rattle.delivery.specs.declared.Verdict.the-variants as verdicts
+use Rattle.wire.specs.Message.{atFront}
+use Rattle.wire.specs.declared.Message.{Message}
+use Rattle.records.specs.Records.{closed}
+use Rattle.session.specs.Session.{stored}
+use Rattle.session.specs.declared.Session.{Session}
+use Rattle.session.specs.declared.Stored.{Stored}
+use Rattle.session.specs.declared.Stored.the-variants.{NoState, Held}
+use Rattle.turn.specs.Turn.{turnOutcome, turnWords, turnBytes, outcomeFor, admits, admittedFor, admittedIn}
+use Rattle.turn.specs.declared.Admitted.the-variants as admitted
+use Rattle.turn.specs.declared.Outcome.{Outcome}
+use Rattle.journal.specs.Lines.{openingLine, deliveryLine, turnLine}
+use Rattle.journal.specs.Journal.{lineAnswer, lineWords, lineBytes, lineEntry, acts, openNumber, openedWords, openedBytes, openEntry, deliverNumber, deliveredWords, deliveredBytes, deliverEntry, turnRoom, turnedMessage, turnedLine}
+use Rattle.journal.specs.Fitting.{opening-fits, delivery-fits, turn-fits}
+use Rattle.journal.specs.declared.Entry.{Entry}
+use Rattle.journal.specs.declared.Entry.the-variants as entry
+
+pub short-accepted : (k : ℕ) → k ≡ 0 → 8 ≡ lineAnswer k 0
+unfolding lineAnswer
+short-accepted k e = rw (eq-eqb k 0 e)
+
+pub short-refused : (k : ℕ) → (k ≡ 0 → ⊥) → k ≡ lineAnswer k 0
+unfolding lineAnswer
+short-refused k e = rw (ne-eqb k 0 e)
+
+pub ruleset short-cases = (short-accepted, short-refused)
+
+-- a call of number k with too few bytes for its line
+module _ (k room : ℕ) (h : room < 512) where
+  line-short : lineAnswer k 0 ≡ lineAnswer k room
+  unfolding lineAnswer
+  line-short = rw (lt-ltb room 512 h)
+
+  never : eqb (lineAnswer k room) 0 ≡ false
+  unfolding lineAnswer
+  never = rw (lt-ltb room 512 h) (go (eqb k 0) refl)
+    where
+      go : (b : Bool) → eqb k 0 ≡ b → eqb (cond b 8 k) 0 ≡ false
+      go true e = refl
+      go false e = e
+
+  pub short-entry : (line : List ℕ) → entry.Refused (lineAnswer k 0) ≡ lineEntry (lineAnswer k room) line
+  unfolding lineEntry
+  short-entry line = rw never (ap entry.Refused line-short)
+
+  pub short-bytes : (line lent : List ℕ) → lent ≡ lineBytes (lineAnswer k room) line lent
+  unfolding lineBytes
+  short-bytes line lent = rw never
+
+  pub short-words : (before after : List ℕ) → before ≡ lineWords room before after
+  unfolding lineWords
+  short-words before after = rw (lt-ltb room 512 h)
+
+-- with enough
+module _ (k room : ℕ) (h : 512 ≤ room) where
+  enough : lineAnswer k room ≡ k
+  unfolding lineAnswer
+  enough = rw (le-ltb room 512 h) (go (eqb k 0) refl)
+    where
+      go : (b : Bool) → eqb k 0 ≡ b → cond b 0 k ≡ k
+      go true e = sym (eqb-true k 0 e)
+      go false e = refl
+
+  pub enough-words : (before after : List ℕ) → after ≡ lineWords room before after
+  unfolding lineWords
+  enough-words before after = rw (le-ltb room 512 h)
+
+  pub refused-entry : (k ≡ 0 → ⊥) → (line : List ℕ) → entry.Refused k ≡ lineEntry (lineAnswer k room) line
+  unfolding lineEntry
+  refused-entry e line = rw (enough, ne-eqb k 0 e)
+
+  pub refused-bytes : (k ≡ 0 → ⊥) → (line lent : List ℕ) → lent ≡ lineBytes (lineAnswer k room) line lent
+  unfolding lineBytes
+  refused-bytes e line lent = rw (enough, ne-eqb k 0 e)
+
+  pub line-entry : k ≡ 0 → (line : List ℕ) (r : ℕ) → r ≡ length line → entry.Line r ≡ lineEntry (lineAnswer k room) line
+  unfolding lineEntry
+  line-entry e line r f = rw (enough, eq-eqb k 0 e, f)
+
+  pub line-bytes : k ≡ 0 → (line lent after : List ℕ) → after ≡ line ++ drop (length line) lent → after ≡ lineBytes (lineAnswer k room) line lent
+  unfolding lineBytes atFront
+  line-bytes e line lent after f = rw (enough, eq-eqb k 0 e) f
+
+-- opening
+module _ (words n ta ts own session input : ℕ) (coins weights : List ℕ) (room k : ℕ) (e : k ≡ openAnswer words n ta ts (weightsWord n weights) own (length coins)) where
+  pub open-short : (j : ℕ) → j ≡ lineAnswer k 0 → room < 512 → entry.Refused j ≡ openEntry words n ta ts own session input coins weights room
+  unfolding openEntry openNumber
+  open-short j f h = rw (f, e) (short-entry _ room h _)
+
+  pub open-refused : 512 ≤ room → (k ≡ 0 → ⊥) → entry.Refused k ≡ openEntry words n ta ts own session input coins weights room
+  unfolding openEntry openNumber
+  open-refused h z = rw (← e) (refused-entry k room h z _)
+
+module _ (words n ta ts own session input : ℕ) (coins weights lent : List ℕ) (k : ℕ) (e : k ≡ openAnswer words n ta ts (weightsWord n weights) own (length coins)) where
+  pub open-short-bytes : length lent < 512 → lent ≡ openedBytes words n ta ts own session input coins weights lent
+  unfolding openedBytes openNumber
+  open-short-bytes h = short-bytes _ (length lent) h _ lent
+
+  pub open-refused-bytes : 512 ≤ length lent → (k ≡ 0 → ⊥) → lent ≡ openedBytes words n ta ts own session input coins weights lent
+  unfolding openedBytes openNumber
+  open-refused-bytes h z = rw (← e) (refused-bytes k (length lent) h z _ lent)
+
+  module _ (r : ℕ) (after : List ℕ) (w : Wrote (openingLine n ta ts own session input coins weights) lent 0 r after) (h : 512 ≤ length lent) (z : k ≡ 0) where
+    front : (r ≡ length (openingLine n ta ts own session input coins weights)) × (after ≡ openingLine n ta ts own session input coins weights ++ drop (length (openingLine n ta ts own session input coins weights)) lent)
+    front = wrote-front _ lent after r w (let f = opening-fits words n ta ts own session input coins weights (sym e ∙ z) in omega arith)
+
+    pub open-line : entry.Line r ≡ openEntry words n ta ts own session input coins weights (length lent)
+    unfolding openEntry openNumber
+    open-line = rw (← e) (line-entry k (length lent) h z _ r (front .0))
+
+    pub open-bytes : after ≡ openedBytes words n ta ts own session input coins weights lent
+    unfolding openedBytes openNumber
+    open-bytes = rw (← e) (line-bytes k (length lent) h z _ lent after (front .1))
+
+module _ (s : List ℕ) (n ta ts own session input : ℕ) (coins weights : List ℕ) (room : ℕ) where
+  pub open-short-words : room < 512 → s ≡ openedWords s n ta ts own session input coins weights room
+  unfolding openedWords
+  open-short-words h = short-words 0 room h s _
+
+  pub open-words : (t : List ℕ) → 512 ≤ room → t ≡ opened s n ta ts (weightsWord n weights) own session input coins → t ≡ openedWords s n ta ts own session input coins weights room
+  unfolding openedWords
+  open-words t h f = f ∙ enough-words 0 room h s _
+
+pub ruleset open-cases = (open-short, open-refused, open-short-bytes, open-refused-bytes, open-line, open-bytes, open-short-words, open-words)
+
+-- delivery
+module _ (s : List ℕ) (link : ℕ) (b : List ℕ) (v : Verdict) (e : v ≡ verdict s link b) where
+  pub judged-refused : (k : ℕ) → v ≡ verdicts.Refused k → k ≡ deliverAnswer s link b
+  unfolding deliverAnswer answerOf
+  judged-refused k f = rw (← e, f)
+
+  pub judged-accepted : (m : Message) → v ≡ verdicts.Accepted m → 0 ≡ deliverAnswer s link b
+  unfolding deliverAnswer answerOf
+  judged-accepted m f = rw (← e, f)
+
+pub ruleset judged-cases = (judged-refused, judged-accepted)
+
+module _ (s : List ℕ) (link : ℕ) (b : List ℕ) (room k : ℕ) (e : k ≡ deliverAnswer s link b) where
+  pub deliver-short : (j : ℕ) → j ≡ lineAnswer k 0 → room < 512 → entry.Refused j ≡ deliverEntry s link b room
+  unfolding deliverEntry deliverNumber
+  deliver-short j f h = rw (f, e) (short-entry _ room h _)
+
+  pub deliver-refused : 512 ≤ room → (k ≡ 0 → ⊥) → entry.Refused k ≡ deliverEntry s link b room
+  unfolding deliverEntry deliverNumber
+  deliver-refused h z = rw (← e) (refused-entry k room h z _)
+
+module _ (s : List ℕ) (link : ℕ) (b lent : List ℕ) (k : ℕ) (e : k ≡ deliverAnswer s link b) where
+  pub deliver-short-bytes : length lent < 512 → lent ≡ deliveredBytes s link b lent
+  unfolding deliveredBytes deliverNumber
+  deliver-short-bytes h = short-bytes _ (length lent) h _ lent
+
+  pub deliver-refused-bytes : 512 ≤ length lent → (k ≡ 0 → ⊥) → lent ≡ deliveredBytes s link b lent
+  unfolding deliveredBytes deliverNumber
+  deliver-refused-bytes h z = rw (← e) (refused-bytes k (length lent) h z _ lent)
+
+  module _ (r : ℕ) (after : List ℕ) (w : Wrote (deliveryLine link b) lent 0 r after) (h : 512 ≤ length lent) (z : k ≡ 0) where
+    delivery-front : (r ≡ length (deliveryLine link b)) × (after ≡ deliveryLine link b ++ drop (length (deliveryLine link b)) lent)
+    delivery-front = wrote-front _ lent after r w (let f = delivery-fits s link b (sym e ∙ z) in omega arith)
+
+    pub deliver-line : entry.Line r ≡ deliverEntry s link b (length lent)
+    unfolding deliverEntry deliverNumber
+    deliver-line = rw (← e) (line-entry k (length lent) h z _ r (delivery-front .0))
+
+    pub deliver-bytes : after ≡ deliveredBytes s link b lent
+    unfolding deliveredBytes deliverNumber
+    deliver-bytes = rw (← e) (line-bytes k (length lent) h z _ lent after (delivery-front .1))
+
+module _ (s : List ℕ) (link : ℕ) (b : List ℕ) (room : ℕ) where
+  pub deliver-short-words : room < 512 → s ≡ deliveredWords s link b room
+  unfolding deliveredWords
+  deliver-short-words h = short-words 0 room h s _
+
+  pub deliver-words : (t : List ℕ) → 512 ≤ room → t ≡ delivered s link b → t ≡ deliveredWords s link b room
+  unfolding deliveredWords
+  deliver-words t h f = f ∙ enough-words 0 room h s _
+
+pub ruleset deliver-cases = (deliver-short, deliver-refused, deliver-short-bytes, deliver-refused-bytes, deliver-line, deliver-bytes, deliver-short-words, deliver-words)
+
+-- a turn lent nothing is refused
+none-refused : (s : List ℕ) → acts (turnOutcome s 0) ≡ false
+unfolding turnOutcome outcomeFor admits admittedFor admittedIn
+none-refused s = of (stored s)
+  where
+    open-or-closed : (x : Session) (c : Bool) → acts (outcomeFor (cond c (admitted.Refused 10) (admitted.Refused 8)) s) ≡ false
+    open-or-closed x true = refl
+    open-or-closed x false = refl
+
+    of : (y : Stored) → acts (outcomeFor (admittedFor y s 0) s) ≡ false
+    of NoState = refl
+    of (Held x) = open-or-closed x (closed s)
+
+-- turn
+module _ (s out : List ℕ) (line : ℕ) (h : line < 512) where
+  pub turn-short : (r : Outcome) → r ≡ turnOutcome s 0 → r ≡ turnOutcome s (turnRoom (length out) line)
+  unfolding turnRoom
+  turn-short r e = rw (lt-ltb line 512 h) e
+
+  pub turn-short-words : (t : List ℕ) → t ≡ turnWords s 0 → t ≡ turnWords s (turnRoom (length out) line)
+  unfolding turnRoom
+  turn-short-words t e = rw (lt-ltb line 512 h) e
+
+  pub turn-short-message : out ≡ turnedMessage s out line
+  unfolding turnedMessage
+  turn-short-message = rw (lt-ltb line 512 h)
+
+pub turn-short-line : (s lent : List ℕ) (room : ℕ) → length lent < 512 → lent ≡ turnedLine s room lent
+unfolding turnedLine turnRoom
+turn-short-line s lent room h = rw (lt-ltb (length lent) 512 h) (sym (ap (λ (b : Bool). cond b (atFront turnLine lent) lent) (none-refused s)))
+
+module _ (s out : List ℕ) (line : ℕ) (h : 512 ≤ line) where
+  pub turn-enough : (r : Outcome) → r ≡ turnOutcome s (length out) → r ≡ turnOutcome s (turnRoom (length out) line)
+  unfolding turnRoom
+  turn-enough r e = rw (le-ltb line 512 h) e
+
+  pub turn-enough-words : (t : List ℕ) → t ≡ turnWords s (length out) → t ≡ turnWords s (turnRoom (length out) line)
+  unfolding turnRoom
+  turn-enough-words t e = rw (le-ltb line 512 h) e
+
+  pub turn-enough-message : (t : List ℕ) → t ≡ turnBytes s out → t ≡ turnedMessage s out line
+  unfolding turnedMessage
+  turn-enough-message t e = rw (le-ltb line 512 h) e
+
+module _ (s lent : List ℕ) (room : ℕ) (h : 512 ≤ length lent) (r : Outcome) (e : r ≡ turnOutcome s room) (b : Bool) (eb : b ≡ acts r) where
+  pub turn-line : b ≡ true → (k : ℕ) (after : List ℕ) → Wrote turnLine lent 0 k after → after ≡ turnedLine s room lent
+  unfolding turnedLine turnRoom atFront
+  turn-line t k after w =
+      let f : acts (turnOutcome s room) ≡ true = ap acts (sym e) ∙ sym eb ∙ t in
+      rw (le-ltb (length lent) 512 h, f) (wrote-front turnLine lent after k w (let l = turn-fits in omega arith) .1)
+
+  pub turn-no-line : b ≡ false → lent ≡ turnedLine s room lent
+  unfolding turnedLine turnRoom
+  turn-no-line t =
+      let f : acts (turnOutcome s room) ≡ false = ap acts (sym e) ∙ sym eb ∙ t in
+      rw (le-ltb (length lent) 512 h, f)
+
+pub ruleset turn-cases = (turn-short, turn-short-words, turn-short-message, turn-short-line, turn-enough, turn-enough-words, turn-enough-message, turn-line, turn-no-line)
