@@ -13,3 +13,4 @@ pub mod Count
 pub mod Calls
 pub mod Stepped
 pub mod CallCount
+pub mod Lined
