@@ -40,7 +40,7 @@ pub fn random_calls<E: Engine>(engine: &E, seed: u64, calls: u64) -> Answers {
     };
     for _ in 0..calls {
         let answer = match caller.random.below(12) {
-            _ if caller.random.once_in(100) => caller.restore(),
+            _ if caller.random.once_in(400) => caller.restore(),
             // Mostly turns until idle, or votes would get nowhere.
             0..=5 if caller.busy && !caller.random.once_in(8) => caller.turn(),
             0..=5 => match caller.left.pop() {
@@ -134,7 +134,8 @@ impl<E: Engine> Caller<'_, E> {
     /// From the journal up to a byte of its last lines; at times with a byte changed. The session goes on from there.
     fn restore(&mut self) -> u64 {
         let random = &mut self.random;
-        let most = random.pick(&[1, 3, 60, 400]).min(self.journal.len() as u64 + 1);
+        // Mostly the whole: a lost delivery would stop a vote with ta = 0.
+        let most = random.pick(&[1, 1, 1, 1, 1, 3, 60, 400]).min(self.journal.len() as u64 + 1);
         let mut journal = self.journal.clone();
         journal.truncate(self.journal.len() - random.below(most) as usize);
         if random.once_in(8) && !journal.is_empty() {
