@@ -86,11 +86,11 @@ pub fn mixtures(random: &mut Random, journal: &[u8], other: &[u8]) -> Vec<Vec<u8
     mixed
 }
 
-/// Empty ones, opening lines on the edge, and some of a few MB.
+/// Empty ones, lines on the edge, and some of a few MB.
 pub fn made_up(random: &mut Random, journal: &[u8]) -> Vec<Vec<u8>> {
     const HUGE: usize = 3_000_000;
     let first = lines_of(journal)[0];
-    let mut made: Vec<Vec<u8>> = opening_lines().into_iter().map(String::into_bytes).collect();
+    let mut made: Vec<Vec<u8>> = edge_lines().into_iter().map(String::into_bytes).collect();
     made.extend([b"".to_vec(), b"\n".to_vec(), b"T\n".to_vec(), vec![b'\n'; HUGE]]);
     for alphabet in [&b"0123456789abcdef\t"[..], b"T\n", b"ODT\t\n01f\r", b"1\t"] {
         let noise: Vec<u8> = (0..HUGE).map(|_| random.pick(alphabet)).collect();
@@ -104,27 +104,35 @@ pub fn made_up(random: &mut Random, journal: &[u8]) -> Vec<Vec<u8>> {
     made
 }
 
-/// Opening lines whose numbers stand on the edge of what is taken.
-fn opening_lines() -> Vec<String> {
-    const BIG: [&str; 7] = [
-        "0",
-        "256",
-        "4294967296",
-        "9223372036854775808",
-        "18446744073709551615",
-        "18446744073709551616",
-        "100000000000000000000000000000001",
-    ];
+/// Numbers that are good, or would be if they wrapped or were read otherwise, after what is good in their place.
+fn edges(good: &str) -> Vec<String> {
+    let mut edges: Vec<String> =
+        ["0", "1", "2", "4", "5", "255", "4294967295", "9223372036854775808", "", "-1", "+1", "1 "]
+            .map(String::from)
+            .to_vec();
+    if let Ok(number) = good.parse::<u128>() {
+        let wraps = [1 << 8, 1 << 16, 1 << 32, 1 << 64, 1 << 72];
+        edges.extend(wraps.iter().flat_map(|wrap| [*wrap, wrap + number].map(|k| k.to_string())));
+        edges.extend([(1 << 32) - 1, u128::from(u64::MAX)].map(|most| most.to_string()));
+        edges.extend(["0", "00000000000000000000"].map(|zeros| format!("{zeros}{good}")));
+    }
+    edges
+}
+
+/// Lines whose numbers stand on the edge of what is taken.
+fn edge_lines() -> Vec<String> {
     let good = ["1", "1", "0", "0", "1", "7", "0000000000000005", "00000000", "1"];
+    let send = "0101010100010000000000070000000000000005";
     let mut lines = Vec::new();
     for place in 0..good.len() {
-        for other in
-            BIG.into_iter().chain(["255", "1", "2", "4", "5", "4294967295", "", "-1", "+1", "01"])
-        {
-            let mut fields = good;
+        for other in edges(good[place]) {
+            let mut fields = good.map(String::from);
             fields[place] = other;
             lines.push(format!("O\t{}\n", fields.join("\t")));
         }
+    }
+    for link in edges("1") {
+        lines.push(format!("O\t{}\nD\t{link}\t{send}\nT\n", good.join("\t")));
     }
     for n in 0..=20 {
         for (coins, weights) in [(n, n), (n, 0), (n, n + 1), (n + 1, n), (n, 2 * n), (0, n)] {
