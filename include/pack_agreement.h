@@ -13,8 +13,8 @@
  * that is accepted, and every turn that is neither idle nor refused, writes one line of text into bytes that the caller
  * lends; the lines of a session, one behind the other, are its journal, and each opening starts a new one. pack_restore
  * rebuilds the state from it, also where it was cut at any byte behind its first line. What the caller owes:
- *   - Store the line of a turn for good before its message leaves, and lines in the order of the calls. A message has left
- *     once it was delivered anywhere, to the concentrator itself too.
+ *   - Store the lines in the order of the calls, none left out, and the line of a turn for good before its message leaves.
+ *     A message has left once it was delivered anywhere, to the concentrator itself too.
  *   - After a restore, write new lines behind the last complete line: cut the journal there. Turns of lost lines never
  *     happened, and what they sent must not leave any more unless it is sent again.
  *   - A concentrator whose journal lost the line of a message that left would count among those that lie: the engine cannot
@@ -146,7 +146,8 @@ uint64_t pack_turn(uint64_t *state, size_t words, uint8_t *message, size_t capac
  * the set in force at the front of the second, both rising in a state that these calls wrote; the other words keep
  * their value.
  * Answer: bits 8 to 15 the exit (1 to 3, 0 for none), bits 16 to 23 the number of values named, bits 24 to 31 the
- * number of values in force (0: none), bits 32 to 63 the number of turns since opening that did not answer idle.
+ * number of values in force (0: none), bits 32 to 63 the number of turns since opening that did not answer idle; after a
+ * restore those of the journal's lines count.
  * Refusals, in this order: PACK_NO_STATE, PACK_SHORT.
  */
 uint64_t pack_report(const uint64_t *state, size_t words, uint64_t *named, size_t named_words, uint64_t *in_force,
