@@ -7,7 +7,7 @@ use mathlib.Core.Path.{_≡_, refl, sym, ap, _∙_}
 use native.Mathlib.Omega.{arith}
 use lib.Dec.{eqb, ltb}
 use lib.ListN.{length}
-use borrow.Author.Tests.{eqb-true}
+use borrow.Author.Tests.{eqb-true, lt-ltb, le-ltb}
 use mir.Val.{Fits}
 use mir.Syntax.{w64}
 use Rattle.settings.specs.declared.Settings.{Settings}
@@ -163,6 +163,47 @@ restore-answer-few v j room = go (eqb (lentAnswer (length v) room) 0)
     go : (b : Bool) → messageLength (cond b (replayAnswer (replay (linesOf j)) (length (joined (linesOf j)))) (restore.Refused (lentAnswer (length v) room))) ≤ 140
     go true = replay-few (replay (linesOf j)) _
     go false = omega arith
+
+pub again-some : (m : ℕ) → 0 < m → _≡_ {A = ℕ} 1 (cond (ltb 0 m) 1 0)
+again-some m h = rw (lt-ltb 0 m h)
+
+pub again-none : (m : ℕ) → m ≤ 0 → _≡_ {A = ℕ} 0 (cond (ltb 0 m) 1 0)
+again-none m h = rw (le-ltb 0 m h)
+
+pub ruleset again-cases = (again-some, again-none)
+
+-- each part stays within its bits
+again-bit : (b : Bool) → cond b 1 0 ≤ 1
+again-bit true = omega arith
+again-bit false = omega arith
+
+module _ (a : Restored) (h : messageLength a ≤ 140) where
+  pub journal-number : (line : ℕ) → a ≡ restore.Journal line → 15 + 256 * (line % 72057594037927936) ≡ restoredNumber a
+  journal-number line f = rw f
+
+  module _ (m bytes : ℕ) (f : a ≡ restore.Given m bytes) (g : ℕ) (q : g ≡ cond (ltb 0 m) 1 0) where
+    few-again : m ≤ 140
+    few-again = rw f at h
+
+    one-again : g ≤ 1
+    one-again = rw q (again-bit (ltb 0 m))
+
+    pub flag-fits : Fits w64 (256 * g)
+    flag-fits = record { fits = omega (arith, one-again) }
+
+    pub message-fits : Fits w64 (65536 * m)
+    message-fits = record { fits = omega (arith, few-again) }
+
+    pub both-fit : Fits w64 (256 * g + 65536 * m)
+    both-fit = record { fits = omega (arith, few-again, one-again) }
+
+    pub all-fit : Fits w64 (256 * g + 65536 * m + 4294967296 * (bytes % 4294967296))
+    all-fit = record { fits = omega (arith, few-again, one-again) }
+
+    pub given-number : 256 * g + 65536 * m + 4294967296 * (bytes % 4294967296) ≡ restoredNumber a
+    given-number = rw (f, q)
+
+pub ruleset restored-cases = (journal-number, flag-fits, message-fits, both-fit, all-fit, given-number)
 
 module _ (v j : List ℕ) (room : ℕ) (a : Restored) (f : a ≡ restoreAnswer v j room) where
   pub restore-few : messageLength a ≤ 140
