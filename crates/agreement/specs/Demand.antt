@@ -13,10 +13,11 @@ use Rattle.agreement.specs.Runs as Runs
 use Rattle.held.specs.Held.{Message, COMMIT}
 use Rattle.agreement.specs.Runs.{HeldFrom, OutputsHeld, Inv, Due, backing, shows-named, shows-force}
 use Rattle.agreement.specs.Agreement.{Shown, agreement, validity}
-use Rattle.agreement.specs.Calls.{Machine, Call, world, place, words, Shows, Opened, Conditions, PutIn, Earlier, OneSet, NamedFirst, OnlyInput, DemandThree}
+use Rattle.agreement.specs.Calls.{Machine, Call, world, place, words, journal, Shows, Opened, Conditions, PutIn, Earlier, OneSet, NamedFirst, OnlyInput, DemandThree}
 use Rattle.agreement.specs.Laws.{Reading, Active, Laws}
+use Rattle.agreement.specs.Journals.{conditions-within}
 use Rattle.agreement.specs.Openings.{did, tell, status, history, opened-known, known-opened, TurnDid, did-turn}
-use Rattle.agreement.specs.Lists.{Left, Live, Good, known-live, history-within, all-good, left-single}
+use Rattle.agreement.specs.Lists.{Noted, Left, Live, belongs, keeps, Good, known-live, history-within, all-good, left-single}
 
 -- calls: the whole list
 module _ (M : Machine) (R : Reading M) (H : ℕ → Bool) (laws : Laws M R H) (start : ℕ → M .Words) (S : M .Session) (calls : List (Call M)) (conditions : Conditions M start S H calls) where
@@ -39,7 +40,7 @@ module _ (M : Machine) (R : Reading M) (H : ℕ → Bool) (laws : Laws M R H) (s
   -- an opened one
   record Open (cs : List (Call M)) (p : ℕ) : Type 0 where
     by-opening : M .Opening
-    live : Live M R H laws start S calls by-opening (told cs) p (words M start cs p)
+    live : Live M R H laws start S calls by-opening (told cs) p (words M start cs p) (journal M start cs p)
 
   open-at : (cs : List (Call M)) → Here cs → (p : ℕ) → Opened M start cs p → Open cs p
   open-at cs k p o =
@@ -53,13 +54,13 @@ module _ (M : Machine) (R : Reading M) (H : ℕ → Bool) (laws : Laws M R H) (s
     w = words M start cs p
 
     abbrev acts : Act → Type 0
-    acts = Did (told cs) p
+    acts = Noted M R start (journal M start cs p)
 
     owned : R .Belongs (x .by-opening) w
-    owned = x .live .belongs
+    owned = belongs M R H laws start S calls (x .by-opening) (told cs) p w (journal M start cs p) (x .live)
 
     inv : Inv W (R .seen) Gone (told cs) acts p w
-    inv = x .live .inv
+    inv = keeps M R H laws start S calls (x .by-opening) (told cs) p w (journal M start cs p) (x .live)
 
     outs : OutputsHeld W (R .seen) w
     outs = rw (x .live .session) at (laws .outputs-held (x .by-opening) w owned)
@@ -103,7 +104,7 @@ module _ (M : Machine) (R : Reading M) (H : ℕ → Bool) (laws : Laws M R H) (s
         later : Here cs
         later = within-tail c k
 
-        live : Live M R H laws start S calls (d .by-opening) (told cs) p (words M start cs p)
+        live : Live M R H laws start S calls (d .by-opening) (told cs) p (words M start cs p) (journal M start cs p)
         live = known-live M R H laws start S calls cs (good cs later) p (d .by-opening) (d .known)
 
         due : Due W (R .seen) (words M start cs p) (commit X) → Then (c ∷ cs)

@@ -58,7 +58,8 @@ use Rattle.agreement.specs.Evidence.{World}
 use Rattle.agreement.specs.History.{Act, commit, move}
 use Rattle.held.specs.Held.{Message, EST, meaning}
 use Rattle.agreement.specs.Runs as runs
-use Rattle.agreement.specs.Calls.{Arguments, agreed, Bytes, SendsBytes, engine, world}
+use Rattle.agreement.specs.Calls.{Arguments, agreed, Bytes, engine, world}
+use Rattle.agreement.specs.EngineLent.{SendsPlain}
 use Rattle.agreement.specs.EngineReading.{Belongs, Sets, shownAct, Says}
 use Rattle.agreement.specs.EngineActed.{coin-same}
 
@@ -238,7 +239,7 @@ module _ (o : Arguments) (H : ℕ → Bool) (w : List ℕ) (x : Belongs o w) (se
         means = ap (meaning m) (rw e (sym (back .all-values)));
       }
 
-  pub shown-says : (lent : List ℕ) → Taken w lent session → (b : Bytes) → SendsBytes w lent b → (a : Act) → shownAct g w (due g w) ≡ some a → Says (agreed o) (o .own) b (runs.message W a)
+  pub shown-says : (lent : List ℕ) → Taken w lent session → (b : Bytes) → SendsPlain w lent b → (a : Act) → shownAct g w (due g w) ≡ some a → Says (agreed o) (o .own) b (runs.message W a)
   shown-says lent t b h a e =
       of (act-sending (due g w) (t .told) (h .message) (sym (t .answer) ∙ h .outcome))
     where
@@ -248,7 +249,7 @@ module _ (o : Arguments) (H : ℕ → Bool) (w : List ℕ) (x : Belongs o w) (se
           rw is (encoded-says (h .message) (s .proper) b (h .bytes ∙ sent-bytes lent t (h .message) (s .proper .held) (sym (t .answer) ∙ h .outcome)))
 
   -- an act that shows nothing sends nothing
-  pub silent : (lent : List ℕ) → Taken w lent session → (b : Bytes) → SendsBytes w lent b → shownAct g w (due g w) ≡ none → ⊥
+  pub silent : (lent : List ℕ) → Taken w lent session → (b : Bytes) → SendsPlain w lent b → shownAct g w (due g w) ≡ none → ⊥
   silent lent t b h e = of (act-sending (due g w) (t .told) (h .message) (sym (t .answer) ∙ h .outcome))
     where
       of : Sending (shownAct g w (due g w)) (h .message) → ⊥

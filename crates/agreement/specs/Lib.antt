@@ -9,9 +9,12 @@ pub mod Runs
 pub mod Calls
 pub mod Laws
 pub mod Openings
+pub mod Journals
+pub mod Plain
 pub mod Lists
 pub mod Demand
 pub mod EngineSeen
+pub mod EngineLent
 pub mod EngineReading
 pub mod EngineOpening
 pub mod EngineDelivery
@@ -21,4 +24,6 @@ pub mod EngineActed
 pub mod EngineSent
 pub mod EngineTurn
 pub mod EngineReport
+pub mod EngineJournal
 pub mod EngineDemand
+pub mod EngineRestores

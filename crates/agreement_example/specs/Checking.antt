@@ -12,7 +12,7 @@ use Rattle.delivery.specs.Delivery.{deliverAnswer, delivered}
 use Rattle.turn.specs.Turn.{turnOutcome, turnWords, turnBytes}
 use Rattle.turn.specs.declared.Outcome.{Outcome}
 use Rattle.turn.specs.declared.Outcome.the-variants as outcome
-use Rattle.agreement.specs.Calls.{Call, opening, delivery, turn, report, engine, Arguments, weightsOf, Agreed, agreed}
+use Rattle.agreement.specs.Calls.{Call, opening, delivery, turn, report, restore, engine, Arguments, weightsOf, Agreed, agreed}
 
 -- a list of a concentrator: the words of its state, or the bytes of a message that it sent
 pub record Entry : Type 0 where
@@ -80,12 +80,14 @@ statesAfter (opening p o) xs = cond (opens o) (record { who = p; list = openedWo
 statesAfter (delivery p m b) xs = withWords p (delivered (wordsOf xs p) m (b .list)) xs
 statesAfter (turn p l) xs = withWords p (turnWords (wordsOf xs p) (length l)) xs
 statesAfter (report p r) xs = withWords p (wordsOf xs p) xs
+statesAfter (restore p r) xs = xs
 
 unfoldable pub sentAfter : Call engine → List Entry → List Entry → List Entry
 sentAfter (opening p o) xs ys = ys
 sentAfter (delivery p m b) xs ys = ys
 sentAfter (turn p l) xs ys = cond (isOpened xs p) (sentBy p (turnOutcome (wordsOf xs p) (length l)) (turnBytes (wordsOf xs p) l) ys) ys
 sentAfter (report p r) xs ys = ys
+sentAfter (restore p r) xs ys = ys
 
 -- in the session S, where H tells who is honest and v is put in
 module _ (S : Agreed) (H : ℕ → Bool) (v : ℕ) where
@@ -108,6 +110,7 @@ module _ (S : Agreed) (H : ℕ → Bool) (v : ℕ) where
   callRight (delivery p m b) xs ys = listed p && deliveryRight p m (b .list) xs ys
   callRight (turn p l) xs ys = listed p
   callRight (report p r) xs ys = listed p
+  callRight (restore p r) xs ys = false
 
   unfoldable pub step : Call engine → Run → Run
   step c r =

@@ -11,15 +11,21 @@ use Rattle.quorum.specs.Bools.{and-left, and-right}
 use Rattle.quorum.specs.Every.{every, every-each}
 use Rattle.records.specs.Layout.{stateWords}
 use Rattle.records.specs.Fill.{blank, length-blank}
+use Rattle.turn.specs.Turn.{turnOutcome}
 use Rattle.report.specs.Report.{reportAnswer, reportNamed, reportInForce}
 use Rattle.report.specs.declared.Answer.{Answer}
 use Rattle.report.specs.declared.Answer.the-variants as answer
+use Rattle.journal.specs.Restoring.{answersActed}
 use Rattle.agreement.specs.Evidence.{liars, Honest}
-use Rattle.agreement.specs.Calls.{Call, engine, Agreed, world, words, Opened, Conditions, PutIn, ReportNames, ReportEnforces}
+use Rattle.agreement.specs.Calls.{Call, Bytes, SendsBytes, engine, Agreed, world, words, Opened, Conditions, PutIn, ReportNames, ReportEnforces}
 use Rattle.agreement_example.specs.Lists.{conditions-met, put-in-met}
 use Rattle.agreement_example.specs.Checking.{Run, isOpened, wordsOf, sameList, run}
 use Rattle.agreement_example.specs.Entries.{or-second, not-of-true, same-list}
 use Rattle.agreement_example.specs.Tracking.{Tracks, run-tracks}
+
+-- a turn that sends acts
+sends-act : (w l : List ℕ) (b : Bytes) → SendsBytes w l b → answersActed (turnOutcome w (length l)) ≡ true
+sends-act w l b x = rw (x .outcome)
 
 -- p is opened, its exits name the set X, and X is in force
 pub record Shown (start : ℕ → List ℕ) (cs : List (Call engine)) (p : ℕ) (X : List ℕ) : Type 0 where
@@ -111,7 +117,7 @@ module _ (start : ℕ → List ℕ) (S : Agreed) (H : ℕ → Bool) (v : ℕ) (c
       record {
         few-ta = leb-true _ _ (and-left (few (S .settings .ta)) _ e);
         few-ts = leb-true _ _ (and-left (few (S .settings .ts)) _ e1);
-        conditions = conditions-met engine start S H v cs (x .meet);
+        conditions = conditions-met engine start S H v sends-act cs (x .meet);
         put-in = put-in-met engine start S H v cs (x .meet);
         shown = ended x (and-right (run S H v cs .right) _ e2);
       }

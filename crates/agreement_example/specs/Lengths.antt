@@ -19,7 +19,8 @@ use Rattle.turn.specs.Turn.{admits, wordsFor, turnWords}
 use Rattle.turn.specs.Frame.{length-applied}
 use Rattle.turn.specs.declared.Admitted.{Admitted}
 use Rattle.turn.specs.declared.Admitted.the-variants as admitted
-use Rattle.agreement.specs.Calls.{Call, opening, delivery, turn, report, engine, weightsOf, left}
+use Rattle.agreement.specs.Calls.{Call, opening, delivery, turn, report, restore, engine, weightsOf, left}
+use Rattle.agreement.specs.Plain.{NoRestore}
 
 length-openWords : (n ta ts w own session input : ℕ) (coins : List ℕ) → length (openWords n ta ts w own session input coins) ≡ stateWords
 unfolding openWords withCoins withSettings
@@ -50,9 +51,10 @@ length-turned s room = go (admits s room)
     go (admitted.Refused k) = refl
     go (admitted.Open x) = length-applied s (due (x .settings) s)
 
--- the words that a call leaves of 2,048 words are as many
-pub length-left : (c : Call engine) (w : List ℕ) → length w ≡ stateWords → length (left engine c w) ≡ stateWords
-length-left (opening p o) w e = length-opened w (o .n) (o .ta) (o .ts) (weightsOf o) (o .own) (o .session) (o .input) (o .coins) e
-length-left (delivery p m b) w e = length-delivered w m (b .list) ∙ e
-length-left (turn p l) w e = length-turned w (length l) ∙ e
-length-left (report p r) w e = e
+-- the words that a call leaves of 2,048 words are as many; no example restores
+pub length-left : (start : ℕ → List ℕ) (c : Call engine) → NoRestore engine start c → (w : List ℕ) → length w ≡ stateWords → length (left engine c w) ≡ stateWords
+length-left start (opening p o) n w e = length-opened w (o .n) (o .ta) (o .ts) (weightsOf o) (o .own) (o .session) (o .input) (o .coins) e
+length-left start (delivery p m b) n w e = length-delivered w m (b .list) ∙ e
+length-left start (turn p l) n w e = length-turned w (length l) ∙ e
+length-left start (report p r) n w e = e
+length-left start (restore p r) n w e = absurd n

@@ -10,3 +10,4 @@ pub mod Computing
 pub mod One
 pub mod Four
 pub mod Weighted
+pub mod Lossy

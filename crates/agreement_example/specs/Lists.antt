@@ -6,7 +6,8 @@ use mathlib.Core.Logic.{_⊎_, inl, inr}
 use mathlib.Core.Path.{_≡_, refl}
 use Rattle.agreement.specs.Evidence.{Honest}
 use Rattle.agreement.specs.Moments.{Within, now, after}
-use Rattle.agreement.specs.Calls.{Machine, Call, opening, delivery, turn, report, world, place, words, Opened, Sent, Conditions, PutIn}
+use Rattle.agreement.specs.Calls.{Machine, Call, opening, delivery, turn, report, restore, world, place, words, Opened, Conditions, PutIn}
+use Rattle.agreement.specs.Plain.{NoRestore, Answered, plain-conditions}
 
 module _ (M : Machine) (start : ℕ → M .Words) where
   module _ {cs : List (Call M)} (c : Call M) where
@@ -15,7 +16,7 @@ module _ (M : Machine) (start : ℕ → M .Words) where
     opened-later x =
         record { given = x .given; past = x .past; within = after c (x .within); numbered = x .numbered; accepted = x .accepted }
 
-    pub sent-later : {m : ℕ} {b : M .Bytes} → Sent M start cs m b → Sent M start (c ∷ cs) m b
+    pub sent-later : {m : ℕ} {b : M .Bytes} → Answered M start cs m b → Answered M start (c ∷ cs) m b
     sent-later x =
         record { lent = x .lent; past = x .past; within = after c (x .within); opened = x .opened; sends = x .sends }
 
@@ -30,6 +31,7 @@ module _ (M : Machine) (start : ℕ → M .Words) where
   NoOpening (delivery p m b) = Unit
   NoOpening (turn p l) = Unit
   NoOpening (report p r) = Unit
+  NoOpening (restore p r) = Unit
 
   within-before : {c : Call M} {p : ℕ} {o : M .Opening} {ds cs : List (Call M)} → NoOpening c → Within (opening p o ∷ ds) (c ∷ cs) → Within (opening p o ∷ ds) cs
   within-before n now = absurd n
@@ -57,13 +59,14 @@ module _ (M : Machine) (start : ℕ → M .Words) where
 
     -- what `credited` asks of a delivery after the calls ds
     pub record DeliveryMeets (p m : ℕ) (b : M .Bytes) (ds : List (Call M)) : Type 0 where
-      pub credited : Opened M start ds p → M .accepts (words M start ds p) m b ≡ true → Honest (world M S H) m → Sent M start ds m b
+      pub credited : Opened M start ds p → M .accepts (words M start ds p) m b ≡ true → Honest (world M S H) m → Answered M start ds m b
 
     abbrev pub Meets : Call M → List (Call M) → Type 0
     Meets (opening p o) ds = OpeningMeets p o ds
     Meets (delivery p m b) ds = DeliveryMeets p m b ds
     Meets (turn p l) ds = Unit
     Meets (report p r) ds = Unit
+    Meets (restore p r) ds = ⊥
 
     abbrev pub AllMeet : List (Call M) → Type 0
     AllMeet [] = Unit
@@ -77,14 +80,22 @@ module _ (M : Machine) (start : ℕ → M .Words) where
     meets-within now x = x .1
     meets-within (after d w) x = meets-within w (x .2)
 
-    pub conditions-met : (cs : List (Call M)) → AllMeet cs → Conditions M start S H cs
-    conditions-met cs x =
-        record {
+    no-restore : (c : Call M) (ds : List (Call M)) → Meets c ds → NoRestore M start c
+    no-restore (opening p o) ds x = tt
+    no-restore (delivery p m b) ds x = tt
+    no-restore (turn p l) ds x = tt
+    no-restore (report p r) ds x = tt
+    no-restore (restore p r) ds x = x
+
+    pub conditions-met : ((w : M .Words) (l : M .Lent) (b : M .Bytes) → M .Sends w l b → M .acts w l ≡ true) → (cs : List (Call M)) → AllMeet cs → Conditions M start S H cs
+    conditions-met sends-act cs x =
+        plain-conditions M start sends-act S H cs (λ c ds w. no-restore c ds (meets-within w x))
+        (record {
           honest = λ c ds w. honest-within w x;
           agree = λ p o ds w. meets-within w x .agree;
           once = λ p o ds w. meets-within w x .once;
           credited = λ p m b ds w. meets-within w x .credited;
-        }
+        })
 
     pub put-in-met : (cs : List (Call M)) → AllMeet cs → PutIn M start v cs
     put-in-met cs x p o ds w = meets-within w x .put-in

@@ -10,7 +10,7 @@ use Rattle.delivery.specs.Delivery.{deliverAnswer}
 use Rattle.turn.specs.Turn.{turnOutcome}
 use Rattle.turn.specs.declared.Outcome.{Outcome}
 use Rattle.turn.specs.declared.Outcome.the-variants as outcome
-use Rattle.agreement.specs.Calls.{Call, opening, delivery, turn, report, engine, weightsOf, Agreed}
+use Rattle.agreement.specs.Calls.{Call, opening, delivery, turn, report, restore, engine, weightsOf, Agreed}
 use Rattle.agreement_example.specs.Checking.{Entry, Run, isOpened, wordsOf, step, run}
 
 -- the number of a turn's refusal, 0 for none
@@ -27,6 +27,7 @@ refusal (opening p o) xs = openAnswer stateWords (o .n) (o .ta) (o .ts) (weights
 refusal (delivery p m b) xs = cond (isOpened xs p) (deliverAnswer (wordsOf xs p) m (b .list)) 0
 refusal (turn p l) xs = cond (isOpened xs p) (refusalOf (turnOutcome (wordsOf xs p) (length l))) 0
 refusal (report p r) xs = 0
+refusal (restore p r) xs = 0
 
 pub record Refusals : Type 0 where
   pub run : Run

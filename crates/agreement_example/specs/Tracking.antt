@@ -19,7 +19,8 @@ use Rattle.turn.specs.declared.Outcome.{Outcome}
 use Rattle.turn.specs.declared.Outcome.the-variants as outcome
 use Rattle.agreement.specs.Evidence.{Honest}
 use Rattle.agreement.specs.Moments.{now}
-use Rattle.agreement.specs.Calls.{weightsOf, Call, opening, delivery, turn, report, engine, Arguments, Agreed, Bytes, agreed, world, place, left, words, Opened, Sent, SendsBytes}
+use Rattle.agreement.specs.Calls.{weightsOf, Call, opening, delivery, turn, report, restore, engine, Arguments, Agreed, Bytes, agreed, world, place, left, words, Opened, SendsBytes}
+use Rattle.agreement.specs.Plain.{NoRestore, Answered}
 use Rattle.agreement_example.specs.Lists.{not-opened, opened-later, sent-later, opened-before, opened-cases, NoOpening, DeliveryMeets, AllMeet}
 use Rattle.agreement_example.specs.Checking.{Entry, isOpened, wordsOf, withWords, wasSent, sameList, sentBy, sameSession, opens, openedWords, statesAfter, sentAfter, listed, openingRight, deliveryRight, callRight, step, run}
 use Rattle.agreement_example.specs.Lengths.{length-left}
@@ -27,12 +28,12 @@ use Rattle.agreement_example.specs.Entries.{or-second, not-of-true, same
 
 module _ (start : ℕ → List ℕ) where
   -- the number of words after a call
-  size-next : (c : Call engine) (cs : List (Call engine)) (p : ℕ) → length (words engine start cs p) ≡ stateWords → length (words engine start (c ∷ cs) p) ≡ stateWords
+  size-next : (c : Call engine) → NoRestore engine start c → (cs : List (Call engine)) (p : ℕ) → length (words engine start cs p) ≡ stateWords → length (words engine start (c ∷ cs) p) ≡ stateWords
   unfolding words
-  size-next c cs p h = go (eqb p (place engine c))
+  size-next c n cs p h = go (eqb p (place engine c))
     where
       go : (b : Bool) → length (cond b (left engine c (words engine start cs p)) (words engine start cs p)) ≡ stateWords
-      go true = length-left c (words engine start cs p) h
+      go true = length-left start c n (words engine start cs p) h
       go false = h
 
   -- a call that is no opening, at one whose words are known
@@ -61,7 +62,7 @@ module _ (start : ℕ → List ℕ) where
       pub none : (p : ℕ) → isOpened xs p ≡ false → Opened engine start cs p → ⊥
       pub some : (p : ℕ) → isOpened xs p ≡ true → Opened engine start cs p
       pub equal : (p : ℕ) → isOpened xs p ≡ true → words engine start cs p ≡ wordsOf xs p
-      pub sent : (m : ℕ) (b : Bytes) → wasSent ys m (b .list) ≡ true → Sent engine start cs m b
+      pub sent : (m : ℕ) (b : Bytes) → wasSent ys m (b .list) ≡ true → Answered engine start cs m b
       pub meet : AllMeet engine start S H v cs
 
     listed-honest : (p : ℕ) → listed S H v p ≡ true → Honest (world engine S H) p
@@ -79,7 +80,7 @@ module _ (start : ℕ → List ℕ) where
       unfolding deliveryRight
       delivery-credited p m b e = record { credited = λ o a h. go (isOpened xs p) refl o a h }
         where
-          go : (k : Bool) → isOpened xs p ≡ k → Opened engine start cs p → eqb (deliverAnswer (words engine start cs p) m (b .list)) 0 ≡ true → Honest (world engine S H) m → Sent engine start cs m b
+          go : (k : Bool) → isOpened xs p ≡ k → Opened engine start cs p → eqb (deliverAnswer (words engine start cs p) m (b .list)) 0 ≡ true → Honest (world engine S H) m → Answered engine start cs m b
           go false k o a h = absurd (x .none p k o)
           go true k o a h =
               let taken : eqb (deliverAnswer (wordsOf xs p) m (b .list)) 0 ≡ true = rw (x .equal p k) at a in
@@ -88,10 +89,10 @@ module _ (start : ℕ → List ℕ) where
               x .sent m b (or-second (not (H m)) (wasSent ys m (b .list)) e2 (not-of-true (H m) (h .fair)))
 
       -- a call that is no opening, after which zs are sent
-      words-next : (c : Call engine) (zs : List Entry) → NoOpening engine start c → ((m : ℕ) (b : Bytes) → wasSent zs m (b .list) ≡ true → Sent engine start (c ∷ cs) m b) → AllMeet engine start S H v (c ∷ cs) → Tracks (c ∷ cs) (withWords (place engine c) (left engine c (wordsOf xs (place engine c))) xs) zs
-      words-next c zs n s a =
+      words-next : (c : Call engine) (zs : List Entry) → NoOpening engine start c → NoRestore engine start c → ((m : ℕ) (b : Bytes) → wasSent zs m (b .list) ≡ true → Answered engine start (c ∷ cs) m b) → AllMeet engine start S H v (c ∷ cs) → Tracks (c ∷ cs) (withWords (place engine c) (left engine c (wordsOf xs (place engine c))) xs) zs
+      words-next c zs n r s a =
           record {
-            size = λ p h. size-next c cs p (x .size p h);
+            size = λ p h. size-next c r cs p (x .size p h);
             none = λ q k o. x .none q (sym (same q) ∙ k) (opened-before engine start n o);
             some = λ q k. opened-later engine start c (x .some q (sym (same q) ∙ k));
             equal = λ q k. equal-next c cs xs (x .equal) q (sym (same q) ∙ k);
@@ -103,31 +104,31 @@ module _ (start : ℕ → List ℕ) where
           same q = opened-with (place engine c) (left engine c (wordsOf xs (place engine c))) xs q
 
       -- what was sent after a turn
-      sent-next : (p : ℕ) (l : List ℕ) (m : ℕ) (b : Bytes) → wasSent (sentAfter (turn p l) xs ys) m (b .list) ≡ true → Sent engine start (turn p l ∷ cs) m b
+      sent-next : (p : ℕ) (l : List ℕ) (m : ℕ) (b : Bytes) → wasSent (sentAfter (turn p l) xs ys) m (b .list) ≡ true → Answered engine start (turn p l ∷ cs) m b
       unfolding sentAfter sentBy wasSent
       sent-next p l m b = go (isOpened xs p) refl
         where
-          before : wasSent ys m (b .list) ≡ true → Sent engine start (turn p l ∷ cs) m b
+          before : wasSent ys m (b .list) ≡ true → Answered engine start (turn p l ∷ cs) m b
           before e = sent-later engine start (turn p l) (x .sent m b e)
 
-          new : (k : Message) → isOpened xs p ≡ true → turnOutcome (wordsOf xs p) (length l) ≡ outcome.Sent k → p ≡ m → take (lengthOf k) (turnBytes (wordsOf xs p) l) ≡ b .list → Sent engine start (turn p l ∷ cs) m b
+          new : (k : Message) → isOpened xs p ≡ true → turnOutcome (wordsOf xs p) (length l) ≡ outcome.Sent k → p ≡ m → take (lengthOf k) (turnBytes (wordsOf xs p) l) ≡ b .list → Answered engine start (turn p l ∷ cs) m b
           new k h f g d =
               let sends : SendsBytes (wordsOf xs p) l b = record { message = k; outcome = f; bytes = sym d } in
               rw (← g) (record { lent = l; past = cs; within = now; opened = x .some p h; sends = rw (x .equal p h) sends })
 
-          first : (k : Message) (t : Bool) → isOpened xs p ≡ true → turnOutcome (wordsOf xs p) (length l) ≡ outcome.Sent k → eqb p m && sameList (take (lengthOf k) (turnBytes (wordsOf xs p) l)) (b .list) ≡ t → t || wasSent ys m (b .list) ≡ true → Sent engine start (turn p l ∷ cs) m b
+          first : (k : Message) (t : Bool) → isOpened xs p ≡ true → turnOutcome (wordsOf xs p) (length l) ≡ outcome.Sent k → eqb p m && sameList (take (lengthOf k) (turnBytes (wordsOf xs p) l)) (b .list) ≡ t → t || wasSent ys m (b .list) ≡ true → Answered engine start (turn p l ∷ cs) m b
           first k true h f d e =
               new k h f (eqb-true p m (and-left (eqb p m) _ d)) (same-list _ (b .list) (and-right (eqb p m) _ d))
           first k false h f d e = before e
 
-          by : (u : Outcome) → isOpened xs p ≡ true → turnOutcome (wordsOf xs p) (length l) ≡ u → wasSent (sentBy p u (turnBytes (wordsOf xs p) l) ys) m (b .list) ≡ true → Sent engine start (turn p l ∷ cs) m b
+          by : (u : Outcome) → isOpened xs p ≡ true → turnOutcome (wordsOf xs p) (length l) ≡ u → wasSent (sentBy p u (turnBytes (wordsOf xs p) l) ys) m (b .list) ≡ true → Answered engine start (turn p l ∷ cs) m b
           by (outcome.Refused k) h f e = before e
           by outcome.Idle h f e = before e
           by (outcome.Sent k) h f e = first k (eqb p m && sameList (take (lengthOf k) (turnBytes (wordsOf xs p) l)) (b .list)) h f refl e
           by outcome.MovedOut h f e = before e
           by outcome.InForce h f e = before e
 
-          go : (t : Bool) → isOpened xs p ≡ t → wasSent (cond t (sentBy p (turnOutcome (wordsOf xs p) (length l)) (turnBytes (wordsOf xs p) l) ys) ys) m (b .list) ≡ true → Sent engine start (turn p l ∷ cs) m b
+          go : (t : Bool) → isOpened xs p ≡ t → wasSent (cond t (sentBy p (turnOutcome (wordsOf xs p) (length l)) (turnBytes (wordsOf xs p) l) ys) ys) m (b .list) ≡ true → Answered engine start (turn p l ∷ cs) m b
           go true h e = by (turnOutcome (wordsOf xs p) (length l)) h refl e
           go false h e = before e
 
@@ -145,7 +146,7 @@ module _ (start : ℕ → List ℕ) where
         unfolding words
         refused-next f =
             record {
-              size = λ q h. size-next (opening p o) cs q (x .size q h);
+              size = λ q h. size-next (opening p o) tt cs q (x .size q h);
               none = λ q k u. not-new q k (opened-cases engine start u);
               some = λ q k. opened-later engine start (opening p o) (x .some q k);
               equal = λ q k. same q (eqb q p) refl ∙ x .equal q k;
@@ -169,7 +170,7 @@ module _ (start : ℕ → List ℕ) where
         unfolding words isOpened wordsOf
         first-next f none own agree put-in =
             record {
-              size = λ q h. size-next (opening p o) cs q (x .size q h);
+              size = λ q h. size-next (opening p o) tt cs q (x .size q h);
               none = λ q k u. not-other q (eqb q p) refl k (opened-cases engine start u);
               some = λ q k. opened-there q (eqb q p) refl k;
               equal = λ q k. words-there q (eqb q p) refl k;
@@ -213,12 +214,13 @@ module _ (start : ℕ → List ℕ) where
       next (opening p o) e =
           opening-next p o (listed-honest p (and-left (listed S H v p) _ e)) (and-right (listed S H v p) _ e)
       next (delivery p m b) e =
-          words-next (delivery p m b) ys tt (λ k d f. sent-later engine start (delivery p m b) (x .sent k d f))
+          words-next (delivery p m b) ys tt tt (λ k d f. sent-later engine start (delivery p m b) (x .sent k d f))
           (listed-honest p (and-left (listed S H v p) _ e), delivery-credited p m b (and-right (listed S H v p) _ e), x .meet)
       next (turn p l) e =
-          words-next (turn p l) (sentAfter (turn p l) xs ys) tt (λ k d f. sent-next p l k d f) (listed-honest p e, tt, x .meet)
+          words-next (turn p l) (sentAfter (turn p l) xs ys) tt tt (λ k d f. sent-next p l k d f) (listed-honest p e, tt, x .meet)
       next (report p r) e =
-          words-next (report p r) ys tt (λ k d f. sent-later engine start (report p r) (x .sent k d f)) (listed-honest p e, tt, x .meet)
+          words-next (report p r) ys tt tt (λ k d f. sent-later engine start (report p r) (x .sent k d f)) (listed-honest p e, tt, x .meet)
+      next (restore p r) e = absurd (false≢true e)
 
     module _ (room : (p : ℕ) → Honest (world engine S H) p → length (start p) ≡ stateWords) where
       nothing-yet : Tracks [] [] []
