@@ -1,7 +1,7 @@
 -- A restore that loses a line: opening, a turn, and a restore from the opening's line alone. Whatever the turn sent nobody got, so the conditions
 -- of demand 3 hold, and the words are those after the opening again.
 use Prim.Native.Nat.{ℕ, _≤_}
-use mathlib.Core.Bool.{Bool, true, false, cond}
+use mathlib.Core.Bool.{Bool, true, false, cond, false≢true}
 use mathlib.Core.List.{List, [], _∷_, _++_}
 use mathlib.Core.Logic.{_⊎_, inl, inr, _≢_}
 use mathlib.Core.Path.{_≡_, refl, sym, ap, subst, _∙_}
@@ -28,7 +28,7 @@ module _ (M : Machine) where
       go true f rec = clash (cc)
       go false f rec = rec f
 
-  module _ (start : ℕ → M .Words) (S : M .Session) (H : ℕ → Bool) (p : ℕ) (o : M .Opening) (l : M .Lent) (r : M .Restore) (honest : Honest (world M S H) p) (own : M .own o ≡ p) (same : M .session o ≡ S) (opens : M .opens (start p) o ≡ true) (cut : M .text r ≡ M .opening-line o) where
+  module _ (start : ℕ → M .Words) (S : M .Session) (H : ℕ → Bool) (p : ℕ) (o : M .Opening) (l : M .Lent) (v : M .Words) (r : M .Restore) (honest : Honest (world M S H) p) (own : M .own o ≡ p) (same : M .session o ≡ S) (opens : M .opens (start p) o ≡ true) (cut : M .text r ≡ M .opening-line o) (restores : M .restores v r ≡ true) where
     abbrev first : List (Call M)
     first = opening p o ∷ []
 
@@ -36,7 +36,7 @@ module _ (M : Machine) where
     second = turn p l ∷ first
 
     abbrev pub third : List (Call M)
-    third = restore p r ∷ second
+    third = restore p v r ∷ second
 
     of-second : {ds : List (Call M)} {c : Call M} → Within (c ∷ ds) second → (c ∷ ds ≡ second) ⊎ (c ∷ ds ≡ first)
     of-second w = at (within-cases (turn p l) first w)
@@ -50,7 +50,7 @@ module _ (M : Machine) where
             last (inr u) = absurd (within-none u)
 
     of-third : {ds : List (Call M)} {c : Call M} → Within (c ∷ ds) third → (c ∷ ds ≡ third) ⊎ ((c ∷ ds ≡ second) ⊎ (c ∷ ds ≡ first))
-    of-third w = at (within-cases (restore p r) second w)
+    of-third w = at (within-cases (restore p v r) second w)
       where
         at : {ds : List (Call M)} {c : Call M} → (c ∷ ds ≡ third) ⊎ Within (c ∷ ds) second → (c ∷ ds ≡ third) ⊎ ((c ∷ ds ≡ second) ⊎ (c ∷ ds ≡ first))
         at (inl e) = inl e
@@ -98,7 +98,7 @@ module _ (M : Machine) where
         at (inl e) = clash (cc)
         at (inr e) = clash (cc)
 
-    falls : FallsBack M start second p r
+    falls : FallsBack M start second p v r
     falls =
         record {
           cut = rw cut cut-second;
@@ -114,11 +114,12 @@ module _ (M : Machine) where
           agree = λ q u ds w. agree-at q u ds (of-third w);
           once = λ q u ds w x. absurd (once-at q u ds (of-third w) x);
           credited = λ q m b ds w. absurd (credited-at q m b ds (of-third w));
-          falls-back = λ q u ds w x t. falls-at q u ds (of-third w);
+          falls-back = λ q u s ds w x t. falls-at q u s ds (of-third w);
+          not-lost = λ q u s ds w x t. absurd (refused-at q u s ds (of-third w) t);
         }
       where
         honest-at : (c : Call M) (ds : List (Call M)) → (c ∷ ds ≡ third) ⊎ ((c ∷ ds ≡ second) ⊎ (c ∷ ds ≡ first)) → Honest (world M S H) (place M c)
-        honest-at c ds (inl e) = let z : c ≡ restore p r = cc in rw z honest
+        honest-at c ds (inl e) = let z : c ≡ restore p v r = cc in rw z honest
         honest-at c ds (inr (inl e)) = let z : c ≡ turn p l = cc in rw z honest
         honest-at c ds (inr (inr e)) = let z : c ≡ opening p o = cc in rw z honest
 
@@ -137,11 +138,20 @@ module _ (M : Machine) where
         credited-at q m b ds (inr (inl e)) = clash (cc)
         credited-at q m b ds (inr (inr e)) = clash (cc)
 
-        falls-at : (q : ℕ) (u : M .Restore) (ds : List (Call M)) → (restore q u ∷ ds ≡ third) ⊎ ((restore q u ∷ ds ≡ second) ⊎ (restore q u ∷ ds ≡ first)) → FallsBack M start ds q u
-        falls-at q u ds (inl e) =
+        falls-at : (q : ℕ) (u : M .Words) (s : M .Restore) (ds : List (Call M)) → (restore q u s ∷ ds ≡ third) ⊎ ((restore q u s ∷ ds ≡ second) ⊎ (restore q u s ∷ ds ≡ first)) → FallsBack M start ds q u s
+        falls-at q u s ds (inl e) =
             let x : q ≡ p = cc in
-            let y : u ≡ r = cc in
+            let y : u ≡ v = cc in
+            let t : s ≡ r = cc in
             let z : ds ≡ second = cc in
-            rw (x, y, z) falls
-        falls-at q u ds (inr (inl e)) = clash (cc)
-        falls-at q u ds (inr (inr e)) = clash (cc)
+            rw (x, y, t, z) falls
+        falls-at q u s ds (inr (inl e)) = clash (cc)
+        falls-at q u s ds (inr (inr e)) = clash (cc)
+
+        refused-at : (q : ℕ) (u : M .Words) (s : M .Restore) (ds : List (Call M)) → (restore q u s ∷ ds ≡ third) ⊎ ((restore q u s ∷ ds ≡ second) ⊎ (restore q u s ∷ ds ≡ first)) → M .restores u s ≡ false → ⊥
+        refused-at q u s ds (inl e) t =
+            let y : u ≡ v = cc in
+            let z : s ≡ r = cc in
+            false≢true (sym (rw (y, z) at t) ∙ restores)
+        refused-at q u s ds (inr (inl e)) t = clash (cc)
+        refused-at q u s ds (inr (inr e)) t = clash (cc)
