@@ -4,25 +4,23 @@
 use Prim.Native.Nat.{ℕ, _≤_}
 use mathlib.Core.Bool.{Bool, true}
 use mathlib.Core.List.{List, [], _∷_, _++_}
-use mathlib.Core.Option.{Option, none, some}
-use mathlib.Core.Path.{_≡_, refl, sym, ap, _∙_}
-use lib.Dec.{eqb, ltb}
+use mathlib.Core.Option.{none, some}
+use mathlib.Core.Path.{_≡_, refl, ap, _∙_}
 use lib.ListN.{length, take}
 use borrow.Author.Tests.{le-ltb}
 use Rattle.records.specs.Layout.{stateWords}
-use Rattle.turn.specs.Turn.{sentLength, turnOutcome, turnBytes}
-use Rattle.turn.specs.declared.Outcome.{Outcome}
+use Rattle.turn.specs.Turn.{sentLength, turnBytes}
 use Rattle.journal.specs.Journal.{turnRoom, turnedOutcome}
 use Rattle.journal.specs.Laws.{acts-outcome}
-use Rattle.restore.specs.Complete.{linesOf, joined}
-use Rattle.restore.specs.Restoring.{MESSAGE-BYTES, Replay, right, replay, lengthAgain, bytesAgain, replayAnswer, replayWords, replayBytes, lentAnswer, restoreAnswer, restoredWords, restoredBytes}
+use Rattle.restore.specs.Restoring.{MESSAGE-BYTES, lengthAgain, bytesAgain, replayAnswer, replayWords, replayBytes, lentAnswer, restoreAnswer, restoredWords, restoredBytes}
 use Rattle.restore.specs.declared.Restored.the-variants as answer
 use Rattle.agreement.specs.Moments.{Within, now}
-use Rattle.agreement.specs.Calls.{Call, opening, delivery, turn, report, restore, engine, Agreed, TurnLent, Moment, Journal, words, bytes, complete, journal, Opened, Conditions}
-use Rattle.agreement.specs.Openings.{history, opened-known}
+use Rattle.agreement.specs.Calls.{Call, opening, delivery, turn, report, restore, engine, Agreed, Moment, Journal, words, bytes, complete, journal, Opened, Conditions}
+use Rattle.agreement.specs.Openings.{opened-known}
 use Rattle.agreement.specs.Journals.{cut-at, complete-within}
 use Rattle.agreement.specs.Laws.{Ran, by-opening, by-delivery, by-turn}
-use Rattle.agreement.specs.Lists.{Live, before, known-live, all-good}
+use Rattle.agreement.specs.Chains.{before, known-live}
+use Rattle.agreement.specs.Lists.{all-good}
 use Rattle.agreement.specs.EngineReading.{engineReading}
 use Rattle.agreement.specs.EngineJournal.{Last, wordsBefore, CutRead, cut-read}
 use Rattle.agreement.specs.EngineDemand.{engine-laws}
@@ -115,7 +113,7 @@ restore-gives S H start cs k p o text cut d ks e v lent size room =
     let laws = engine-laws H in
     let good = all-good engine engineReading H laws start S cs cs now k cs now in
     let x = opened-known engine engineReading start cs p o in
-    let live = known-live engine engineReading H laws start S cs cs good p (x .by-opening) (x .known) in
+    let live = known-live engine engineReading H start S cs cs good p (x .by-opening) (x .known) in
     let js = journal engine start cs p in
     let at = cut-at engine (length text) js in
     let inside : Within (d ∷ ks) js = rw e at (complete-within engine (length text) js) in

@@ -36,7 +36,7 @@ use Rattle.agreement.specs.Evidence.{World}
 use Rattle.agreement.specs.History.{Act, send}
 use Rattle.held.specs.Keeping.{count-back, set-back}
 use Rattle.agreement.specs.Runs.{Kept}
-use Rattle.agreement.specs.Calls.{Arguments, agreed, Bytes, TurnLent, SendsBytes, engine, world}
+use Rattle.agreement.specs.Calls.{Arguments, agreed, Bytes, TurnLent, engine, world}
 use Rattle.agreement.specs.Laws.{Quiet, Active, Turned}
 use Rattle.agreement.specs.EngineSeen.{engineSeen}
 use Rattle.agreement.specs.EngineLent.{forMessage, room-same, SendsPlain, sends-plain}

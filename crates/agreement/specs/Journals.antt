@@ -1,15 +1,15 @@
 -- Journals: a cut leaves complete lines and a part of one more; what was written stays until a restore, and what left stays for good.
 use Prim.Native.Nat.{ℕ, _+_, _-_, _≤_, _<_}
-use mathlib.Core.Bool.{Bool, true, false, cond, false≢true}
+use mathlib.Core.Bool.{Bool, true, false, cond}
 use mathlib.Core.List.{List, [], _∷_, _++_, append-nil}
-use mathlib.Core.Logic.{_⊎_, inl, inr, _≢_}
+use mathlib.Core.Logic.{_⊎_, inl, inr}
 use mathlib.Core.Path.{_≡_, refl, sym, ap, _∙_}
 use native.Mathlib.Omega.{arith}
 use native.Mathlib.Decide.{decLe}
 use lib.Dec.{eqb, leb}
 use lib.ListN.{length, take, drop, length-append, length-drop, take-append-drop}
 use lib.Seq.{take-all, take-nil, take-append-le, take-append-add}
-use borrow.Author.Tests.{eqb-true, eq-eqb, leb-true, leb-false, le-leb}
+use borrow.Author.Tests.{eqb-true, leb-true, leb-false, le-leb}
 use Rattle.agreement.specs.Moments.{Within, now, after, within-tail, within-trans, within-cases, within-none}
 use Rattle.agreement.specs.Calls.{Machine, Call, opening, delivery, turn, report, restore, Moment, Journal, place, words, newest, bytes, complete, wrote, Stands, journal, Opened, Sent, Departed, Conditions, world}
 use Rattle.agreement.specs.Evidence.{Honest}

@@ -11,6 +11,7 @@ pub mod Laws
 pub mod Openings
 pub mod Journals
 pub mod Plain
+pub mod Chains
 pub mod Lists
 pub mod Demand
 pub mod EngineSeen

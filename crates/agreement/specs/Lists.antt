@@ -3,174 +3,47 @@
 use Prim.Native.Nat.{ℕ}
 use mathlib.Core.Bool.{Bool, true, false, _&&_, cond, false≢true}
 use mathlib.Core.List.{List, [], _∷_, _++_}
-use mathlib.Core.Logic.{_⊎_, inl, inr, _≢_}
+use mathlib.Core.Logic.{_⊎_, inl, inr}
 use mathlib.Core.Option.{Option, none, some}
-use mathlib.Core.Path.{_≡_, refl, sym, ap, subst, _∙_}
-use native.Mathlib.Omega.{arith}
+use mathlib.Core.Path.{_≡_, refl, sym, ap, _∙_}
 use native.Mathlib.Decide.{ℕ-discrete}
 use lib.Dec.{eqb}
-use lib.ListN.{length, take}
+use lib.ListN.{length}
 use borrow.Author.Tests.{eq-eqb, ne-eqb, eqb-true}
-use Rattle.settings.specs.Laws.{Ruled}
 use Rattle.agreement.specs.Evidence.{World, Honest}
-use Rattle.agreement.specs.History.{Act, echo, aux, History, Did, by, Lawful, Single}
+use Rattle.agreement.specs.History.{Act, History, Did, Lawful, Single}
 use Rattle.held.specs.Held.{Message, ECHO, AUX}
-use Rattle.agreement.specs.Moments.{Within, now, after, within-tail, within-trans, within-cases, within-none, within-either}
-use Rattle.agreement.specs.Runs.{Said, message, echo-of, aux-of, said-of, Gone, Credit, Inv, due-guard, inv-blank, inv-keep, inv-fewer, inv-kept, inv-delivered, inv-acted}
-use Rattle.agreement.specs.Calls.{Machine, Call, opening, delivery, turn, report, restore, Moment, Journal, Stands, world, place, left, words, wrote, bytes, complete, journal, Sent, Departed, FallsBack, Conditions}
-use Rattle.agreement.specs.Laws.{Reading, Turned, Laws, Ran, by-opening, by-delivery, by-turn, Torn}
+use Rattle.agreement.specs.Moments.{Within, now, after, within-tail, within-trans, within-cases, within-none}
+use Rattle.agreement.specs.Runs.{Said, message, echo-of, aux-of, said-of, Gone, Credit, due-guard, inv-blank, inv-fewer, inv-kept, inv-delivered, inv-acted}
+use Rattle.agreement.specs.Calls.{Machine, Call, opening, delivery, turn, report, restore, Moment, Journal, world, place, left, words, wrote, bytes, complete, journal, Sent, FallsBack, Conditions}
+use Rattle.agreement.specs.Laws.{Reading, Turned, Laws, by-opening, by-delivery, by-turn}
 use Rattle.agreement.specs.Openings.{becomes, did, tell, status, history, Known, opened-known, known-opened}
-use Rattle.agreement.specs.Journals.{CutAt, cut-at, complete-within, journal-within, opened-within, conditions-within, departed-sent}
-
-none-some : {A : Type 0} (x : A) → none ≡ some x → ⊥
-none-some x e = let z : _≡_ {A = ℕ} 0 1 = cc in omega arith
-
-module _ (M : Machine) (R : Reading M) (start : ℕ → M .Words) where
-  -- the act of a line
-  abbrev pub noted : Moment M → Option Act
-  noted [] = none
-  noted (opening p o ∷ cs) = none
-  noted (delivery p m b ∷ cs) = none
-  noted (turn p l ∷ cs) = R .act (words M start cs p) l
-  noted (report p r ∷ cs) = none
-  noted (restore p v r ∷ cs) = none
-
-  -- the words before a line, and what its call was lent, where it is a turn's
-  abbrev pub before : Moment M → Option (M .Words × M .Lent)
-  before [] = none
-  before (opening p o ∷ cs) = none
-  before (delivery p m b ∷ cs) = none
-  before (turn p l ∷ cs) = some (words M start cs p, l)
-  before (report p r ∷ cs) = none
-  before (restore p v r ∷ cs) = none
-
-  -- a stands in a journal
-  abbrev pub Noted : Journal M → Act → Type 0
-  Noted [] a = ⊥
-  Noted (d ∷ js) a = (noted d ≡ some a) ⊎ Noted js a
-
-  pub noted-within : {d : Moment M} {ks js : Journal M} (a : Act) → Within (d ∷ ks) js → noted d ≡ some a → Noted js a
-  noted-within a now e = inl e
-  noted-within a (after c w) e = inr (noted-within a w e)
-
-  pub words-here : (c : Call M) (cs : List (Call M)) → words M start (c ∷ cs) (place M c) ≡ left M c (words M start cs (place M c))
-  unfolding words
-  words-here c cs = rw (eq-eqb (place M c) (place M c) refl)
+use Rattle.agreement.specs.Journals.{cut-at, complete-within, journal-within, opened-within, conditions-within, departed-sent}
+use Rattle.agreement.specs.Chains.{none-some, noted, before, Noted, noted-within, words-here, history-within, belongs, ran, keeps, live-keep, live-line, elsewhere, known-live}
+use Rattle.agreement.specs.Chains as chains
 
 -- calls: the whole list
 module _ (M : Machine) (R : Reading M) (H : ℕ → Bool) (laws : Laws M R H) (start : ℕ → M .Words) (S : M .Session) (calls : List (Call M)) where
   abbrev W : World
   W = world M S H
 
-  -- the message x of m left
-  pub record Left (m : ℕ) (x : Message) : Type 0 where
-    pub bytes : M .Bytes
-    pub departed : Departed M start calls m bytes
-    pub honest : Honest W m
-    pub says : R .Says S m bytes x
+  abbrev Left : ℕ → Message → Type 0
+  Left = chains.Left M R H start S calls
 
-  abbrev pub Keeps : History → (Act → Type 0) → ℕ → M .Words → Type 0
-  Keeps h J p w = Inv W (R .seen) Left h J p w
+  abbrev Keeps : History → (Act → Type 0) → ℕ → M .Words → Type 0
+  Keeps = chains.Keeps M R H start S calls
 
-  -- a line of p's journal, with the older ones: the words after it belong to the opening, follow from the lines, and hold what was said
-  pub record Point (o : M .Opening) (h : History) (p : ℕ) (d : Moment M) (ks : Journal M) : Type 0 where
-    pub belongs : R .Belongs o (words M start d p)
-    pub ran : Ran M (bytes M (d ∷ ks)) (words M start d p) (before M R start d)
-    pub keeps : Keeps h (Noted M R start (d ∷ ks)) p (words M start d p)
+  abbrev Point : M .Opening → History → ℕ → Moment M → Journal M → Type 0
+  Point = chains.Point M R H start S calls
 
-  abbrev pub Chain : M .Opening → History → ℕ → Journal M → Type 0
-  Chain o h p js = (d : Moment M) (ks : Journal M) → Within (d ∷ ks) js → Point o h p d ks
+  abbrev Live : M .Opening → History → ℕ → M .Words → Journal M → Type 0
+  Live = chains.Live M R H start S calls
 
-  -- p was opened by o, w are its words and js its journal: the words are those after the last line
-  pub record Live (o : M .Opening) (h : History) (p : ℕ) (w : M .Words) (js : Journal M) : Type 0 where
-    pub session : M .session o ≡ S
-    pub ruled : Ruled (M .settings S)
-    pub numbered : M .own o ≡ p
-    pub last : Moment M
-    pub older : Journal M
-    pub ends : js ≡ last ∷ older
-    pub same : w ≡ words M start last p
-    pub chain : Chain o h p js
+  abbrev At : Option (M .Opening) → History → ℕ → M .Words → Journal M → Type 0
+  At = chains.At M R H start S calls
 
-  abbrev pub At : Option (M .Opening) → History → ℕ → M .Words → Journal M → Type 0
-  At none h p w js = Unit {0}
-  At (some o) h p w js = Live o h p w js
-
-  pub record Good (cs : List (Call M)) : Type 0 where
-    pub lawful : Lawful W (Gone W (R .seen) Left) (history M R start cs)
-    pub each : (p : ℕ) → At (status M R start cs p) (history M R start cs) p (words M start cs p) (journal M start cs p)
-
-  -- ---- what a live one has
-
-  module _ (o : M .Opening) (h : History) (p : ℕ) (w : M .Words) (js : Journal M) (live : Live o h p w js) where
-    newest-point : Point o h p (live .last) (live .older)
-    newest-point = live .chain (live .last) (live .older) (rw (live .ends) now)
-
-    pub belongs : R .Belongs o w
-    belongs = rw (live .same) (newest-point .belongs)
-
-    pub ran : Ran M (bytes M js) w (before M R start (live .last))
-    ran = rw (live .same, live .ends) (newest-point .ran)
-
-    pub keeps : Keeps h (Noted M R start js) p w
-    keeps = rw (live .same, live .ends) (newest-point .keeps)
-
-  point-keep : (x : Option Act) (q : ℕ) (o : M .Opening) (h : History) (p : ℕ) (d : Moment M) (ks : Journal M) → Point o h p d ks → Point o (tell M R q x h) p d ks
-  point-keep none q o h p d ks x = x
-  point-keep (some a) q o h p d ks x =
-      record { belongs = x .belongs; ran = x .ran; keeps = inv-keep W (R .seen) Left (by q a) h (Noted M R start (d ∷ ks)) p (words M start d p) (x .keeps) }
-
-  -- whatever is done, by whomever
-  live-keep : (x : Option Act) (q : ℕ) (o : M .Opening) (h : History) (p : ℕ) (w : M .Words) (js : Journal M) → Live o h p w js → Live o (tell M R q x h) p w js
-  live-keep x q o h p w js l =
-      record {
-        session = l .session;
-        ruled = l .ruled;
-        numbered = l .numbered;
-        last = l .last;
-        older = l .older;
-        ends = l .ends;
-        same = l .same;
-        chain = λ d ks v. point-keep x q o h p d ks (l .chain d ks v);
-      }
-
-  -- one more line
-  live-line : (x : Option Act) (o : M .Opening) (h : History) (p : ℕ) (w : M .Words) (js : Journal M) → Live o h p w js → (d : Moment M) (v : M .Words) → words M start d p ≡ v → Point o (tell M R p x h) p d js → Live o (tell M R p x h) p v (d ∷ js)
-  live-line x o h p w js l d v e new =
-      record {
-        session = l .session;
-        ruled = l .ruled;
-        numbered = l .numbered;
-        last = d;
-        older = js;
-        ends = refl;
-        same = sym e;
-        chain = λ f ks u. at f ks (within-cases d js u);
-      }
-    where
-      at : (f : Moment M) (ks : Journal M) → (f ∷ ks ≡ d ∷ js) ⊎ Within (f ∷ ks) js → Point o (tell M R p x h) p f ks
-      at f ks (inl q) =
-          let a : f ≡ d = cc in
-          let b : ks ≡ js = cc in
-          rw (a, b) new
-      at f ks (inr u) = point-keep x p o h p f ks (l .chain f ks u)
-
-  elsewhere : (st : Option (M .Opening)) (x : Option Act) (h : History) (p q : ℕ) (w : M .Words) (js : Journal M) → At st h q w js → At st (tell M R p x h) q w js
-  elsewhere none x h p q w js g = tt
-  elsewhere (some o) x h p q w js g = live-keep x p o h q w js g
-
-  tell-within : {k : History} (p : ℕ) (x : Option Act) (h : History) → Within k h → Within k (tell M R p x h)
-  tell-within p none h w = w
-  tell-within p (some a) h w = after (by p a) w
-
-  pub history-within : {ds cs : List (Call M)} → Within ds cs → Within (history M R start ds) (history M R start cs)
-  unfolding history
-  history-within now = now
-  history-within (after {cs = cs} c w) = tell-within (place M c) (did M R c (words M start cs (place M c)) (status M R start cs (place M c))) (history M R start cs) (history-within w)
-
-  -- one that is opened is live
-  pub known-live : (cs : List (Call M)) → Good cs → (p : ℕ) (o : M .Opening) → status M R start cs p ≡ some o → Live o (history M R start cs) p (words M start cs p) (journal M start cs p)
-  known-live cs g p o e = rw e at (g .each p)
+  abbrev Good : List (Call M) → Type 0
+  Good = chains.Good M R H start S calls
 
   -- ---- what is credited was said
 
@@ -189,20 +62,20 @@ module _ (M : Machine) (R : Reading M) (H : ℕ → Bool) (laws : Laws M R H) (s
       within = journal-within M start cs m (turn m (sent .lent) ∷ sent .past) (sent .stands .older) (sent .stands .within)
 
       of : Known M R start (sent .past) m → SentAct cs m x (turn m (sent .lent) ∷ sent .past)
-      of k = go (R .act w (sent .lent)) refl (laws .turn-told (k .by-opening) w (belongs (k .by-opening) (history M R start (sent .past)) m w (journal M start (sent .past) m) live) (sent .lent))
+      of k = go (R .act w (sent .lent)) refl (laws .turn-told (k .by-opening) w (belongs live) (sent .lent))
         where
           w : M .Words
           w = words M start (sent .past) m
 
           live : Live (k .by-opening) (history M R start (sent .past)) m w (journal M start (sent .past) m)
-          live = known-live (sent .past) (past (sent .past) (within-tail (turn m (sent .lent)) within)) m (k .by-opening) (k .known)
+          live = known-live M R H start S calls (sent .past) (past (sent .past) (within-tail (turn m (sent .lent)) within)) m (k .by-opening) (k .known)
 
           go : (y : Option Act) → R .act w (sent .lent) ≡ y → Turned M R H (k .by-opening) w (sent .lent) y → SentAct cs m x (turn m (sent .lent) ∷ sent .past)
           go none e q = absurd (q .silent b (sent .sends))
           go (some a) e q =
               let s : R .Says S m b (message W a) = rw (live .session, live .numbered) at (q .says b (sent .sends)) in
               let d : Did (history M R start (turn m (sent .lent) ∷ sent .past)) m a = rw (k .known, e) (inl refl) in
-              record { act = a; says = laws .says-one S m b x (message W a) says s; notes = e; done = did-later a (history-within within) d }
+              record { act = a; says = laws .says-one S m b x (message W a) says s; notes = e; done = did-later a (history-within M R start within) d }
             where
               did-later : (a : Act) {h k : History} → Within h k → Did h m a → Did k m a
               did-later a now d = d
@@ -317,7 +190,7 @@ module _ (M : Machine) (R : Reading M) (H : ℕ → Bool) (laws : Laws M R H) (s
         verdict : (o : M .Opening) → now-status p ≡ some o → Live o h p w js → (t : Bool) → M .accepts w m b ≡ t → Live o h p (M .delivered w m b) (cond t (d ∷ js) js)
         verdict o e live false t = rw (laws .deliver-refused w m b t) live
         verdict o e live true t =
-            let x = laws .deliver-accepted o w (belongs o h p w js live) m b t in
+            let x = laws .deliver-accepted o w (belongs live) m b t in
             let is-opened = known-opened M R start cs p o e .is-opened in
             let says : R .Says S m b (x .said) = rw (live .session) at (x .says) in
             let credit : Honest W m → Credit W (R .seen) Left h m (x .said) =
@@ -326,11 +199,11 @@ module _ (M : Machine) (R : Reading M) (H : ℕ → Bool) (laws : Laws M R H) (s
               gone = record { bytes = b; departed = record { who = p; past = cs; within = inside; opened = is-opened; accepted = t }; honest = hm; says = says };
             } in
             let here : words M start d p ≡ M .delivered w m b = words-here M R start (delivery p m b) cs in
-            let kept = inv-delivered W (R .seen) Left h (Noted M R start js) p w (M .delivered w m b) (keeps o h p w js live) m (x .said) credit (rw (live .session) at (x .holds)) in
-            live-line none o h p w js live d (M .delivered w m b) here
+            let kept = inv-delivered W (R .seen) Left h (Noted M R start js) p w (M .delivered w m b) (keeps live) m (x .said) credit (rw (live .session) at (x .holds)) in
+            live-line live none d (M .delivered w m b) here
             (record {
               belongs = rw here (x .belongs);
-              ran = rw here (by-delivery (bytes M js) w (before M R start (live .last)) m b (ran o h p w js live) t);
+              ran = rw here (by-delivery (bytes M js) w (before M R start (live .last)) m b (ran live) t);
               keeps = rw here (inv-fewer W (R .seen) Left h (Noted M R start js) (Noted M R start (d ∷ js)) p (M .delivered w m b) older kept);
             })
           where
@@ -360,12 +233,12 @@ module _ (M : Machine) (R : Reading M) (H : ℕ → Bool) (laws : Laws M R H) (s
 
         -- one more line, or none
         written : (o : M .Opening) → Live o h p w js → (x : Option Act) → (Keeps (tell M R p x h) (Noted M R start (d ∷ js)) p (M .turned w l)) → (t : Bool) → M .acts w l ≡ t → Live o (tell M R p x h) p (M .turned w l) (cond t (d ∷ js) js)
-        written o live x k false t = rw (laws .turn-idle o w (belongs o h p w js live) l t) (live-keep x p o h p w js live)
+        written o live x k false t = rw (laws .turn-idle o w (belongs live) l t) (live-keep live x p)
         written o live x k true t =
-            live-line x o h p w js live d (M .turned w l) here
+            live-line live x d (M .turned w l) here
             (record {
-              belongs = rw here (laws .turn-belongs o w (belongs o h p w js live) l);
-              ran = rw here (by-turn (bytes M js) w (before M R start (live .last)) l (ran o h p w js live) t);
+              belongs = rw here (laws .turn-belongs o w (belongs live) l);
+              ran = rw here (by-turn (bytes M js) w (before M R start (live .last)) l (ran live) t);
               keeps = rw here k;
             })
 
@@ -374,7 +247,7 @@ module _ (M : Machine) (R : Reading M) (H : ℕ → Bool) (laws : Laws M R H) (s
           good-now .lawful,
           written o live none
               (inv-fewer W (R .seen) Left h (Noted M R start js) (Noted M R start (d ∷ js)) p (M .turned w l) older
-              (inv-kept W (R .seen) Left h (Noted M R start js) p w (M .turned w l) (keeps o h p w js live) (rw (live .session) at (q .kept))))
+              (inv-kept W (R .seen) Left h (Noted M R start js) p w (M .turned w l) (keeps live) (rw (live .session) at (q .kept))))
               (M .acts w l) refl,
         )
           where
@@ -382,11 +255,11 @@ module _ (M : Machine) (R : Reading M) (H : ℕ → Bool) (laws : Laws M R H) (s
             older a (inl f) = absurd (none-some a (sym e ∙ f))
             older a (inr x) = x
         took o live (some a) e q =
-            let outs = rw (live .session) at (laws .outputs-held o w (belongs o h p w js live)) in
+            let outs = rw (live .session) at (laws .outputs-held o w (belongs live)) in
             let due = rw (live .session) at (q .due) in (
-              (good-now .lawful, due-guard W (R .seen) Left h (Noted M R start js) p w (keeps o h p w js live) outs a due),
+              (good-now .lawful, due-guard W (R .seen) Left h (Noted M R start js) p w (keeps live) outs a due),
               written o live (some a)
-                  (inv-acted W (R .seen) Left h (Noted M R start js) p w (M .turned w l) (keeps o h p w js live) a due (rw (live .session) at (q .acted)) (Noted M R start (d ∷ js)) only)
+                  (inv-acted W (R .seen) Left h (Noted M R start js) p w (M .turned w l) (keeps live) a due (rw (live .session) at (q .acted)) (Noted M R start (d ∷ js)) only)
                   (M .acts w l) refl,
             )
           where
@@ -397,7 +270,7 @@ module _ (M : Machine) (R : Reading M) (H : ℕ → Bool) (laws : Laws M R H) (s
         go : (st : Option (M .Opening)) → At st h p w js → Placed (turn p l) st
         go none silent = record { lawful = good-now .lawful; at = tt }
         go (some o) live =
-            let x = took o live (R .act w l) refl (laws .turn-told o w (belongs o h p w js live) l) in
+            let x = took o live (R .act w l) refl (laws .turn-told o w (belongs live) l) in
             record { lawful = x .0; at = x .1 }
 
     placed-restore : (p : ℕ) (v : M .Words) (r : M .Restore) → Conditions M start S H (restore p v r ∷ cs) → Placed (restore p v r) (now-status p)
@@ -454,7 +327,7 @@ module _ (M : Machine) (R : Reading M) (H : ℕ → Bool) (laws : Laws M R H) (s
 
         at : (q : ℕ) → Dec (q ≡ place M c) → At (status M R start (c ∷ cs) q) (history M R start (c ∷ cs)) q (words M start (c ∷ cs) q) (journal M start (c ∷ cs) q)
         at q (yes e) = rw (e, eq-eqb (place M c) (place M c) refl) (here .at)
-        at q (no ne) = rw (ne-eqb q (place M c) ne) (elsewhere (now-status q) (did M R c (now-words (place M c)) (now-status (place M c))) h (place M c) q (now-words q) (now-journal q) (good-now .each q))
+        at q (no ne) = rw (ne-eqb q (place M c) ne) (elsewhere M R H start S calls (now-status q) (did M R c (now-words (place M c)) (now-status (place M c))) h (place M c) q (now-words q) (now-journal q) (good-now .each q))
 
   -- ---- the whole list
 
@@ -488,12 +361,12 @@ module _ (M : Machine) (R : Reading M) (H : ℕ → Bool) (laws : Laws M R H) (s
         let s = departed-sent M start S H m (l .bytes) calls conditions (l .honest) (l .departed) in
         let y = sent-act calls good m (l .bytes) x (l .says) s in
         let k = opened-known M R start calls m (opened-within M start m (within-tail (turn m (s .lent)) (journal-within M start calls m (turn m (s .lent) ∷ s .past) (s .stands .older) (s .stands .within))) (s .opened)) in
-        let live = known-live calls (good calls now) m (k .by-opening) (k .known) in
+        let live = known-live M R H start S calls calls (good calls now) m (k .by-opening) (k .known) in
         record {
           act = y .act;
           says = y .says;
           stands = noted-within M R start (y .act) (s .stands .within) (y .notes);
-          single = keeps (k .by-opening) (history M R start calls) m (words M start calls m) (journal M start calls m) live .single;
+          single = keeps live .single;
         }
 
     pub left-single : Single (Gone W (R .seen) Left)

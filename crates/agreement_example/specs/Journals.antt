@@ -1,17 +1,17 @@
 -- The journal that the test computes is that of the concentrator, line by line.
 use Prim.Native.Nat.{ℕ}
-use mathlib.Core.Bool.{Bool, true, false, _&&_, _||_, not, cond, false≢true}
-use mathlib.Core.List.{List, [], _∷_, _++_}
+use mathlib.Core.Bool.{Bool, true, false, _||_, not, cond, false≢true}
+use mathlib.Core.List.{List, [], _∷_}
 use mathlib.Core.Logic.{_⊎_, inl, inr}
-use mathlib.Core.Path.{_≡_, refl, sym, ap, subst, _∙_}
-use borrow.Author.Tests.{eqb-true, eq-eqb}
+use mathlib.Core.Path.{_≡_, refl, subst}
+use borrow.Author.Tests.{eq-eqb}
 use lib.Dec.{eqb, leb}
 use lib.ListN.{length}
 use Rattle.quorum.specs.Bools.{and-left, and-right}
 use Rattle.records.specs.Layout.{stateWords}
-use Rattle.agreement.specs.Moments.{Within, now, after}
+use Rattle.agreement.specs.Moments.{now, after}
 use Rattle.agreement.specs.Calls.{Call, turn, engine, Bytes, TurnLent, SendsBytes, Moment, Journal, newest, bytes, complete, Stands, words, journal, Opened, Sent}
-use Rattle.agreement_example.specs.Checking.{Line, Gone, sameList, among, wasSent, textOf, completeOf, some, keeps}
+use Rattle.agreement_example.specs.Checking.{Line, Gone, among, wasSent, textOf, completeOf, keeps}
 use Rattle.agreement_example.specs.Entries.{or-second, not-of-true}
 
 module _ (start : ℕ → List ℕ) (p : ℕ) where

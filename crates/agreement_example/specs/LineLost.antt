@@ -2,10 +2,10 @@
 -- opening alone. Whichever session and whichever honest ones are chosen, the list does not meet the conditions of demand 3, so the calls of this
 -- concentrator are in no list that does.
 use Prim.Native.Nat.{ℕ}
-use mathlib.Core.Bool.{Bool, true, false, _&&_, not, false≢true}
+use mathlib.Core.Bool.{Bool, true, _&&_, not, false≢true}
 use mathlib.Core.List.{List, [], _∷_}
 use mathlib.Core.Logic.{_⊎_, inl, inr}
-use mathlib.Core.Path.{_≡_, refl, sym, ap, subst, _∙_}
+use mathlib.Core.Path.{_≡_, refl, sym, ap, _∙_}
 use lib.ListN.{length}
 use Rattle.quorum.specs.Bools.{and-left, and-right}
 use Rattle.records.specs.Layout.{stateWords}
@@ -13,7 +13,7 @@ use Rattle.wire.specs.Message.{encode}
 use Rattle.wire.specs.declared.Message.the-variants.{Send}
 use Rattle.agreement.specs.Evidence.{Honest}
 use Rattle.agreement.specs.Moments.{Within, now, within-cases, within-none}
-use Rattle.agreement.specs.Calls.{Call, opening, restore, turn, engine, Agreed, Bytes, TurnLent, Moment, Journal, newest, world, journal, words, Opened, Departed, Conditions}
+use Rattle.agreement.specs.Calls.{Call, opening, restore, turn, engine, Agreed, Bytes, TurnLent, Journal, newest, world, journal, Departed, Conditions}
 use Rattle.agreement_example.specs.Messages.{bytesOf, openingOf, deliver, turnOf}
 use Rattle.agreement_example.specs.One.{session, everyone}
 use Rattle.agreement_example.specs.PowerLost.{firstLine, from}

@@ -12,7 +12,7 @@ use lib.Seq.{take-length, take-append-seam}
 use borrow.Author.Tests.{eq-eqb, le-leb}
 use Rattle.agreement.specs.Evidence.{Honest}
 use Rattle.agreement.specs.Moments.{Within, now, after, within-cases, within-none}
-use Rattle.agreement.specs.Calls.{Machine, Call, opening, delivery, turn, report, restore, Moment, Journal, world, place, words, bytes, complete, journal, Opened, Departed, FallsBack, Conditions}
+use Rattle.agreement.specs.Calls.{Machine, Call, opening, delivery, turn, restore, Moment, Journal, world, place, words, bytes, complete, journal, Opened, FallsBack, Conditions}
 
 clash : {A : Type 0} → _≡_ {A = ℕ} 0 1 → A
 clash e = absurd (omega arith)

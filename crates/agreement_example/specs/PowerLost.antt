@@ -3,7 +3,7 @@
 --   Then the SEND was delivered to itself, so its line must stand. The lines of that delivery and of the ECHO are lost: the ECHO reached nobody,
 --   the SEND is delivered once more.
 use Prim.Native.Nat.{ℕ}
-use mathlib.Core.Bool.{Bool, true}
+use mathlib.Core.Bool.{true}
 use mathlib.Core.List.{List, [], _∷_, _++_}
 use mathlib.Core.Path.{_≡_, refl}
 use lib.ListN.{length}

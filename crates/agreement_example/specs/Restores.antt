@@ -1,32 +1,24 @@
 -- A restore from a cut of the journal that the check computes is accepted, and leaves what the check says.
 use Prim.Native.Nat.{ℕ, _≤_}
-use mathlib.Core.Bool.{Bool, true, false, _&&_, _||_, not, cond, false≢true}
+use mathlib.Core.Bool.{Bool, true, false, cond, false≢true}
 use mathlib.Core.List.{List, [], _∷_}
-use mathlib.Core.Logic.{_⊎_, inl, inr}
-use mathlib.Core.Path.{_≡_, refl, sym, ap, subst, _∙_}
+use mathlib.Core.Path.{_≡_, refl, sym, ap, _∙_}
 use native.Mathlib.Omega.{arith}
-use borrow.Author.Tests.{eqb-true, eqb-false, eq-eqb, leb-true, not-true}
+use borrow.Author.Tests.{eqb-true, leb-true}
 use lib.Dec.{eqb, leb}
 use lib.ListN.{length, take}
 use Rattle.quorum.specs.Bools.{and-left, and-right}
 use Rattle.records.specs.Layout.{stateWords}
-use Rattle.wire.specs.Message.{lengthOf}
-use Rattle.wire.specs.declared.Message.{Message}
-use Rattle.turn.specs.declared.Outcome.{Outcome}
-use Rattle.turn.specs.declared.Outcome.the-variants as outcome
-use Rattle.journal.specs.Journal.{turnedOutcome, turnedMessage}
 use Rattle.restore.specs.Restoring.{MESSAGE-BYTES, accepted}
 use Rattle.agreement.specs.Evidence.{Honest}
-use Rattle.agreement.specs.Moments.{now}
-use Rattle.agreement.specs.Calls.{Call, opening, delivery, turn, report, restore, engine, Arguments, Agreed, Bytes, TurnLent, RestoreLent, agreed, world, place, left, Moment, Journal, wrote, bytes, complete, words, journal, Opened, Sent, Departed, FallsBack, SendsBytes}
-use Rattle.agreement.specs.EngineOpening.{first, opened-first, open-refused}
+use Rattle.agreement.specs.Calls.{Call, restore, engine, Agreed, RestoreLent, world, Moment, Journal, bytes, complete, words, journal, FallsBack}
+use Rattle.agreement.specs.EngineOpening.{first}
 use Rattle.agreement.specs.EngineRestores.{Gives, RestoreGives, restore-gives}
-use Rattle.agreement_example.specs.Lists.{not-opened, not-departed, opened-later, opened-before, opened-cases, NoOpening, Leaves, NoDelivery, departed-before, departed-cases, DeliveryMeets, RestoreMeets, AllMeet, conditions-met}
-use Rattle.agreement_example.specs.Checking.{Line, Entry, Gone, isOpened, wordsOf, linesOf, withEntry, sameList, among, wasSent, textOf, completeOf, some, lastWords, keeps, sentIn, sentBy, sameSession, opens, firstLines, deliveryLines, turnLines, statesAfter, goneAfter, restoreRight, listed, openingRight, deliveryRight, callRight, step, run}
-use Rattle.agreement_example.specs.Lengths.{NoRestore, length-left}
-use Rattle.agreement_example.specs.Entries.{or-second, not-of-true, same-list, same-session, lines-none, opened-with, words-with, lines-with}
+use Rattle.agreement_example.specs.Lists.{departed-before, conditions-met}
+use Rattle.agreement_example.specs.Checking.{Line, Entry, Gone, isOpened, linesOf, sameList, textOf, completeOf, some, lastWords, keeps, statesAfter, restoreRight}
+use Rattle.agreement_example.specs.Entries.{same-list}
 use Rattle.agreement_example.specs.Tracks.{words-here, journal-here, words-else, Tracks, entry-next}
-use Rattle.agreement_example.specs.Journals.{SentAt, Matches, AllMatch, bytes-same, complete-same, sent-in, sent-of, IsGone, kept-sent}
+use Rattle.agreement_example.specs.Journals.{AllMatch, bytes-same, complete-same, sent-in, sent-of, kept-sent}
 
 module _ (start : ℕ → List ℕ) (S : Agreed) (H : ℕ → Bool) (v : ℕ) {cs : List (Call engine)} {xs : List Entry} {gs : List Gone} (x : Tracks start S H v cs xs gs) where
   module _ (p : ℕ) (u : List ℕ) (r : RestoreLent) (sized : length u ≡ stateWords) (k : isOpened xs p ≡ true) (right : restoreRight r (linesOf xs p) ≡ true) where

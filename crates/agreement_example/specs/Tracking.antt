@@ -1,13 +1,12 @@
 -- The check of specs/Checking.antt is sound: a list that passes it meets the conditions of demand 3, and the words that it computes are
 -- those of the concentrators, whatever 2,048 words each buffer held at the start, and whatever 2,048 words a restore finds.
-use Prim.Native.Nat.{ℕ, _≤_}
+use Prim.Native.Nat.{ℕ}
 use mathlib.Core.Bool.{Bool, true, false, _&&_, _||_, not, cond, false≢true}
 use mathlib.Core.List.{List, [], _∷_}
 use mathlib.Core.Logic.{_⊎_, inl, inr}
 use mathlib.Core.Path.{_≡_, refl, sym, ap, subst, _∙_}
-use native.Mathlib.Omega.{arith}
-use borrow.Author.Tests.{eqb-true, eqb-false, eq-eqb, leb-true, not-true}
-use lib.Dec.{eqb, leb}
+use borrow.Author.Tests.{eqb-true, eqb-false, not-true}
+use lib.Dec.{eqb}
 use lib.ListN.{length, take}
 use Rattle.quorum.specs.Bools.{and-left, and-right}
 use Rattle.records.specs.Layout.{stateWords}
@@ -16,19 +15,17 @@ use Rattle.wire.specs.declared.Message.{Message}
 use Rattle.turn.specs.declared.Outcome.{Outcome}
 use Rattle.turn.specs.declared.Outcome.the-variants as outcome
 use Rattle.journal.specs.Journal.{turnedOutcome, turnedMessage}
-use Rattle.restore.specs.Restoring.{MESSAGE-BYTES, accepted}
+use Rattle.restore.specs.Restoring.{accepted}
 use Rattle.agreement.specs.Evidence.{Honest}
 use Rattle.agreement.specs.Moments.{now}
-use Rattle.agreement.specs.Calls.{Call, opening, delivery, turn, report, restore, engine, Arguments, Agreed, Bytes, TurnLent, RestoreLent, agreed, world, place, left, Moment, Journal, wrote, bytes, complete, words, journal, Opened, Sent, Departed, FallsBack, SendsBytes}
-use Rattle.agreement.specs.EngineOpening.{first, opened-first, open-refused}
-use Rattle.agreement.specs.EngineRestores.{Gives, RestoreGives, restore-gives}
-use Rattle.agreement_example.specs.Lists.{not-opened, not-departed, opened-later, opened-before, opened-cases, NoOpening, Leaves, NoDelivery, departed-before, departed-cases, DeliveryMeets, RestoreMeets, AllMeet, conditions-met}
-use Rattle.agreement_example.specs.Checking.{Line, Entry, Gone, isOpened, wordsOf, linesOf, withEntry, sameList, among, wasSent, textOf, completeOf, some, lastWords, keeps, sentIn, sentBy, sameSession, opens, firstLines, deliveryLines, turnLines, statesAfter, goneAfter, restoreRight, listed, openingRight, deliveryRight, callRight, step, run}
-use Rattle.agreement_example.specs.Lengths.{NoRestore, length-left}
-use Rattle.agreement_example.specs.Entries.{or-second, not-of-true, same-list, same-session, lines-none, opened-with, words-with, lines-with}
+use Rattle.agreement.specs.Calls.{Call, opening, delivery, turn, report, restore, engine, Arguments, Agreed, Bytes, TurnLent, agreed, world, bytes, words, journal, Opened, Sent, Departed, SendsBytes}
+use Rattle.agreement.specs.EngineOpening.{first}
+use Rattle.agreement_example.specs.Lists.{not-opened, not-departed, opened-later, opened-cases, Leaves, departed-before, departed-cases, DeliveryMeets}
+use Rattle.agreement_example.specs.Checking.{Line, Entry, Gone, isOpened, wordsOf, linesOf, sameList, among, wasSent, some, sentIn, sentBy, sameSession, opens, firstLines, deliveryLines, turnLines, statesAfter, goneAfter, restoreRight, listed, openingRight, deliveryRight, callRight, step, run}
+use Rattle.agreement_example.specs.Entries.{or-second, not-of-true, same-list, same-session, lines-none}
 use Rattle.agreement_example.specs.Tracks.{words-here, journal-here, words-else, journal-else, size-next, opens-sized, opened-sized, Tracks, listed-honest, entry-next, line-next}
 use Rattle.agreement_example.specs.Restores.{restore-next}
-use Rattle.agreement_example.specs.Journals.{SentAt, Matches, AllMatch, bytes-same, complete-same, sent-in, sent-of, IsGone, kept-sent}
+use Rattle.agreement_example.specs.Journals.{SentAt, Matches, AllMatch, sent-in, sent-of, IsGone}
 
 -- each restore of a list finds 2,048 words
 abbrev pub AllSized : List (Call engine) → Type 0

@@ -1,31 +1,21 @@
 -- What the check of specs/Checking.antt knows after some calls, and how a call at one place changes it.
-use Prim.Native.Nat.{ℕ, _≤_}
-use mathlib.Core.Bool.{Bool, true, false, _&&_, _||_, not, cond, false≢true}
-use mathlib.Core.List.{List, [], _∷_}
-use mathlib.Core.Logic.{_⊎_, inl, inr}
-use mathlib.Core.Path.{_≡_, refl, sym, ap, subst, _∙_}
-use native.Mathlib.Omega.{arith}
-use borrow.Author.Tests.{eqb-true, eqb-false, eq-eqb, leb-true, not-true}
+use Prim.Native.Nat.{ℕ}
+use mathlib.Core.Bool.{Bool, true, false, _&&_, cond}
+use mathlib.Core.List.{List, _∷_}
+use mathlib.Core.Path.{_≡_, refl, sym, _∙_}
+use borrow.Author.Tests.{eqb-true, eq-eqb, leb-true}
 use lib.Dec.{eqb, leb}
-use lib.ListN.{length, take}
+use lib.ListN.{length}
 use Rattle.quorum.specs.Bools.{and-left, and-right}
 use Rattle.records.specs.Layout.{stateWords}
-use Rattle.wire.specs.Message.{lengthOf}
-use Rattle.wire.specs.declared.Message.{Message}
-use Rattle.turn.specs.declared.Outcome.{Outcome}
-use Rattle.turn.specs.declared.Outcome.the-variants as outcome
-use Rattle.journal.specs.Journal.{turnedOutcome, turnedMessage}
-use Rattle.restore.specs.Restoring.{MESSAGE-BYTES, accepted}
 use Rattle.agreement.specs.Evidence.{Honest}
-use Rattle.agreement.specs.Moments.{now}
-use Rattle.agreement.specs.Calls.{Call, opening, delivery, turn, report, restore, engine, Arguments, Agreed, Bytes, TurnLent, RestoreLent, agreed, world, place, left, Moment, Journal, wrote, bytes, complete, words, journal, Opened, Sent, Departed, FallsBack, SendsBytes}
+use Rattle.agreement.specs.Calls.{Call, engine, Arguments, Agreed, Bytes, world, place, left, Moment, Journal, wrote, words, journal, Opened, Departed}
 use Rattle.agreement.specs.EngineOpening.{first, opened-first, open-refused}
-use Rattle.agreement.specs.EngineRestores.{Gives, RestoreGives, restore-gives}
-use Rattle.agreement_example.specs.Lists.{not-opened, not-departed, opened-later, opened-before, opened-cases, NoOpening, Leaves, NoDelivery, departed-before, departed-cases, DeliveryMeets, RestoreMeets, AllMeet, conditions-met}
-use Rattle.agreement_example.specs.Checking.{Line, Entry, Gone, isOpened, wordsOf, linesOf, withEntry, sameList, among, wasSent, textOf, completeOf, some, lastWords, keeps, sentIn, sentBy, sameSession, opens, firstLines, deliveryLines, turnLines, statesAfter, goneAfter, restoreRight, listed, openingRight, deliveryRight, callRight, step, run}
+use Rattle.agreement_example.specs.Lists.{opened-later, opened-before, NoOpening, AllMeet}
+use Rattle.agreement_example.specs.Checking.{Line, Entry, Gone, isOpened, wordsOf, linesOf, withEntry, some, opens, listed}
 use Rattle.agreement_example.specs.Lengths.{NoRestore, length-left}
-use Rattle.agreement_example.specs.Entries.{or-second, not-of-true, same-list, same-session, lines-none, opened-with, words-with, lines-with}
-use Rattle.agreement_example.specs.Journals.{SentAt, Matches, AllMatch, bytes-same, complete-same, sent-in, sent-of, IsGone, kept-sent}
+use Rattle.agreement_example.specs.Entries.{opened-with, words-with, lines-with}
+use Rattle.agreement_example.specs.Journals.{Matches, AllMatch, IsGone}
 
 module _ (start : ℕ → List ℕ) where
   -- ---- a call at its place, and elsewhere

@@ -1,20 +1,20 @@
 -- What a line says is read back: an accepted opening, an accepted delivery, a turn that acts.
 use Prim.Native.Nat.{ℕ, suc, _+_, _-_, _*_, _/_, _%_, _^_, _≤_, _<_}
-use mathlib.Core.Bool.{Bool, true, false, cond, _&&_}
+use mathlib.Core.Bool.{Bool, true, false, cond}
 use mathlib.Core.List.{List, [], _∷_, _++_}
 use mathlib.Core.Logic.{inl, inr, _≢_}
-use mathlib.Core.Option.{Option, none, some}
+use mathlib.Core.Option.{none, some}
 use mathlib.Core.Path.{_≡_, refl, sym, ap, _∙_}
 use native.Mathlib.Omega.{arith}
 use native.Mathlib.Nat.{mod-lt}
-use lib.ListN.{length, replicate, take, drop, getD, length-append}
+use lib.ListN.{length, replicate, take, drop, length-append}
 use lib.Seq.{take-at, drop-at, drop-drop}
 use lib.Dec.{eqb, leb, ltb}
-use borrow.Author.Tests.{ne-eqb, eq-eqb, eqb-true, lt-ltb, le-leb, leb-true, ltb-true}
+use borrow.Author.Tests.{ne-eqb, eqb-true, lt-ltb, le-leb, leb-true, ltb-true}
 use Rattle.quorum.specs.Bools.{and-left, and-right}
 use Rattle.quorum.specs.Whole.{wholeOf}
 use Rattle.settings.specs.Settings.{namedTa, largestTa, settingsNamed}
-use Rattle.settings.specs.Laws.{Rules, Ruled, valid-rules, whole-few}
+use Rattle.settings.specs.Laws.{Ruled, valid-rules, whole-few}
 use Rattle.records.specs.Layout.{stateWords}
 use Rattle.records.specs.Words.{word}
 use Rattle.session.specs.Session.{numbered}
@@ -28,12 +28,12 @@ use Rattle.delivery.specs.Delivery.{deliverAnswer, delivered, verdict}
 use Rattle.turn.specs.Turn.{turnOutcome, turnWords}
 use Rattle.io.specs.Digits.{digits, glyph}
 use Rattle.text.specs.Fields.{TAB, LF, inFront, fields, letter}
-use Rattle.text.specs.Numbers.{DECIMAL, WORD, PACK, digitOf, allDigits, valueOf, valuesOf, decimalIn, decimalText}
+use Rattle.text.specs.Numbers.{DECIMAL, WORD, PACK, digitOf, allDigits, valueOf, decimalIn, decimalText}
 use Rattle.journal.specs.Lines.{VERSION, numberText, numberTexts, tabbed, openingForms, openingText, hexBytes, deliveryText, turnText}
 use Rattle.journal.specs.Journal.{acts}
 use Rattle.journal.specs.Laws.{acts-outcome, acts-words}
-use Rattle.restore.specs.Reading.{proper, allProper, fieldAt, formsFor, weightsFrom, hexRight, bytesOf}
-use Rattle.restore.specs.Restoring.{Point, openedFrom, openingFrom, openingRead, firstOf, firstLine, deliveredFrom, turnedFrom, nextOf, nextLine}
+use Rattle.restore.specs.Reading.{fieldAt, formsFor, weightsFrom, hexRight, bytesOf}
+use Rattle.restore.specs.Restoring.{openedFrom, openingFrom, openingRead, firstOf, firstLine, deliveredFrom, turnedFrom, nextOf, nextLine}
 use Rattle.restore.specs.Written.{Without, AllWithout, without-append}
 use Rattle.restore.specs.WrittenNumbers.{digit-glyph, decimal-digits, hex-digits, decimal-read, Fits, AllFit, all-fit-append, numbers-proper, numbers-values, numbers-length}
 
