@@ -4,6 +4,7 @@ use Prim.Native.Nat.{ℕ, _≤_, _<_, _^_}
 use mathlib.Core.Bool.{Bool, true, false, cond}
 use mathlib.Core.List.{List, [], _∷_, _++_}
 use mathlib.Core.Logic.{_⊎_, _≢_}
+use mathlib.Core.Option.{Option, none, some}
 use mathlib.Core.Path.{_≡_}
 use lib.Dec.{eqb, leb}
 use lib.ListN.{length, take}
@@ -42,7 +43,7 @@ pub record Machine : Type 1 where
   -- whether an opening is accepted, and the words after it
   pub opens : Words → Opening → Bool
   pub opened : Words → Opening → Words
-  -- what a delivery is lent, the bytes of a message; whether a delivery of them from a link is accepted, and the words after it
+  -- what a delivery is lent, the bytes of a message above all; whether a delivery of them from a link is accepted, and the words after it
   pub Bytes : Type 0
   pub accepts : Words → ℕ → Bytes → Bool
   pub delivered : Words → ℕ → Bytes → Words
@@ -149,7 +150,7 @@ pub record Stands (M : Machine) (d : Moment M) (js : Journal M) : Type 0 where
 -- "Each honest one has a state buffer of its own, holding anything at the start."
 module _ (M : Machine) (start : ℕ → M .Words) where
   -- the words of q after the calls, newest first: "Each call there gets the words that the last one there left; nothing else writes them." Only
-  -- a restore gets what the buffer then holds.
+  -- a restore gets whatever the buffer then holds: who lost power makes no other call before it.
   unfoldable pub words : List (Call M) → ℕ → M .Words
   words [] q = start q
   words (c ∷ cs) q = cond (eqb q (place M c)) (left M c (words cs q)) (words cs q)
@@ -158,6 +159,15 @@ module _ (M : Machine) (start : ℕ → M .Words) where
   unfoldable pub journal : List (Call M) → ℕ → Journal M
   journal [] q = []
   journal (c ∷ cs) q = cond (eqb q (place M c)) (wrote M c (words cs q) (c ∷ cs) (journal cs q)) (journal cs q)
+
+  -- the last call of a moment, where it is a turn: the words before it, and what it was lent
+  abbrev pub lastTurn : Moment M → Option (M .Words × M .Lent)
+  lastTurn [] = none
+  lastTurn (opening p o ∷ cs) = none
+  lastTurn (delivery p m b ∷ cs) = none
+  lastTurn (turn p l ∷ cs) = some (words cs p, l)
+  lastTurn (report p r ∷ cs) = none
+  lastTurn (restore p v r ∷ cs) = none
 
   -- "Opened: its opening, under its own number, was accepted."
   pub record Opened (cs : List (Call M)) (p : ℕ) : Type 0 where
@@ -337,7 +347,8 @@ pub record ReportEnforces (w X : List ℕ) : Type 0 where
   pub some : figures .in_force ≢ 0
   pub set : X ≡ take (figures .in_force) (reportInForce w 16 lent)
 
--- the five calls, by the definitions that their contracts cite; a buffer holds any numbers
+-- the five calls, by the definitions that their contracts cite; a buffer holds any numbers. Opening, delivery and turn are lent bytes for their
+-- line: with fewer than 512 they are refused by 8, after every other number, so what is accepted is written.
 abbrev pub engine : Machine
 engine =
     record {

@@ -13,7 +13,7 @@ use Rattle.agreement.specs.History.{Act, History, by, Lawful}
 use Rattle.held.specs.Held.{Message}
 use Rattle.agreement.specs.Moments.{Within, now, after, within-cases}
 use Rattle.agreement.specs.Runs.{Gone, Inv, inv-keep}
-use Rattle.agreement.specs.Calls.{Machine, Call, opening, delivery, turn, report, restore, Moment, Journal, world, place, left, words, bytes, journal, Departed}
+use Rattle.agreement.specs.Calls.{Machine, Call, opening, delivery, turn, report, restore, Moment, Journal, world, place, left, words, bytes, journal, lastTurn, Departed}
 use Rattle.agreement.specs.Laws.{Reading, Ran}
 use Rattle.agreement.specs.Openings.{did, tell, status, history}
 
@@ -29,15 +29,6 @@ module _ (M : Machine) (R : Reading M) (start : ℕ → M .Words) where
   noted (turn p l ∷ cs) = R .act (words M start cs p) l
   noted (report p r ∷ cs) = none
   noted (restore p v r ∷ cs) = none
-
-  -- the words before a line, and what its call was lent, where it is a turn's
-  abbrev pub before : Moment M → Option (M .Words × M .Lent)
-  before [] = none
-  before (opening p o ∷ cs) = none
-  before (delivery p m b ∷ cs) = none
-  before (turn p l ∷ cs) = some (words M start cs p, l)
-  before (report p r ∷ cs) = none
-  before (restore p v r ∷ cs) = none
 
   -- a stands in a journal
   abbrev pub Noted : Journal M → Act → Type 0
@@ -79,7 +70,7 @@ module _ (M : Machine) (R : Reading M) (H : ℕ → Bool) (start : ℕ → M .Wo
   -- a line of p's journal, with the older ones: the words after it belong to the opening, follow from the lines, and hold what was said
   pub record Point (o : M .Opening) (h : History) (p : ℕ) (d : Moment M) (ks : Journal M) : Type 0 where
     pub belongs : R .Belongs o (words M start d p)
-    pub ran : Ran M (bytes M (d ∷ ks)) (words M start d p) (before M R start d)
+    pub ran : Ran M (bytes M (d ∷ ks)) (words M start d p) (lastTurn M start d)
     pub keeps : Keeps h (Noted M R start (d ∷ ks)) p (words M start d p)
 
   abbrev pub Chain : M .Opening → History → ℕ → Journal M → Type 0
@@ -114,7 +105,7 @@ module _ {M : Machine} {R : Reading M} {H : ℕ → Bool} {start : ℕ → M .Wo
     pub belongs : R .Belongs o w
     belongs = rw (live .same) (newest-point .belongs)
 
-    pub ran : Ran M (bytes M js) w (before M R start (live .last))
+    pub ran : Ran M (bytes M js) w (lastTurn M start (live .last))
     ran = rw (live .same, live .ends) (newest-point .ran)
 
     pub keeps : Keeps M R H start S calls h (Noted M R start js) p w

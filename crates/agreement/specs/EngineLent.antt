@@ -1,4 +1,4 @@
--- What a turn of the engine is lent, as the bytes that it has for a message: none where it is lent too few for its line.
+-- A turn of the engine with its line, as a turn without one: it has no bytes for a message where it is lent too few for its line.
 use Prim.Native.Nat.{ℕ, _≤_}
 use mathlib.Core.Bool.{Bool, true, false, cond}
 use mathlib.Core.List.{List, []}

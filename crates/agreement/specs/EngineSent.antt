@@ -49,7 +49,7 @@ use Rattle.wire_laws.specs.Laws.{ReadBack}
 use Rattle.wire_laws.proofs.RoundTrip.{round-trip}
 use Rattle.session.specs.declared.Session.{Session}
 use Rattle.turn.specs.Due.{due, commitDue}
-use Rattle.turn.specs.Turn.{moveOutcome, outcomeOf, bytesAfter, turnBytes}
+use Rattle.turn.specs.Turn.{moveOutcome, outcomeOf, bytesAfter, turnOutcome, turnBytes}
 use Rattle.turn.specs.Told.{ActTold, Rests, on-exit, on-copies}
 use Rattle.turn.specs.Laws.{Taken}
 use Rattle.turn.specs.declared.Outcome.{Outcome}
@@ -229,6 +229,13 @@ module _ (o : Arguments) (H : ℕ → Bool) (w : List ℕ) (x : Belongs o w) (se
   sent-bytes lent t m b e =
       ap (take (lengthOf m)) (t .bytes ∙ ap (λ (y : Outcome). bytesAfter session w y lent) e)
       ∙ take-at (encode m (o .own) (o .session) xs) (drop (length (encode m (o .own) (o .session) xs)) lent) (lengthOf m) (length-encode m (o .own) (o .session) xs b)
+
+  -- the bytes of a message do not depend on what was lent
+  pub same-bytes : (lent other : List ℕ) → Taken w lent session → Taken w other session → (m : wire.Message) → turnOutcome w (length lent) ≡ outcome.Sent m → take (lengthOf m) (turnBytes w lent) ≡ take (lengthOf m) (turnBytes w other)
+  same-bytes lent other t u m e =
+      let f = sym (t .answer) ∙ e in
+      let b = act-sending (due g w) (t .told) m f .proper .held in
+      sent-bytes lent t m b f ∙ sym (sent-bytes other u m b f)
 
   encoded-says : (m : wire.Message) → Proper (o .n) (o .own) m xs → (b : Bytes) → b .list ≡ encode m (o .own) (o .session) xs → Says (agreed o) (o .own) b (meaning m (valuesOf m xs))
   encoded-says m p b e =

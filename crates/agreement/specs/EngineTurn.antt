@@ -6,10 +6,11 @@ use mathlib.Core.Option.{Option, none, some}
 use mathlib.Core.Path.{_≡_, refl, sym, ap, subst, _∙_}
 use native.Mathlib.Omega.{arith}
 use lib.Dec.{ltb}
-use lib.ListN.{length}
+use lib.ListN.{length, take}
 use Rattle.settings.specs.Settings.{roundLimit}
 use Rattle.records.specs.Records.{coin}
 use Rattle.votes.specs.Votes.{estimate}
+use Rattle.wire.specs.Message.{lengthOf}
 use Rattle.wire.specs.declared.Message.the-variants as message
 use Rattle.settings.specs.Laws.{Ruled}
 use Rattle.settings.specs.declared.Settings.{Settings}
@@ -21,7 +22,7 @@ use Rattle.session.specs.Session.{settingsOf, sessionWith, sessionOf}
 use Rattle.session.specs.declared.Session.{Session}
 use Rattle.turn.specs.Due.{due}
 use Rattle.turn.specs.DueLaws.{due-told}
-use Rattle.turn.specs.Turn.{applied, moveOutcome, outcomeOf, admits, outcomeFor, wordsFor, bytesFor, turnOutcome, turnWords, turnBytes}
+use Rattle.turn.specs.Turn.{applied, moveOutcome, outcomeOf, admits, outcomeFor, wordsFor, bytesFor, sentLength, turnOutcome, turnWords, turnBytes}
 use Rattle.turn.specs.Told.{ActTold}
 use Rattle.turn.specs.Admitting.{Admitting, admitting, admitted-ruled, admitted-turns}
 use Rattle.turn.specs.Frame.{told-placed, length-applied, applied-kept}
@@ -32,11 +33,12 @@ use Rattle.turn.specs.declared.Outcome.{Outcome}
 use Rattle.turn.specs.declared.Outcome.the-variants as outcome
 use Rattle.journal.specs.Journal.{turnRoom}
 use Rattle.journal.specs.Journal as journal
+use Rattle.journal.specs.Laws.{room-enough, acts-admitted}
 use Rattle.agreement.specs.Evidence.{World}
 use Rattle.agreement.specs.History.{Act, send}
 use Rattle.held.specs.Keeping.{count-back, set-back}
 use Rattle.agreement.specs.Runs.{Kept}
-use Rattle.agreement.specs.Calls.{Arguments, agreed, Bytes, TurnLent, engine, world}
+use Rattle.agreement.specs.Calls.{Arguments, agreed, Bytes, TurnLent, SendsBytes, engine, world}
 use Rattle.agreement.specs.Laws.{Quiet, Active, Turned}
 use Rattle.agreement.specs.EngineSeen.{engineSeen}
 use Rattle.agreement.specs.EngineLent.{forMessage, room-same, SendsPlain, sends-plain}
@@ -44,7 +46,7 @@ use Rattle.agreement.specs.EngineReading.{Belongs, Sets, Belonging, show
 use Rattle.agreement.specs.EngineKept.{belongs-applied}
 use Rattle.agreement.specs.EngineDue.{ShownDue, shown-due}
 use Rattle.agreement.specs.EngineActed.{unchanged, kept-by, ShownActed, shown-acted}
-use Rattle.agreement.specs.EngineSent.{silent, shown-says}
+use Rattle.agreement.specs.EngineSent.{silent, shown-says, same-bytes}
 
 module _ (o : Arguments) (w : List ℕ) (x : Belongs o w) where
   abbrev pub session : Session
@@ -199,3 +201,22 @@ turn-idle w l e = go (admits w (turnRoom (length (l .message)) (l .line))) e
     go : (v : Admitted) → journal.acts (outcomeFor v w) ≡ false → wordsFor v w ≡ w
     go (admitted.Refused k) f = refl
     go (admitted.Open y) f = idle-words (y .own) w (due (y .settings) w) f
+
+-- ---- a message that was sent, again
+
+module _ (o : Arguments) (w : List ℕ) (x : Belonging o w) (l : TurnLent) (b : Bytes) (h : SendsBytes w l b) (lent : List ℕ) (room : 140 ≤ length lent) where
+  plain : SendsPlain w (forMessage l) b
+  plain = sends-plain w l b h
+
+  same-admitted : admits w (length lent) ≡ admits w (length (forMessage l))
+  unfolding journal.acts
+  same-admitted = room-enough w (length lent) room ∙ acts-admitted w (length (forMessage l)) (ap journal.acts (plain .outcome)) .1
+
+  -- a turn at the same words writes the same bytes
+  pub sends-again : b .list ≡ take (sentLength (journal.turnedOutcome w (length (l .message)) (l .line))) (turnBytes w lent)
+  sends-again = rw (room-same l, plain .outcome) (plain .bytes ∙ at (admits w (length (forMessage l))) refl)
+    where
+      at : (v : Admitted) → admits w (length (forMessage l)) ≡ v → take (lengthOf (plain .message)) (turnBytes w (forMessage l)) ≡ take (lengthOf (plain .message)) (turnBytes w lent)
+      at (admitted.Refused k) e = absurd (refused-silent o w (x .words) (forMessage l) k e b plain)
+      at (admitted.Open y) e =
+          same-bytes o (λ p. true) w (x .words) (x .sets) (forMessage l) lent (taken o w (x .words) (forMessage l) y e) (taken o w (x .words) lent y (same-admitted ∙ e)) (plain .message) (plain .outcome)

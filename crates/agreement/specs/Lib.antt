@@ -28,3 +28,4 @@ pub mod EngineReport
 pub mod EngineJournal
 pub mod EngineDemand
 pub mod EngineRestores
+pub mod EnginePlain

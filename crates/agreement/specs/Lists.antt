@@ -15,11 +15,11 @@ use Rattle.agreement.specs.History.{Act, History, Did, Lawful, Single}
 use Rattle.held.specs.Held.{Message, ECHO, AUX}
 use Rattle.agreement.specs.Moments.{Within, now, after, within-tail, within-trans, within-cases, within-none}
 use Rattle.agreement.specs.Runs.{Said, message, echo-of, aux-of, said-of, Gone, Credit, due-guard, inv-blank, inv-fewer, inv-kept, inv-delivered, inv-acted}
-use Rattle.agreement.specs.Calls.{Machine, Call, opening, delivery, turn, report, restore, Moment, Journal, world, place, left, words, wrote, bytes, complete, journal, Sent, FallsBack, Conditions}
+use Rattle.agreement.specs.Calls.{Machine, Call, opening, delivery, turn, report, restore, Moment, Journal, world, place, left, words, wrote, bytes, complete, journal, lastTurn, Sent, FallsBack, Conditions}
 use Rattle.agreement.specs.Laws.{Reading, Turned, Laws, by-opening, by-delivery, by-turn}
 use Rattle.agreement.specs.Openings.{becomes, did, tell, status, history, Known, opened-known, known-opened}
 use Rattle.agreement.specs.Journals.{cut-at, complete-within, journal-within, opened-within, conditions-within, departed-sent}
-use Rattle.agreement.specs.Chains.{none-some, noted, before, Noted, noted-within, words-here, history-within, belongs, ran, keeps, live-keep, live-line, elsewhere, known-live}
+use Rattle.agreement.specs.Chains.{none-some, noted, Noted, noted-within, words-here, history-within, belongs, ran, keeps, live-keep, live-line, elsewhere, known-live}
 use Rattle.agreement.specs.Chains as chains
 
 -- calls: the whole list
@@ -203,7 +203,7 @@ module _ (M : Machine) (R : Reading M) (H : ℕ → Bool) (laws : Laws M R H) (s
             live-line live none d (M .delivered w m b) here
             (record {
               belongs = rw here (x .belongs);
-              ran = rw here (by-delivery (bytes M js) w (before M R start (live .last)) m b (ran live) t);
+              ran = rw here (by-delivery (bytes M js) w (lastTurn M start (live .last)) m b (ran live) t);
               keeps = rw here (inv-fewer W (R .seen) Left h (Noted M R start js) (Noted M R start (d ∷ js)) p (M .delivered w m b) older kept);
             })
           where
@@ -238,7 +238,7 @@ module _ (M : Machine) (R : Reading M) (H : ℕ → Bool) (laws : Laws M R H) (s
             live-line live x d (M .turned w l) here
             (record {
               belongs = rw here (laws .turn-belongs o w (belongs live) l);
-              ran = rw here (by-turn (bytes M js) w (before M R start (live .last)) l (ran live) t);
+              ran = rw here (by-turn (bytes M js) w (lastTurn M start (live .last)) l (ran live) t);
               keeps = rw here k;
             })
 
@@ -299,7 +299,7 @@ module _ (M : Machine) (R : Reading M) (H : ℕ → Bool) (laws : Laws M R H) (s
               last = d;
               older = ks;
               ends = refl;
-              same = laws .restore-ran v r (bytes M (d ∷ ks)) (cut .rest) (words M start d p) (before M R start d) (x .ran) (cut .torn) is t;
+              same = laws .restore-ran v r (bytes M (d ∷ ks)) (cut .rest) (words M start d p) (lastTurn M start d) (x .ran) (cut .torn) is t;
               chain = λ g ls u. live .chain g ls (within-trans u inside);
             }
 

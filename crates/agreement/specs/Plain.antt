@@ -1,4 +1,4 @@
--- Lists without restores: there the conditions are those of 01. So nothing that held before restores came is lost.
+-- Lists without restores: there the conditions are those of 01.
 use Prim.Native.Nat.{ℕ}
 use mathlib.Core.Bool.{Bool, true, false}
 use mathlib.Core.List.{List, _∷_}
@@ -10,7 +10,7 @@ use Rattle.agreement.specs.Moments.{Within, now, after, within-tail, wit
 use Rattle.agreement.specs.Calls.{Machine, Call, opening, delivery, turn, report, restore, world, place, words, journal, Stands, Opened, Sent, Conditions}
 use Rattle.agreement.specs.Journals.{sent-step}
 
-module _ (M : Machine) (start : ℕ → M .Words) where
+module _ (M : Machine) where
   abbrev pub NoRestore : Call M → Type 0
   NoRestore (opening p o) = Unit {0}
   NoRestore (delivery p m b) = Unit {0}
@@ -21,6 +21,7 @@ module _ (M : Machine) (start : ℕ → M .Words) where
   abbrev pub Plain : List (Call M) → Type 0
   Plain cs = (c : Call M) (ds : List (Call M)) → Within (c ∷ ds) cs → NoRestore c
 
+module _ (M : Machine) (start : ℕ → M .Words) where
   -- "a message that an earlier turn of the link's concentrator, after its opening, answered as sent"
   pub record Answered (cs : List (Call M)) (m : ℕ) (b : M .Bytes) : Type 0 where
     pub lent : M .Lent
@@ -42,7 +43,7 @@ module _ (M : Machine) (start : ℕ → M .Words) where
 
   -- a turn that sends acts
   module _ (sends-act : (w : M .Words) (l : M .Lent) (b : M .Bytes) → M .Sends w l b → M .acts w l ≡ true) where
-    answered-sent : (cs : List (Call M)) → Plain cs → Once cs → (m : ℕ) (b : M .Bytes) → Answered cs m b → Sent M start cs m b
+    answered-sent : (cs : List (Call M)) → Plain M cs → Once cs → (m : ℕ) (b : M .Bytes) → Answered cs m b → Sent M start cs m b
     unfolding journal
     answered-sent cs plain once m b x = go (x .within) plain once
       where
@@ -52,16 +53,16 @@ module _ (M : Machine) (start : ℕ → M .Words) where
         first : Stands M d (journal M start d m)
         first = rw (eq-eqb m m refl, sends-act (words M start (x .past) m) (x .lent) b (x .sends)) (record { older = journal M start (x .past) m; within = now })
 
-        none : {c : Call M} (v : M .Words) (r : M .Restore) → NoRestore c → c ≡ restore m v r → ⊥
-        none v r n e = subst (λ (c : Call M). NoRestore c) e n
+        none : {c : Call M} (v : M .Words) (r : M .Restore) → NoRestore M c → c ≡ restore m v r → ⊥
+        none v r n e = subst (λ (c : Call M). NoRestore M c) e n
 
-        go : {ds : List (Call M)} → Within d ds → Plain ds → Once ds → Sent M start ds m b
+        go : {ds : List (Call M)} → Within d ds → Plain M ds → Once ds → Sent M start ds m b
         go now p o = record { lent = x .lent; past = x .past; stands = first; opened = x .opened; sends = x .sends }
         go (after {cs = ds} c w) p o =
             sent-step M start m b c ds (λ q u e. o q u ds (rw e now)) (λ v r e t. absurd (none v r (p c ds now) e))
             (go w (λ e es v. p e es (after c v)) (λ q u es v. o q u es (after c v))) (eqb m (place M c)) refl
 
-    pub plain-conditions : (S : M .Session) (H : ℕ → Bool) (cs : List (Call M)) → Plain cs → PlainConditions S H cs → Conditions M start S H cs
+    pub plain-conditions : (S : M .Session) (H : ℕ → Bool) (cs : List (Call M)) → Plain M cs → PlainConditions S H cs → Conditions M start S H cs
     plain-conditions S H cs plain k =
         record {
           honest = k .honest;

@@ -20,6 +20,7 @@ use Rattle.turn.specs.Frame.{length-applied}
 use Rattle.turn.specs.declared.Admitted.{Admitted}
 use Rattle.turn.specs.declared.Admitted.the-variants as admitted
 use Rattle.journal.specs.Journal.{LINE-BYTES, lineWords, openedWords, deliveredWords, turnRoom}
+use Rattle.agreement.specs.Plain.{NoRestore}
 use Rattle.agreement.specs.Calls.{Call, opening, delivery, turn, report, restore, engine, weightsOf, left}
 
 length-openWords : (n ta ts w own session input : ℕ) (coins : List ℕ) → length (openWords n ta ts w own session input coins) ≡ stateWords
@@ -59,15 +60,8 @@ length-line room before after e f = go (ltb room LINE-BYTES)
     go true = e
     go false = f
 
-abbrev pub NoRestore : Call engine → Type 0
-NoRestore (opening p o) = Unit {0}
-NoRestore (delivery p m b) = Unit {0}
-NoRestore (turn p l) = Unit {0}
-NoRestore (report p r) = Unit {0}
-NoRestore (restore p v r) = ⊥
-
 -- the words that a call leaves of 2,048 words are as many
-pub length-left : (c : Call engine) → NoRestore c → (w : List ℕ) → length w ≡ stateWords → length (left engine c w) ≡ stateWords
+pub length-left : (c : Call engine) → NoRestore engine c → (w : List ℕ) → length w ≡ stateWords → length (left engine c w) ≡ stateWords
 unfolding openedWords deliveredWords
 length-left (opening p o) n w e = length-line (o .line) w _ e (length-opened w (o .n) (o .ta) (o .ts) (weightsOf o) (o .own) (o .session) (o .input) (o .coins) e)
 length-left (delivery p m b) n w e = length-line (b .line) w _ e (length-delivered w m (b .list) ∙ e)

@@ -9,11 +9,12 @@ use lib.ListN.{length}
 use Rattle.quorum.specs.Bools.{and-left, and-right}
 use Rattle.records.specs.Layout.{stateWords}
 use Rattle.agreement.specs.Evidence.{Honest}
+use Rattle.agreement.specs.Plain.{NoRestore}
 use Rattle.agreement.specs.Calls.{Call, engine, Arguments, Agreed, Bytes, world, place, left, Moment, Journal, wrote, words, journal, Opened, Departed}
 use Rattle.agreement.specs.EngineOpening.{first, opened-first, open-refused}
 use Rattle.agreement_example.specs.Lists.{opened-later, opened-before, NoOpening, AllMeet}
 use Rattle.agreement_example.specs.Checking.{Line, Entry, Gone, isOpened, wordsOf, linesOf, withEntry, some, opens, listed}
-use Rattle.agreement_example.specs.Lengths.{NoRestore, length-left}
+use Rattle.agreement_example.specs.Lengths.{length-left}
 use Rattle.agreement_example.specs.Entries.{opened-with, words-with, lines-with}
 use Rattle.agreement_example.specs.Journals.{Matches, AllMatch, IsGone}
 
@@ -38,7 +39,7 @@ module _ (start : ℕ → List ℕ) where
     journal-else q e = rw e
 
     -- the number of words after a call
-    pub size-next : NoRestore c → (p : ℕ) → length (words engine start cs p) ≡ stateWords → length (words engine start (c ∷ cs) p) ≡ stateWords
+    pub size-next : NoRestore engine c → (p : ℕ) → length (words engine start cs p) ≡ stateWords → length (words engine start (c ∷ cs) p) ≡ stateWords
     unfolding words
     size-next n p h = go (eqb p (place engine c))
       where

@@ -51,6 +51,15 @@ pub message-kept : (s out : List ℕ) (line : ℕ) → LINE-BYTES ≤ line → t
 unfolding turnedMessage
 message-kept s out line l = rw (le-ltb line LINE-BYTES l)
 
+-- a turn lent enough for a message is admitted as with 140 bytes
+pub room-enough : (s : List ℕ) (room : ℕ) → 140 ≤ room → admits s room ≡ admits s 140
+unfolding admits admittedFor admittedIn
+room-enough s room l = of (stored s)
+  where
+    of : (y : Stored) → admittedFor y s room ≡ admittedFor y s 140
+    of NoState = refl
+    of (Held x) = rw (le-ltb room 140 l)
+
 module _ (s : List ℕ) (room : ℕ) where
   -- a turn that acts is admitted as with any other number of bytes that is enough for a message
   pub acts-admitted : acts (turnOutcome s room) ≡ true → (140 ≤ room) × (admits s 140 ≡ admits s room)
