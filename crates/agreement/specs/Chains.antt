@@ -5,7 +5,6 @@ use mathlib.Core.List.{List, [], _∷_}
 use mathlib.Core.Logic.{_⊎_, inl, inr}
 use mathlib.Core.Option.{Option, none, some}
 use mathlib.Core.Path.{_≡_, refl, sym}
-use native.Mathlib.Omega.{arith}
 use borrow.Author.Tests.{eq-eqb}
 use Rattle.settings.specs.Laws.{Ruled}
 use Rattle.agreement.specs.Evidence.{World, Honest}
@@ -16,9 +15,6 @@ use Rattle.agreement.specs.Runs.{Gone, Inv, inv-keep}
 use Rattle.agreement.specs.Calls.{Machine, Call, opening, delivery, turn, report, restore, Moment, Journal, world, place, left, words, bytes, journal, lastTurn, Departed}
 use Rattle.agreement.specs.Laws.{Reading, Ran}
 use Rattle.agreement.specs.Openings.{did, tell, status, history}
-
-pub none-some : {A : Type 0} (x : A) → none ≡ some x → ⊥
-none-some x e = let z : _≡_ {A = ℕ} 0 1 = cc in omega arith
 
 module _ (M : Machine) (R : Reading M) (start : ℕ → M .Words) where
   -- the act of a line

@@ -17,9 +17,9 @@ use Rattle.agreement.specs.Moments.{Within, now, after, within-tail, wit
 use Rattle.agreement.specs.Runs.{Said, message, echo-of, aux-of, said-of, Gone, Credit, due-guard, inv-blank, inv-fewer, inv-kept, inv-delivered, inv-acted}
 use Rattle.agreement.specs.Calls.{Machine, Call, opening, delivery, turn, report, restore, Moment, Journal, world, place, left, words, wrote, bytes, complete, journal, lastTurn, Sent, FallsBack, Conditions}
 use Rattle.agreement.specs.Laws.{Reading, Turned, Laws, by-opening, by-delivery, by-turn}
-use Rattle.agreement.specs.Openings.{becomes, did, tell, status, history, Known, opened-known, known-opened}
+use Rattle.agreement.specs.Openings.{none-some, becomes, did, tell, status, history, Known, opened-known, known-opened}
 use Rattle.agreement.specs.Journals.{cut-at, complete-within, journal-within, opened-within, conditions-within, departed-sent}
-use Rattle.agreement.specs.Chains.{none-some, noted, Noted, noted-within, words-here, history-within, belongs, ran, keeps, live-keep, live-line, elsewhere, known-live}
+use Rattle.agreement.specs.Chains.{noted, Noted, noted-within, words-here, history-within, belongs, ran, keeps, live-keep, live-line, elsewhere, known-live}
 use Rattle.agreement.specs.Chains as chains
 
 -- calls: the whole list

@@ -1,7 +1,7 @@
 -- Moments of a list that grows at its front: of a history, and of a list of calls.
 use mathlib.Core.List.{List, [], _∷_}
 use mathlib.Core.Logic.{_⊎_, inl, inr}
-use mathlib.Core.Path.{_≡_, refl, subst, sym}
+use mathlib.Core.Path.{_≡_, refl}
 
 -- cs is ds, or ds with later ones in front
 pub data Within {A : Type 0} (ds : List A) : List A → Type 0 where
@@ -39,12 +39,3 @@ module _ {A : Type 0} where
 
   pub within-none : {d : A} {ds : List A} → Within (d ∷ ds) [] → ⊥
   within-none = elim [ ]
-
-  -- of two moments of a list one is within the other
-  pub within-either : {ds es cs : List A} → Within ds cs → Within es cs → Within ds es ⊎ Within es ds
-  within-either now v = inr v
-  within-either {ds} {es} (after {cs = bs} c w) v = at (within-cases c bs v) (λ u. within-either w u)
-    where
-      at : (es ≡ c ∷ bs) ⊎ Within es bs → (Within es bs → Within ds es ⊎ Within es ds) → Within ds es ⊎ Within es ds
-      at (inl e) rest = inl (subst (λ (xs : List A). Within ds xs) (sym e) (after c w))
-      at (inr u) rest = rest u

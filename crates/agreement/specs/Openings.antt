@@ -12,7 +12,7 @@ use Rattle.agreement.specs.Moments.{Within, now, after}
 use Rattle.agreement.specs.Calls.{Machine, Call, opening, delivery, turn, report, restore, place, words, Opened}
 use Rattle.agreement.specs.Laws.{Reading}
 
-none-some : {A : Type 0} (x : A) → none ≡ some x → ⊥
+pub none-some : {A : Type 0} (x : A) → none ≡ some x → ⊥
 none-some x e = let z : _≡_ {A = ℕ} 0 1 = cc in omega arith
 
 module _ (M : Machine) (R : Reading M) where

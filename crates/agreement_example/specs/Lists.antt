@@ -5,7 +5,7 @@ use mathlib.Core.List.{List, [], _∷_}
 use mathlib.Core.Logic.{_⊎_, inl, inr}
 use mathlib.Core.Path.{_≡_, refl}
 use Rattle.agreement.specs.Evidence.{Honest}
-use Rattle.agreement.specs.Moments.{Within, now, after}
+use Rattle.agreement.specs.Moments.{Within, now, after, within-none}
 use Rattle.agreement.specs.Calls.{Machine, Call, opening, delivery, turn, report, restore, world, place, words, Opened, Sent, Departed, FallsBack, Conditions, PutIn}
 
 module _ (M : Machine) (start : ℕ → M .Words) where
@@ -15,14 +15,11 @@ module _ (M : Machine) (start : ℕ → M .Words) where
     opened-later x =
         record { given = x .given; past = x .past; within = after c (x .within); numbered = x .numbered; accepted = x .accepted }
 
-  none-within : {c : Call M} {ds : List (Call M)} → Within (c ∷ ds) [] → ⊥
-  none-within w = elim w [ ]
-
   pub not-opened : {p : ℕ} → Opened M start [] p → ⊥
-  not-opened x = none-within (x .within)
+  not-opened x = within-none (x .within)
 
   pub not-departed : {m : ℕ} {b : M .Bytes} → Departed M start [] m b → ⊥
-  not-departed x = none-within (x .within)
+  not-departed x = within-none (x .within)
 
   abbrev pub NoOpening : Call M → Type 0
   NoOpening (opening p o) = ⊥
