@@ -49,7 +49,7 @@ use Rattle.wire_laws.specs.Laws.{ReadBack}
 use Rattle.wire_laws.proofs.RoundTrip.{round-trip}
 use Rattle.session.specs.declared.Session.{Session}
 use Rattle.turn.specs.Due.{due, commitDue}
-use Rattle.turn.specs.Turn.{moveOutcome, outcomeOf, bytesAfter, turnBytes}
+use Rattle.turn.specs.Turn.{moveOutcome, outcomeOf, bytesAfter, turnOutcome, turnBytes}
 use Rattle.turn.specs.Told.{ActTold, Rests, on-exit, on-copies}
 use Rattle.turn.specs.Laws.{Taken}
 use Rattle.turn.specs.declared.Outcome.{Outcome}
@@ -58,7 +58,8 @@ use Rattle.agreement.specs.Evidence.{World}
 use Rattle.agreement.specs.History.{Act, commit, move}
 use Rattle.held.specs.Held.{Message, EST, meaning}
 use Rattle.agreement.specs.Runs as runs
-use Rattle.agreement.specs.Calls.{Arguments, agreed, Bytes, SendsBytes, engine, world}
+use Rattle.agreement.specs.Calls.{Arguments, agreed, Bytes, engine, world}
+use Rattle.agreement.specs.EngineLent.{SendsPlain}
 use Rattle.agreement.specs.EngineReading.{Belongs, Sets, shownAct, Says}
 use Rattle.agreement.specs.EngineActed.{coin-same}
 
@@ -229,6 +230,13 @@ module _ (o : Arguments) (H : ℕ → Bool) (w : List ℕ) (x : Belongs o w) (se
       ap (take (lengthOf m)) (t .bytes ∙ ap (λ (y : Outcome). bytesAfter session w y lent) e)
       ∙ take-at (encode m (o .own) (o .session) xs) (drop (length (encode m (o .own) (o .session) xs)) lent) (lengthOf m) (length-encode m (o .own) (o .session) xs b)
 
+  -- the bytes of a message do not depend on what was lent
+  pub same-bytes : (lent other : List ℕ) → Taken w lent session → Taken w other session → (m : wire.Message) → turnOutcome w (length lent) ≡ outcome.Sent m → take (lengthOf m) (turnBytes w lent) ≡ take (lengthOf m) (turnBytes w other)
+  same-bytes lent other t u m e =
+      let f = sym (t .answer) ∙ e in
+      let b = act-sending (due g w) (t .told) m f .proper .held in
+      sent-bytes lent t m b f ∙ sym (sent-bytes other u m b f)
+
   encoded-says : (m : wire.Message) → Proper (o .n) (o .own) m xs → (b : Bytes) → b .list ≡ encode m (o .own) (o .session) xs → Says (agreed o) (o .own) b (meaning m (valuesOf m xs))
   encoded-says m p b e =
       let back : ReadBack (o .n) (o .session) (o .own) m xs = round-trip (o .n) (o .session) (o .own) m xs (o .session-fits) (x .own-low) (x .own-high) p in
@@ -238,7 +246,7 @@ module _ (o : Arguments) (H : ℕ → Bool) (w : List ℕ) (x : Belongs o w) (se
         means = ap (meaning m) (rw e (sym (back .all-values)));
       }
 
-  pub shown-says : (lent : List ℕ) → Taken w lent session → (b : Bytes) → SendsBytes w lent b → (a : Act) → shownAct g w (due g w) ≡ some a → Says (agreed o) (o .own) b (runs.message W a)
+  pub shown-says : (lent : List ℕ) → Taken w lent session → (b : Bytes) → SendsPlain w lent b → (a : Act) → shownAct g w (due g w) ≡ some a → Says (agreed o) (o .own) b (runs.message W a)
   shown-says lent t b h a e =
       of (act-sending (due g w) (t .told) (h .message) (sym (t .answer) ∙ h .outcome))
     where
@@ -248,7 +256,7 @@ module _ (o : Arguments) (H : ℕ → Bool) (w : List ℕ) (x : Belongs o w) (se
           rw is (encoded-says (h .message) (s .proper) b (h .bytes ∙ sent-bytes lent t (h .message) (s .proper .held) (sym (t .answer) ∙ h .outcome)))
 
   -- an act that shows nothing sends nothing
-  pub silent : (lent : List ℕ) → Taken w lent session → (b : Bytes) → SendsBytes w lent b → shownAct g w (due g w) ≡ none → ⊥
+  pub silent : (lent : List ℕ) → Taken w lent session → (b : Bytes) → SendsPlain w lent b → shownAct g w (due g w) ≡ none → ⊥
   silent lent t b h e = of (act-sending (due g w) (t .told) (h .message) (sym (t .answer) ∙ h .outcome))
     where
       of : Sending (shownAct g w (due g w)) (h .message) → ⊥
