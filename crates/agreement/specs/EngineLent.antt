@@ -32,7 +32,7 @@ pub record SendsPlain (w lent : List ℕ) (b : Bytes) : Type 0 where
   pub bytes : b .list ≡ take (lengthOf message) (turnBytes w lent)
 
 pub sends-plain : (w : List ℕ) (l : TurnLent) (b : Bytes) → SendsBytes w l b → SendsPlain w (forMessage l) b
-unfolding forMessage acts
+unfolding forMessage
 sends-plain w l b h =
     let enough : LINE-BYTES ≤ l .line = turn-enough w (length (l .message)) (l .line) (ap acts (h .outcome)) .1 in
     let same : forMessage l ≡ l .message = rw (le-ltb (l .line) LINE-BYTES enough) in

@@ -13,7 +13,6 @@ PlainMeets = (start : ℕ → List ℕ) (S : Agreed) (H : ℕ → Bool) (cs : Li
 
 -- a turn that sends acts
 sends-act : (w : List ℕ) (l : TurnLent) (b : Bytes) → SendsBytes w l b → engine .acts w l ≡ true
-unfolding acts
 sends-act w l b x = ap acts (x .outcome)
 
 pub plain-meets : PlainMeets

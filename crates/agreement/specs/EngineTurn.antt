@@ -178,7 +178,7 @@ module _ (o : Arguments) (w : List ℕ) (x : Belonging o w) (l : TurnLent) where
 -- ---- a turn that is idle or refused changes nothing
 
 idle-words : (own : ℕ) (s : List ℕ) (a : acts.Act) → journal.acts (outcomeOf own s a) ≡ false → applied s a ≡ s
-unfolding outcomeOf moveOutcome applied journal.acts
+unfolding outcomeOf moveOutcome applied
 idle-words own s act.Idle e = refl
 idle-words own s act.InForce e = absurd (false≢true (sym e))
 idle-words own s (act.Commit k) e = absurd (false≢true (sym e))
@@ -195,7 +195,7 @@ idle-words own s (act.Move i r v) e = absurd (go (ltb r roundLimit) (outcome.Sen
     go false y f g = false≢true (sym f)
 
 pub turn-idle : (w : List ℕ) (l : TurnLent) → engine .acts w l ≡ false → engine .turned w l ≡ w
-unfolding turnOutcome outcomeFor turnWords wordsFor journal.acts
+unfolding turnOutcome outcomeFor turnWords wordsFor
 turn-idle w l e = go (admits w (turnRoom (length (l .message)) (l .line))) e
   where
     go : (v : Admitted) → journal.acts (outcomeFor v w) ≡ false → wordsFor v w ≡ w
@@ -209,7 +209,6 @@ module _ (o : Arguments) (w : List ℕ) (x : Belonging o w) (l : TurnLent) (b : 
   plain = sends-plain w l b h
 
   same-admitted : admits w (length lent) ≡ admits w (length (forMessage l))
-  unfolding journal.acts
   same-admitted = room-enough w (length lent) room ∙ acts-admitted w (length (forMessage l)) (ap journal.acts (plain .outcome)) .1
 
   -- a turn at the same words writes the same bytes

@@ -9,5 +9,5 @@ use Rattle.journal.specs.Journal.{lineAnswer, lineWords, openNumber, openedWord
 use Rattle.agreement_example.specs.Messages.{lowBytes, bytesOf, coinsOf, openingWith, openingOf, deliver, turnOf}
 
 unfoldable pub checks : Unit {0}
-unfolding isOpened wordsOf linesOf withEntry sameList among wasSent textOf completeOf some lastWords keeps sentIn sentBy sameSession opens firstLines deliveryLines turnLines statesAfter goneAfter restoreRight listed openingRight deliveryRight callRight step run closesWith closes ends passes refusalOf refusal withRefusal afterCall refusals lowBytes bytesOf coinsOf openingWith onesGiven openingOf deliver turnOf lineAnswer lineWords openNumber openedWords deliverNumber deliveredWords turnRoom acts turnedMessage numberText numberTexts tabbed openingForms openingText hexBytes deliveryText withEnd decimalIn decimalText
+unfolding isOpened wordsOf linesOf withEntry sameList among wasSent textOf completeOf some lastWords keeps sentIn sentBy sameSession opens firstLines deliveryLines turnLines statesAfter goneAfter restoreRight listed openingRight deliveryRight callRight step run closesWith closes ends passes refusalOf refusal withRefusal afterCall refusals lowBytes bytesOf coinsOf openingWith onesGiven openingOf deliver turnOf lineAnswer lineWords openNumber openedWords deliverNumber deliveredWords turnRoom turnedMessage numberText numberTexts tabbed openingForms openingText hexBytes deliveryText withEnd decimalIn decimalText
 checks = tt

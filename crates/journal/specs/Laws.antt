@@ -63,7 +63,7 @@ room-enough s room l = of (stored s)
 module _ (s : List ℕ) (room : ℕ) where
   -- a turn that acts is admitted as with any other number of bytes that is enough for a message
   pub acts-admitted : acts (turnOutcome s room) ≡ true → (140 ≤ room) × (admits s 140 ≡ admits s room)
-  unfolding turnOutcome outcomeFor admits admittedFor admittedIn acts
+  unfolding turnOutcome outcomeFor admits admittedFor admittedIn
   acts-admitted e = of (stored s) e
     where
       short : (x : Session) (b : Bool) → ltb room 140 ≡ b → acts (outcomeFor (cond b (admitted.Refused 8) (admitted.Open x)) s) ≡ true → (140 ≤ room) × (admitted.Open x ≡ cond b (admitted.Refused 8) (admitted.Open x))
