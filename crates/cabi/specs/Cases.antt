@@ -32,7 +32,8 @@ use Rattle.report.specs.Laws.{reported, turns-few}
 use Rattle.report.specs.declared.Figures.{Figures}
 use Rattle.report.specs.declared.Answer.{Answer}
 use Rattle.report.specs.declared.Answer.the-variants as report
-use Rattle.journal.specs.Journal.{lineAnswer, lineEntry, openNumber, openEntry, deliverNumber, deliverEntry}
+use Rattle.journal.specs.Laws.{line-taken}
+use Rattle.journal.specs.Journal.{lineEntry, openNumber, openEntry, deliverNumber, deliverEntry}
 use Rattle.journal.specs.Fitting.{opening-fits, delivery-fits}
 use Rattle.journal.specs.declared.Entry.{Entry}
 use Rattle.journal.specs.declared.Entry.the-variants as journal
@@ -119,19 +120,10 @@ entry-few k line h = go (eqb k 0) refl
     go true f = h (eqb-true k 0 f)
     go false f = omega arith
 
--- an answer of 0 with its line is one without it
-no-number : (k room : ℕ) → lineAnswer k room ≡ 0 → k ≡ 0
-unfolding lineAnswer
-no-number k room e = go (eqb k 0) refl e
-  where
-    go : (b : Bool) → eqb k 0 ≡ b → cond b (cond (ltb room 512) 8 0) k ≡ 0 → k ≡ 0
-    go true f g = eqb-true k 0 f
-    go false f g = g
-
 module _ (words n ta ts own session input : ℕ) (coins weights : List ℕ) (room : ℕ) (e : Entry) (f : e ≡ openEntry words n ta ts own session input coins weights room) where
   pub open-few : lineLength e ≤ 512
   unfolding openEntry openNumber
-  open-few = rw f (entry-few _ _ (λ z. opening-fits words n ta ts own session input coins weights (no-number _ room z)))
+  open-few = rw f (entry-few _ _ (λ z. opening-fits words n ta ts own session input coins weights (line-taken _ room z .0)))
 
   pub open-number : (r : ℕ) → r ≡ entryNumber e → r ≡ entryNumber (openEntry words n ta ts own session input coins weights room)
   open-number r g = g ∙ ap entryNumber f
@@ -139,7 +131,7 @@ module _ (words n ta ts own session input : ℕ) (coins weights : List ℕ) (roo
 module _ (s : List ℕ) (link : ℕ) (b : List ℕ) (room : ℕ) (e : Entry) (f : e ≡ deliverEntry s link b room) where
   pub deliver-few : lineLength e ≤ 512
   unfolding deliverEntry deliverNumber
-  deliver-few = rw f (entry-few _ _ (λ z. delivery-fits s link b (no-number _ room z)))
+  deliver-few = rw f (entry-few _ _ (λ z. delivery-fits s link b (line-taken _ room z .0)))
 
   pub deliver-number : (r : ℕ) → r ≡ entryNumber e → r ≡ entryNumber (deliverEntry s link b room)
   deliver-number r g = g ∙ ap entryNumber f

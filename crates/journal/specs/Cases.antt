@@ -25,6 +25,7 @@ use Rattle.turn.specs.declared.Admitted.the-variants as admitted
 use Rattle.turn.specs.declared.Outcome.{Outcome}
 use Rattle.journal.specs.Lines.{openingLine, deliveryLine, turnLine}
 use Rattle.journal.specs.Journal.{lineAnswer, lineWords, lineBytes, lineEntry, acts, openNumber, openedWords, openedBytes, openEntry, deliverNumber, deliveredWords, deliveredBytes, deliverEntry, turnRoom, turnedMessage, turnedLine}
+use Rattle.journal.specs.Laws.{line-answer, line-words, room-kept, message-kept}
 use Rattle.journal.specs.Fitting.{opening-fits, delivery-fits, turn-fits}
 use Rattle.journal.specs.declared.Entry.{Entry}
 use Rattle.journal.specs.declared.Entry.the-variants as entry
@@ -68,16 +69,7 @@ module _ (k room : ℕ) (h : room < 512) where
 -- with enough
 module _ (k room : ℕ) (h : 512 ≤ room) where
   enough : lineAnswer k room ≡ k
-  unfolding lineAnswer
-  enough = rw (le-ltb room 512 h) (go (eqb k 0) refl)
-    where
-      go : (b : Bool) → eqb k 0 ≡ b → cond b 0 k ≡ k
-      go true e = sym (eqb-true k 0 e)
-      go false e = refl
-
-  pub enough-words : (before after : List ℕ) → after ≡ lineWords room before after
-  unfolding lineWords
-  enough-words before after = rw (le-ltb room 512 h)
+  enough = line-answer k room h
 
   pub refused-entry : (k ≡ 0 → ⊥) → (line : List ℕ) → entry.Refused k ≡ lineEntry (lineAnswer k room) line
   unfolding lineEntry
@@ -133,7 +125,7 @@ module _ (s : List ℕ) (n ta ts own session input : ℕ) (coins weights : List 
 
   pub open-words : (t : List ℕ) → 512 ≤ room → t ≡ opened s n ta ts (weightsWord n weights) own session input coins → t ≡ openedWords s n ta ts own session input coins weights room
   unfolding openedWords
-  open-words t h f = f ∙ enough-words 0 room h s _
+  open-words t h f = f ∙ sym (line-words room s _ h)
 
 pub ruleset open-cases = (open-short, open-refused, open-short-bytes, open-refused-bytes, open-line, open-bytes, open-short-words, open-words)
 
@@ -186,7 +178,7 @@ module _ (s : List ℕ) (link : ℕ) (b : List ℕ) (room : ℕ) where
 
   pub deliver-words : (t : List ℕ) → 512 ≤ room → t ≡ delivered s link b → t ≡ deliveredWords s link b room
   unfolding deliveredWords
-  deliver-words t h f = f ∙ enough-words 0 room h s _
+  deliver-words t h f = f ∙ sym (line-words room s _ h)
 
 pub ruleset deliver-cases = (deliver-short, deliver-refused, deliver-short-bytes, deliver-refused-bytes, deliver-line, deliver-bytes, deliver-short-words, deliver-words)
 
@@ -223,16 +215,13 @@ turn-short-line s lent room h = rw (lt-ltb (length lent) 512 h) (sym (ap (λ (b 
 
 module _ (s out : List ℕ) (line : ℕ) (h : 512 ≤ line) where
   pub turn-enough : (r : Outcome) → r ≡ turnOutcome s (length out) → r ≡ turnOutcome s (turnRoom (length out) line)
-  unfolding turnRoom
-  turn-enough r e = rw (le-ltb line 512 h) e
+  turn-enough r e = rw (room-kept (length out) line h) e
 
   pub turn-enough-words : (t : List ℕ) → t ≡ turnWords s (length out) → t ≡ turnWords s (turnRoom (length out) line)
-  unfolding turnRoom
-  turn-enough-words t e = rw (le-ltb line 512 h) e
+  turn-enough-words t e = rw (room-kept (length out) line h) e
 
   pub turn-enough-message : (t : List ℕ) → t ≡ turnBytes s out → t ≡ turnedMessage s out line
-  unfolding turnedMessage
-  turn-enough-message t e = rw (le-ltb line 512 h) e
+  turn-enough-message t e = rw (message-kept s out line h) e
 
 module _ (s lent : List ℕ) (room : ℕ) (h : 512 ≤ length lent) (r : Outcome) (e : r ≡ turnOutcome s room) (b : Bool) (eb : b ≡ acts r) where
   pub turn-line : b ≡ true → (k : ℕ) (after : List ℕ) → Wrote turnLine lent 0 k after → after ≡ turnedLine s room lent

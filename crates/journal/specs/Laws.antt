@@ -27,6 +27,14 @@ line-taken k room e = go (eqb k 0) refl (ltb room LINE-BYTES) refl e
     go true f false g h = (eqb-true k 0 f, ltb-false room LINE-BYTES g)
     go false f b g h = absurd (false≢true (sym f ∙ ap (λ (x : ℕ). eqb x 0) h))
 
+pub line-answer : (k room : ℕ) → LINE-BYTES ≤ room → lineAnswer k room ≡ k
+unfolding lineAnswer
+line-answer k room l = rw (le-ltb room LINE-BYTES l) (go (eqb k 0) refl)
+  where
+    go : (b : Bool) → eqb k 0 ≡ b → cond b 0 k ≡ k
+    go true e = sym (eqb-true k 0 e)
+    go false e = refl
+
 pub line-words : (room : ℕ) (before after : List ℕ) → LINE-BYTES ≤ room → lineWords room before after ≡ after
 unfolding lineWords
 line-words room before after l = rw (le-ltb room LINE-BYTES l)

@@ -12,38 +12,27 @@ use Rattle.settings.specs.declared.Settings.{Settings}
 use Rattle.records.specs.Layout.{turnsAt}
 use Rattle.records.specs.Words.{word}
 use Rattle.session.specs.Session.{isState}
-use Rattle.opening.specs.Given.{weightsWord}
-use Rattle.opening.specs.Opening.{openAnswer, openWords, opened}
 use Rattle.delivery.specs.Delivery.{delivered}
 use Rattle.turn.specs.Turn.{turnOutcome, turnWords}
-use Rattle.journal.specs.Journal.{acts, lineAnswer, lineWords, openNumber, openedWords, deliveredWords, turnRoom}
+use Rattle.journal.specs.Journal.{acts, lineWords, openNumber, openedWords, deliveredWords, turnRoom}
+use Rattle.journal.specs.Laws.{line-taken, line-words, line-stays}
 use Rattle.restore.specs.Complete.{linesOf, joined}
 use Rattle.restore.specs.Restoring.{Replay, wrong, right, replay, replayAnswer, replayWords, lentAnswer, restoreAnswer, restoredWords, accepted}
 use Rattle.restore.specs.declared.Restored.the-variants as restored
-use Rattle.turn_bound.specs.TurnBound.{weightsBy, Arguments, answer, openedBy, settingsBy, TurnCount, Counted}
+use Rattle.turn_bound.specs.TurnBound.{Arguments, answer, openedBy, settingsBy, TurnCount}
 use Rattle.turn_bound.specs.Calls.{Call, opening, delivery, turn, report, restore, openNumberBy, restoreTaken, called, afterCalls, begun, turnLines, turnsSince, lineSettings, settingsSince, CountedCalls, CallCount}
-use Rattle.turn_bound.specs.Count.{turn-count}
+use Rattle.turn_bound.specs.Count.{turn-count, refused-words}
 use Rattle.turn_bound.specs.Stepped.{Stepped, opening-stepped, delivery-stepped, turn-stepped, replay-stepped}
 
 -- an opening with its line: accepted, it is the one without; else the words stay
 module _ (w : List ℕ) (o : Arguments) (line : List ℕ) where
   pub open-taken : eqb (openNumberBy w o line) 0 ≡ true → (answer w o ≡ 0) × (called w (opening o line) ≡ openedBy w o)
-  unfolding openNumber lineAnswer called openedWords lineWords
-  open-taken e = at (eqb (answer w o) 0) refl (ltb (length line) 512) e
-    where
-      at : (z : Bool) → eqb (answer w o) 0 ≡ z → (b : Bool) → eqb (cond z (cond b 8 0) (answer w o)) 0 ≡ true → (answer w o ≡ 0) × (cond b w (openedBy w o) ≡ openedBy w o)
-      at true q true e = absurd (false≢true e)
-      at true q false e = (eqb-true (answer w o) 0 q, refl)
-      at false q b e = absurd (false≢true (sym q ∙ e))
+  unfolding openNumber called openedWords
+  open-taken e = let t = line-taken (answer w o) (length line) (eqb-true _ 0 e) in (t .0, line-words (length line) w (openedBy w o) (t .1))
 
   pub open-refused : eqb (openNumberBy w o line) 0 ≡ false → called w (opening o line) ≡ w
-  unfolding openNumber lineAnswer called openedWords lineWords opened
-  open-refused e = at (eqb (answer w o) 0) (ltb (length line) 512) e
-    where
-      at : (z b : Bool) → eqb (cond z (cond b 8 0) (answer w o)) 0 ≡ false → cond b w (cond z (openWords (o .n) (o .ta) (o .ts) (weightsBy o) (o .own) (o .session) (o .input) (o .coins)) w) ≡ w
-      at z true e = refl
-      at true false e = absurd (false≢true (sym e))
-      at false false e = refl
+  unfolding openNumber called openedWords
+  open-refused e = line-stays (answer w o) (length line) w (openedBy w o) e (refused-words w o)
 
 -- a restore: accepted, its words are those of its lines; else the words stay
 module _ (w journal out : List ℕ) where

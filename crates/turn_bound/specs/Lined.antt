@@ -1,14 +1,13 @@
 -- Calls without their lines, each lent 512 bytes for it.
-use Prim.Native.Nat.{ℕ}
-use mathlib.Core.Bool.{Bool, true, false, cond}
+use Prim.Native.Nat.{ℕ, _≤_}
 use mathlib.Core.List.{List, [], _∷_}
-use mathlib.Core.Path.{_≡_, refl, sym, ap, _∙_}
-use lib.Dec.{eqb}
+use mathlib.Core.Path.{_≡_, refl, ap, _∙_}
+use native.Mathlib.Omega.{arith}
 use lib.ListN.{length}
-use borrow.Author.Tests.{eqb-true}
 use Rattle.records.specs.Fill.{blank, length-blank}
 use Rattle.delivery.specs.Delivery.{delivered}
-use Rattle.journal.specs.Journal.{LINE-BYTES, lineAnswer, lineWords, openNumber, openedWords, deliveredWords, turnRoom}
+use Rattle.journal.specs.Journal.{LINE-BYTES, openNumber, openedWords, deliveredWords, turnRoom}
+use Rattle.journal.specs.Laws.{line-answer, line-words, room-kept}
 use Rattle.turn_bound.specs.TurnBound.{Arguments, answer, openedBy, Step, after, acting}
 use Rattle.turn_bound.specs.TurnBound as step
 use Rattle.turn_bound.specs.Calls.{Call, opening, delivery, turn, report, openNumberBy, called, afterCalls, turnsSince}
@@ -28,30 +27,23 @@ unfoldable pub lined : List Step → List Call → List Call
 lined [] ds = ds
 lined (c ∷ cs) ds = linedStep c ∷ lined cs ds
 
--- 512 bytes are enough
-enough : (k : ℕ) → lineAnswer k (length lineLent) ≡ k
-unfolding lineAnswer
-enough k = rw (length-blank 512) (of (eqb k 0) refl)
-  where
-    of : (b : Bool) → eqb k 0 ≡ b → cond b 0 k ≡ k
-    of true e = sym (eqb-true k 0 e)
-    of false e = refl
+lent-enough : LINE-BYTES ≤ length lineLent
+lent-enough = omega (arith, length-blank LINE-BYTES)
 
 number-lined : (w : List ℕ) (o : Arguments) → openNumberBy w o lineLent ≡ answer w o
 unfolding openNumber
-number-lined w o = enough (answer w o)
+number-lined w o = line-answer (answer w o) (length lineLent) lent-enough
 
 pub opening-lined : (w : List ℕ) (o : Arguments) → called w (opening o lineLent) ≡ openedBy w o
-unfolding called openedWords lineWords
-opening-lined w o = rw (length-blank 512)
+unfolding called openedWords
+opening-lined w o = line-words (length lineLent) w (openedBy w o) lent-enough
 
 delivery-lined : (w : List ℕ) (link : ℕ) (b : List ℕ) → called w (delivery link b lineLent) ≡ delivered w link b
-unfolding called deliveredWords lineWords
-delivery-lined w link b = rw (length-blank 512)
+unfolding called deliveredWords
+delivery-lined w link b = line-words (length lineLent) w (delivered w link b) lent-enough
 
 room-lined : (room : ℕ) → turnRoom room (length lineLent) ≡ room
-unfolding turnRoom
-room-lined room = rw (length-blank 512)
+room-lined room = room-kept room (length lineLent) lent-enough
 
 -- the words are those after the calls without their lines
 pub lined-after : (s : List ℕ) (ds : List Call) (cs : List Step) → afterCalls s (lined cs ds) ≡ after (afterCalls s ds) cs
