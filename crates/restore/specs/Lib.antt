@@ -1,3 +1,4 @@
 pub mod Complete
 pub mod Reading
 pub mod Restoring
+pub mod Places

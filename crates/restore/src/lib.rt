@@ -1,4 +1,5 @@
 // Restoring a state from the lines of its journal.
+mod reader;
 
 // The answer of a restore.
 pub enum Restored {
