@@ -2,3 +2,5 @@ pub mod Complete
 pub mod Reading
 pub mod Restoring
 pub mod Places
+pub mod Parts
+pub mod Numbers

@@ -1,4 +1,5 @@
 // Restoring a state from the lines of its journal.
+mod fields;
 mod reader;
 
 // The answer of a restore.
