@@ -4,3 +4,4 @@ pub mod Restoring
 pub mod Places
 pub mod Parts
 pub mod Numbers
+pub mod Hex

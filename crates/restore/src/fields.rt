@@ -8,6 +8,7 @@ ghost use Rattle.text.specs.Numbers.{complete};
 ghost use Rattle.restore.specs.Reading.{zeroLed, fieldAt};
 ghost use Rattle.restore.specs.Parts.{fieldsAt, Field};
 ghost use Rattle.restore.specs.Numbers.{digitsFrom, numberOf};
+ghost use Rattle.restore.specs.Hex.{byteOf, HexRead};
 
 const TAB: u8 = 9;
 
@@ -89,4 +90,49 @@ pub fn read_number(f: &[u8], form: u8) -> Number
         return Number::Wrong;
     }
     digits_value(f, text::base(form))
+}
+
+// A field that is read as bytes: how many.
+pub enum Hex {
+    Wrong,
+    Is(usize),
+}
+
+const NO_BYTE: u64 = 256;
+
+// The byte of two digits, and 256 where one is none.
+fn byte_of(a: u8, b: u8) -> u64
+    ensures { λ r. ⌜ r ≡ byteOf a b ⌝ }
+{
+    let d = text::digit(a);
+    if 16 <= d {
+        return NO_BYTE;
+    }
+    let e = text::digit(b);
+    if 16 <= e {
+        return NO_BYTE;
+    }
+    16 * d as u64 + e as u64
+}
+
+// Reads the bytes of a field of hexadecimal digits, where there is room for all of them.
+pub fn read_bytes(f: &[u8], out: &mut [u8]) -> Hex
+    ensures { λ r. ⌜ HexRead (now (f .entry)) (length (now (out .entry))) r (now (out .exit)) ⌝ }
+{
+    let mut k: usize = 0;
+    while 2 * k + 1 < f.len() {
+        let x = byte_of(f[2 * k], f[2 * k + 1]);
+        if 255 < x {
+            return Hex::Wrong;
+        }
+        if out.len() <= k {
+            return Hex::Wrong;
+        }
+        out[k] = x as u8;
+        k += 1;
+    }
+    if 2 * k < f.len() {
+        return Hex::Wrong;
+    }
+    Hex::Is(k)
 }
