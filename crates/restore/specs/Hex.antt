@@ -24,6 +24,7 @@ hexOf f room = cond (hexRight f && leb (length (bytesOf f)) room) (Is (length (b
 
 -- the field f was read into lent bytes that are now after
 pub record HexRead (f : List ℕ) (room : ℕ) (r : Hex) (after : List ℕ) : Type 0 where
+  pub size : length after ≡ room
   pub answer : r ≡ hexOf f room
   pub bytes : (n : ℕ) → r ≡ Is n → take n after ≡ bytesOf f
 
@@ -72,9 +73,9 @@ module _ (a b d : ℕ) (p : d ≡ digitOf a) where
 
 pub ruleset byte-cases = (byte-first, byte-second, byte-both)
 
-wrong-read : (f after : List ℕ) (room : ℕ) → hexRight f && leb (length (bytesOf f)) room ≡ false → HexRead f room Wrong after
+wrong-read : (f after : List ℕ) (room : ℕ) → length after ≡ room → hexRight f && leb (length (bytesOf f)) room ≡ false → HexRead f room Wrong after
 unfolding hexOf
-wrong-read f after room e = record { answer = rw e; bytes = λ n z. absurd (let y : _≡_ {A = ℕ} 0 1 = cc in omega arith) }
+wrong-read f after room s e = record { size = s; answer = rw e; bytes = λ n z. absurd (let y : _≡_ {A = ℕ} 0 1 = cc in omega arith) }
 
 -- a loop that has read the first k bytes
 pub record Hexing (f out : List ℕ) (room k : ℕ) : Type 0 where
@@ -105,11 +106,11 @@ module _ (f out : List ℕ) (room k : ℕ) (h : Hexing f out room k) where
     unfolding bytesOf
     hexing-long r =
         let more : length (bytesOf (drop (2 * k) f)) ≡ suc (length (bytesOf (drop (2 * (k + 1)) f))) = ap (λ (g : List ℕ). length (bytesOf g)) pair in
-        wrong-read f out room (rw (lt-leb (length (bytesOf f)) room (omega (arith, long, h .size))) (and-none (hexRight f)))
+        wrong-read f out room (h .size) (rw (lt-leb (length (bytesOf f)) room (omega (arith, long, h .size))) (and-none (hexRight f)))
 
     module _ (x : ℕ) (p : x ≡ byteOf (getD f (2 * k) 0) (getD f (2 * k + 1) 0)) where
       pub hexing-wrong : 255 < x → HexRead f room Wrong out
-      hexing-wrong n = wrong-read f out room (rw (h .right ∙ ap hexRight pair ∙ no-byte (getD f (2 * k) 0) (getD f (2 * k + 1) 0) (drop (2 * (k + 1)) f) (rw p at n)))
+      hexing-wrong n = wrong-read f out room (h .size) (rw (h .right ∙ ap hexRight pair ∙ no-byte (getD f (2 * k) 0) (getD f (2 * k + 1) 0) (drop (2 * (k + 1)) f) (rw p at n)))
 
       pub hexing-next : x ≤ 255 → k < length out → Hexing f (set out k x) room (k + 1)
       unfolding hexRight bytesOf
@@ -127,7 +128,7 @@ module _ (f out : List ℕ) (room k : ℕ) (h : Hexing f out room k) where
   unfolding hexRight
   hexing-odd l n =
       let last : drop (2 * k) f ≡ getD f (2 * k) 0 ∷ [] = drop-cons f (2 * k) 0 n ∙ ap (λ (g : List ℕ). getD f (2 * k) 0 ∷ g) (drop-of-length-le f {i = suc (2 * k)} (omega arith)) in
-      wrong-read f out room (rw (h .right ∙ ap hexRight last))
+      wrong-read f out room (h .size) (rw (h .right ∙ ap hexRight last))
 
   pub hexing-done : length f ≤ 2 * k → HexRead f room (Is k) out
   unfolding hexOf hexRight bytesOf
@@ -136,6 +137,7 @@ module _ (f out : List ℕ) (room k : ℕ) (h : Hexing f out room k) where
       let all : bytesOf f ≡ take k out = h .bytes ∙ ap (λ (g : List ℕ). take k out ++ bytesOf g) none ∙ append-nil (take k out) in
       let size : length (bytesOf f) ≡ k = ap length all ∙ length-take-le k out (omega (arith, h .size, h .fits)) in
       record {
+        size = h .size;
         answer = rw (h .right ∙ ap hexRight none, size, le-leb k room (h .fits));
         bytes = λ n e. let s : k ≡ n = cc in rw (← s) (sym all);
       }

@@ -5,3 +5,4 @@ pub mod Places
 pub mod Parts
 pub mod Numbers
 pub mod Hex
+pub mod Applying

@@ -1,5 +1,6 @@
 // Restoring a state from the lines of its journal.
 mod fields;
+mod lines;
 mod reader;
 
 // The answer of a restore.
