@@ -135,7 +135,7 @@ module _ (w l h : List ℕ) (x : Number) (q : x ≡ numberOf 10 l) where
 pub ruleset link-cases = (link-wrong, link-is)
 
 -- the cases of a `D` line from a place on
-fields-past : (b : List ℕ) → fieldsAt b (length b + 1) ≡ []
+pub fields-past : (b : List ℕ) → fieldsAt b (length b + 1) ≡ []
 unfolding fieldsAt
 fields-past b = rw (lt-ltb (length b) (length b + 1) (omega arith))
 

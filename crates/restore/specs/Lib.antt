@@ -6,3 +6,4 @@ pub mod Parts
 pub mod Numbers
 pub mod Hex
 pub mod Applying
+pub mod Turning
