@@ -7,3 +7,5 @@ pub mod Numbers
 pub mod Hex
 pub mod Applying
 pub mod Turning
+pub mod Forms
+pub mod Filling

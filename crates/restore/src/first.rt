@@ -1,0 +1,72 @@
+// The first line of a journal: the opening.
+use crate::fields;
+use crate::fields::Number;
+ghost use mathlib.Core.Path.{_≡_};
+ghost use Prim.Native.Nat.{_-_, _≤_, _<_};
+ghost use lib.ListN.{length, take, drop};
+ghost use Rattle.restore.specs.Parts.{fieldsAt};
+ghost use Rattle.restore.specs.Forms.{formAt};
+ghost use Rattle.restore.specs.Filling.{Stored, FieldsRead};
+
+const WORD: u8 = 8;
+
+const PACK: u8 = 16;
+
+// The fields of an opening line that were read: how many.
+pub enum Fields {
+    Wrong,
+    Count(usize),
+}
+
+// The form of field k, from 0, of n concentrators.
+fn form_of(n: usize, k: usize) -> u8
+    requires { ⌜ n ≤ 16 ⌝ }
+    ensures { λ r. ⌜ r ≡ formAt n k ⌝ }
+{
+    if k < 6 {
+        return fields::DECIMAL;
+    }
+    if k == 6 {
+        return PACK;
+    }
+    if k < 7 + n {
+        return WORD;
+    }
+    fields::DECIMAL
+}
+
+// Reads a field as a number into place k.
+fn store_field(f: &[u8], form: u8, values: &mut [u64], k: usize) -> bool
+    requires { ⌜ k < length (now values) ⌝ }
+    ensures { λ r. ⌜ Stored form (now (f .entry)) (now (values .entry)) k r (now (values .exit)) ⌝ }
+{
+    let x = fields::read_number(f, form);
+    match x {
+        Number::Wrong => false,
+        Number::Is(v) => {
+            values[k] = v;
+            true
+        }
+    }
+}
+
+// Reads all fields from a place on.
+fn read_all(line: &[u8], start: usize, n: usize, values: &mut [u64]) -> Fields
+    requires { ⌜ (start ≤ length (now line)) × (n ≤ 16) ⌝ }
+    ensures { λ r. ⌜ FieldsRead n (fieldsAt (now (line .entry)) start) (length (now (values .entry))) r (now (values .exit)) ⌝ }
+{
+    let mut at = start;
+    let mut k: usize = 0;
+    while k < values.len() {
+        let e = fields::field_end(line, at);
+        if !store_field(&line[at..e], form_of(n, k), values, k) {
+            return Fields::Wrong;
+        }
+        k += 1;
+        if e == line.len() {
+            return Fields::Count(k);
+        }
+        at = e + 1;
+    }
+    Fields::Wrong
+}
