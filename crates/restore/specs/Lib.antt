@@ -9,3 +9,4 @@ pub mod Applying
 pub mod Turning
 pub mod Forms
 pub mod Filling
+pub mod Opened

@@ -2,11 +2,12 @@
 use crate::fields;
 use crate::fields::Number;
 ghost use mathlib.Core.Path.{_≡_};
-ghost use Prim.Native.Nat.{_-_, _≤_, _<_};
-ghost use lib.ListN.{length, take, drop};
+ghost use Prim.Native.Nat.{_+_, _≤_, _<_};
+ghost use lib.ListN.{length, take};
 ghost use Rattle.restore.specs.Parts.{fieldsAt};
 ghost use Rattle.restore.specs.Forms.{formAt};
 ghost use Rattle.restore.specs.Filling.{Stored, FieldsRead};
+ghost use Rattle.restore.specs.Opened.{CoinsFit, Copied, Weighed, WeightsAsked, WeightsRead};
 
 const WORD: u8 = 8;
 
@@ -69,4 +70,44 @@ fn read_all(line: &[u8], start: usize, n: usize, values: &mut [u64]) -> Fields
         at = e + 1;
     }
     Fields::Wrong
+}
+
+// Copies n coin words.
+fn copy_coins(values: &[u64], n: usize, coins: &mut [u32])
+    requires { ⌜ (7 + n ≤ length (now values)) × (n ≤ length (now coins)) × (n ≤ 16) × CoinsFit n (now values) ⌝ }
+    ensures { λ _. ⌜ Copied (now (values .entry)) 7 n (length (now (coins .entry))) (now (coins .exit)) ⌝ }
+{
+    let mut j: usize = 0;
+    while j < n {
+        coins[j] = values[7 + j] as u32;
+        j += 1;
+    }
+}
+
+// Copies n weights from a base on, if each is a byte.
+fn copy_weights(values: &[u64], base: usize, n: usize, weights: &mut [u8]) -> bool
+    requires { ⌜ (base + n ≤ length (now values)) × (n ≤ length (now weights)) ⌝ }
+    ensures { λ r. ⌜ Weighed (now (values .entry)) base n (length (now (weights .entry))) r (now (weights .exit)) ⌝ }
+{
+    let mut j: usize = 0;
+    while j < n {
+        let w = values[base + j];
+        if 255 < w {
+            return false;
+        }
+        weights[j] = w as u8;
+        j += 1;
+    }
+    true
+}
+
+// The weights of a line with so many numbers, where all are 1 before: a line without them leaves them so.
+fn read_weights(values: &[u64], n: usize, count: usize, weights: &mut [u8]) -> bool
+    requires { ⌜ WeightsAsked n count (now values) (now weights) ⌝ }
+    ensures { λ r. ⌜ WeightsRead n (take count (now (values .entry))) r (now (weights .exit)) ⌝ }
+{
+    if count == 7 + n {
+        return true;
+    }
+    copy_weights(values, 7 + n, n, weights)
 }
