@@ -10,3 +10,4 @@ pub mod Turning
 pub mod Forms
 pub mod Filling
 pub mod Opened
+pub mod Given

@@ -43,7 +43,7 @@ word-below f h =
     let b : valueFrom 16 0 f < (0 + 1) * 16 ^ 8 = rw e at (digits-below 0 f d) in
     omega arith
 
-coins-below : (n k : ℕ) (fs : List (List ℕ)) → properAll n k fs ≡ true → (j : ℕ) → 7 ≤ k + j → k + j < 7 + n → getD (valuesAll n k fs) j 0 < 2 ^ 32
+pub coins-below : (n k : ℕ) (fs : List (List ℕ)) → properAll n k fs ≡ true → (j : ℕ) → 7 ≤ k + j → k + j < 7 + n → getD (valuesAll n k fs) j 0 < 2 ^ 32
 unfolding properAll valuesAll
 coins-below n k [] h j lo hi = omega arith
 coins-below n k (f ∷ fs) h zero lo hi =

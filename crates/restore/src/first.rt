@@ -3,15 +3,20 @@ use crate::fields;
 use crate::fields::Number;
 ghost use mathlib.Core.Path.{_≡_};
 ghost use Prim.Native.Nat.{_+_, _≤_, _<_};
-ghost use lib.ListN.{length, take};
+ghost use lib.ListN.{length, getD, take};
+ghost use Rattle.restore.specs.Restoring.{openedFrom, openingFrom, openingRead, firstLine};
 ghost use Rattle.restore.specs.Parts.{fieldsAt};
 ghost use Rattle.restore.specs.Forms.{formAt};
 ghost use Rattle.restore.specs.Filling.{Stored, FieldsRead};
 ghost use Rattle.restore.specs.Opened.{CoinsFit, Copied, Weighed, WeightsAsked, WeightsRead};
+ghost use Rattle.restore.specs.Applying.{Tried};
+ghost use Rattle.restore.specs.Given.{OpenGiven};
 
 const WORD: u8 = 8;
 
 const PACK: u8 = 16;
+
+const VERSION: u64 = 1;
 
 // The fields of an opening line that were read: how many.
 pub enum Fields {
@@ -110,4 +115,43 @@ fn read_weights(values: &[u64], n: usize, count: usize, weights: &mut [u8]) -> b
         return true;
     }
     copy_weights(values, 7 + n, n, weights)
+}
+
+// Opens a session with the coin words and weights, and the other numbers of a line.
+fn open_with(copy: &mut [u64], n: usize, values: &[u64], coins: &[u32], weights: &[u8]) -> bool
+    requires { ⌜ (7 ≤ length (now values)) × (getD (now values) 5 0 < 4294967296) × (length (now copy) ≡ 2048) ⌝ }
+    ensures { λ r. ⌜ Tried (openedFrom n (now (values .entry)) (now (coins .entry)) (now (weights .entry))) (now (copy .entry)) r (now (copy .exit)) ⌝ }
+{
+    let answer = opening::open(
+        copy,
+        n as u64,
+        values[2],
+        values[3],
+        values[4],
+        values[5] as u32,
+        values[6],
+        coins,
+        weights,
+    );
+    answer == 0
+}
+
+// Opens a session with so many numbers of a line.
+fn open_values(copy: &mut [u64], n: usize, count: usize, values: &[u64]) -> bool
+    requires { ⌜ OpenGiven n count (now values) (now copy) ⌝ }
+    ensures { λ r. ⌜ Tried (openingFrom n (take count (now (values .entry)))) (now (copy .entry)) r (now (copy .exit)) ⌝ }
+{
+    if values[0] != VERSION {
+        return false;
+    }
+    if 4294967295 < values[5] {
+        return false;
+    }
+    let mut weights = [1u8; 16];
+    if !read_weights(values, n, count, &mut weights) {
+        return false;
+    }
+    let mut coins = [0u32; 16];
+    copy_coins(values, n, &mut coins);
+    open_with(copy, n, values, &coins[..n], &weights[..n])
 }
