@@ -27,7 +27,7 @@ no-truth : {A : Type 0} → true ≡ false → A
 no-truth e = absurd (let z : _≡_ {A = ℕ} 0 1 = cc in omega arith)
 
 -- a line that cannot be applied
-refused : (p : Option Point) (w : List ℕ) → p ≡ none → Tried p w false w
+pub refused : (p : Option Point) (w : List ℕ) → p ≡ none → Tried p w false w
 unfolding applies wordsOr
 refused p w e = rw e (record { answer = refl; words = refl })
 

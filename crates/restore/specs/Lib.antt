@@ -11,3 +11,4 @@ pub mod Forms
 pub mod Filling
 pub mod Opened
 pub mod Given
+pub mod First

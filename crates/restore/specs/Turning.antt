@@ -181,7 +181,7 @@ quiet-delivery w lent (l ∷ h ∷ []) =
     quiet-point lent (delivered w (valueOf DECIMAL l) (bytesOf h)) (proper DECIMAL l && (hexRight h && eqb (deliverAnswer w (valueOf DECIMAL l) (bytesOf h)) 0))
 quiet-delivery w lent (l ∷ h ∷ x ∷ fs) = quiet-point lent w false
 
-first-field : (b : List ℕ) (e : ℕ) → Field b 0 e → fields b ≡ take e b ∷ fieldsAt b (e + 1)
+pub first-field : (b : List ℕ) (e : ℕ) → Field b 0 e → fields b ≡ take e b ∷ fieldsAt b (e + 1)
 unfolding fieldsAt
 first-field b e h = let s : e - 0 ≡ e = omega arith in rw (s, le-ltb (length b) 0 (omega arith)) at (h .field)
 

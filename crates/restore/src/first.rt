@@ -5,18 +5,24 @@ ghost use mathlib.Core.Path.{_≡_};
 ghost use Prim.Native.Nat.{_+_, _≤_, _<_};
 ghost use lib.ListN.{length, getD, take};
 ghost use Rattle.restore.specs.Restoring.{openedFrom, openingFrom, openingRead, firstLine};
+ghost use Rattle.text.specs.Numbers.{valueOf};
+ghost use Rattle.restore.specs.Reading.{fieldAt};
 ghost use Rattle.restore.specs.Parts.{fieldsAt};
-ghost use Rattle.restore.specs.Forms.{formAt};
+ghost use Rattle.restore.specs.Numbers.{numberOf};
+ghost use Rattle.restore.specs.Forms.{formAt, countRight, countedFrom};
 ghost use Rattle.restore.specs.Filling.{Stored, FieldsRead};
 ghost use Rattle.restore.specs.Opened.{CoinsFit, Copied, Weighed, WeightsAsked, WeightsRead};
 ghost use Rattle.restore.specs.Applying.{Tried};
 ghost use Rattle.restore.specs.Given.{OpenGiven};
+ghost use Rattle.restore.specs.First.{CountGiven};
 
 const WORD: u8 = 8;
 
 const PACK: u8 = 16;
 
 const VERSION: u64 = 1;
+
+const LETTER_O: u8 = 79;
 
 // The fields of an opening line that were read: how many.
 pub enum Fields {
@@ -154,4 +160,80 @@ fn open_values(copy: &mut [u64], n: usize, count: usize, values: &[u64]) -> bool
     let mut coins = [0u32; 16];
     copy_coins(values, n, &mut coins);
     open_with(copy, n, values, &coins[..n], &weights[..n])
+}
+
+// Whether an opening line of n concentrators has so many numbers.
+fn count_right(n: usize, count: usize) -> bool
+    requires { ⌜ n ≤ 16 ⌝ }
+    ensures { λ r. ⌜ r ≡ countRight n count ⌝ }
+{
+    (count == 7 + n) | (count == 7 + n + n)
+}
+
+fn open_counted(copy: &mut [u64], n: usize, count: usize, values: &[u64]) -> bool
+    requires { ⌜ CountGiven n count (now values) (now copy) ⌝ }
+    ensures { λ r. ⌜ Tried (countedFrom n (take count (now (values .entry)))) (now (copy .entry)) r (now (copy .exit)) ⌝ }
+{
+    if !count_right(n, count) {
+        return false;
+    }
+    open_values(copy, n, count, values)
+}
+
+// Opens a session of n concentrators by the fields from a place on.
+fn open_fields(copy: &mut [u64], line: &[u8], at: usize, n: u64) -> bool
+    requires { ⌜ (at ≤ length (now line)) × (length (now copy) ≡ 2048) ⌝ }
+    ensures { λ r. ⌜ Tried (openingRead n (fieldsAt (now (line .entry)) at)) (now (copy .entry)) r (now (copy .exit)) ⌝ }
+{
+    if 16 < n {
+        return false;
+    }
+    let few = n as usize;
+    let mut values = [0u64; 39];
+    let read = read_all(line, at, few, &mut values);
+    match read {
+        Fields::Wrong => false,
+        Fields::Count(k) => open_counted(copy, few, k, &values),
+    }
+}
+
+// The number in the second field from a place on: how many concentrators there are.
+fn second_number(line: &[u8], at: usize) -> Number
+    requires { ⌜ at ≤ length (now line) ⌝ }
+    ensures { λ r. ⌜ r ≡ numberOf 10 (fieldAt (fieldsAt (now (line .entry)) at) 1) ⌝ }
+{
+    let e = fields::field_end(line, at);
+    if e == line.len() {
+        return Number::Wrong;
+    }
+    let start = e + 1;
+    let g = fields::field_end(line, start);
+    fields::read_number(&line[start..g], fields::DECIMAL)
+}
+
+fn open_by(copy: &mut [u64], line: &[u8], at: usize) -> bool
+    requires { ⌜ (at ≤ length (now line)) × (length (now copy) ≡ 2048) ⌝ }
+    ensures { λ r. ⌜ Tried (openingRead (valueOf 10 (fieldAt (fieldsAt (now (line .entry)) at) 1)) (fieldsAt (now (line .entry)) at)) (now (copy .entry)) r (now (copy .exit)) ⌝ }
+{
+    let x = second_number(line, at);
+    match x {
+        Number::Wrong => false,
+        Number::Is(n) => open_fields(copy, line, at, n),
+    }
+}
+
+// Applies the first line.
+pub fn open_line(copy: &mut [u64], line: &[u8]) -> bool
+    requires { ⌜ length (now copy) ≡ 2048 ⌝ }
+    ensures { λ r. ⌜ Tried (firstLine (now (line .entry))) (now (copy .entry)) r (now (copy .exit)) ⌝ }
+{
+    let e = fields::field_end(line, 0);
+    let c = fields::letter(&line[..e]);
+    if c != LETTER_O {
+        return false;
+    }
+    if e == line.len() {
+        return false;
+    }
+    open_by(copy, line, e + 1)
 }
