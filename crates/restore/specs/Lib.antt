@@ -12,3 +12,4 @@ pub mod Filling
 pub mod Opened
 pub mod Given
 pub mod First
+pub mod Replaying

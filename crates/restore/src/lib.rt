@@ -3,6 +3,7 @@ mod fields;
 mod first;
 mod lines;
 mod reader;
+mod replay;
 
 // The answer of a restore.
 pub enum Restored {
