@@ -5,8 +5,10 @@ use mathlib.Core.List.{List, [], _∷_, _++_}
 use mathlib.Core.Option.{Option, none, some}
 use mathlib.Core.Path.{_≡_, refl, sym, ap, _∙_}
 use native.Mathlib.Omega.{arith}
+use native.Mathlib.Decide.{ℕ-discrete}
 use lib.Dec.{eqb, leb, ltb}
 use lib.ListN.{length, getD, take, drop}
+use lib.Seq.{length-take-le}
 use borrow.Author.Tests.{not-true, not-false}
 use Rattle.opening.specs.Given.{weightsWord}
 use Rattle.opening.specs.Opening.{openAnswer}
@@ -28,7 +30,7 @@ use Rattle.restore.specs.declared.replay.Place.{Place}
 use Rattle.restore.specs.declared.replay.Place.the-variants as place
 
 -- the line from a place to the place after its end
-unfoldable pub lineOf : List ℕ → ℕ → ℕ → List ℕ
+abbrev pub lineOf : List ℕ → ℕ → ℕ → List ℕ
 lineOf journal at end = take (end - 1 - at) (drop at journal)
 
 -- lines that come to x were replayed: answer, words, and the lent bytes
@@ -87,24 +89,41 @@ pub record Begun (journal : List ℕ) (first : ℕ) (w : List ℕ) : Type 0 wher
   pub whole : replay (linesOf journal) ≡ replayFrom 2 (right (record { words = w; turned = none })) (linesOf (drop first journal))
   pub bytes : length (joined (linesOf journal)) ≡ first + length (joined (linesOf (drop first journal)))
 
+-- where a line ends
+line-bound : (journal : List ℕ) (at e : ℕ) → at ≤ length journal → e ≡ lineEnd journal at → e ≤ length journal
+line-bound journal at e h q = go (ℕ-discrete e at)
+  where
+    go : Dec (e ≡ at) → e ≤ length journal
+    go (yes s) = omega arith
+    go (no s) = line-at journal at e h q s .inside
+
+line-over : (journal : List ℕ) (at e : ℕ) → at ≤ length journal → e ≡ lineEnd journal at → e ≤ at → linesOf (drop at journal) ≡ []
+line-over journal at e h q l = go (ℕ-discrete e at)
+  where
+    go : Dec (e ≡ at) → linesOf (drop at journal) ≡ []
+    go (yes s) = line-none journal at e q s
+    go (no s) = absurd (omega (arith, line-at journal at e h q s .rises))
+
 -- a loop that has come to the line of some number, from `at` to `end`; the next one ends at `next`
 pub record Replaying (journal : List ℕ) (at end next number : ℕ) (w : List ℕ) : Type 0 where
   pub rises : at < end
   pub inside : end ≤ length journal
   pub few : number ≤ end
   pub ahead : next ≡ lineEnd journal end
+  pub bound : next ≤ length journal
   pub whole : replay (linesOf journal) ≡ replayFrom (number + 1) (appliedOr number (nextLine w (lineOf journal at end))) (linesOf (drop end journal))
   pub bytes : length (joined (linesOf journal)) ≡ end + length (joined (linesOf (drop end journal)))
 
-pub replaying-start : (journal w : List ℕ) (first end next : ℕ) → Begun journal first w → end ≡ lineEnd journal first → (end ≡ first → ⊥) → next ≡ lineEnd journal end → Replaying journal first end next 2 w
-unfolding replayFrom further lineOf
+pub replaying-start : (journal w : List ℕ) (first end next : ℕ) → Begun journal first w → end ≡ lineEnd journal first → first < end → next ≡ lineEnd journal end → Replaying journal first end next 2 w
+unfolding replayFrom further
 replaying-start journal w first end next h e n a =
-    let l : Line journal first end = line-at journal first end (h .inside) e n in
+    let l : Line journal first end = line-at journal first end (h .inside) e (λ z. omega arith) in
     record {
       rises = l .rises;
       inside = l .inside;
       few = omega (arith, l .rises, h .low);
       ahead = a;
+      bound = line-bound journal end next (l .inside) a;
       whole = h .whole ∙ rw (l .line);
       bytes = h .bytes ∙ rw (joined-line journal first end l) (omega (arith, l .rises));
     }
@@ -122,10 +141,10 @@ pub record Placed (journal : List ℕ) (p : Place) (w : List ℕ) : Type 0 where
   pub last : (a e k : ℕ) → p ≡ place.Last a e k → AtLast journal a e k w
 
 module _ (journal w : List ℕ) (at end next number : ℕ) (h : Replaying journal at end next number w) where
-  pub replaying-done : next ≡ end → Placed journal (place.Last at end number) w
+  pub replaying-done : next ≤ end → Placed journal (place.Last at end number) w
   unfolding replayFrom
   replaying-done n =
-      let none-left : linesOf (drop end journal) ≡ [] = line-none journal end next (h .ahead) n in
+      let none-left : linesOf (drop end journal) ≡ [] = line-over journal end next (h .inside) (h .ahead) n in
       record {
         refused = λ k z. absurd (let y : _≡_ {A = ℕ} 0 1 = cc in omega arith);
         last = λ a e k z.
@@ -153,12 +172,12 @@ module _ (journal w : List ℕ) (at end next number : ℕ) (h : Replaying journa
             }
         go (some x) u v = absurd (let o : _≡_ {A = ℕ} 0 1 = cc in omega arith)
 
-    pub replaying-next : (later : ℕ) → not t ≡ false → (next ≡ end → ⊥) → later ≡ lineEnd journal next → Replaying journal end next later (number + 1) after
-    unfolding applies wordsOr appliedOr replayFrom further lineOf
+    pub replaying-next : (later : ℕ) → not t ≡ false → end < next → later ≡ lineEnd journal next → Replaying journal end next later (number + 1) after
+    unfolding applies wordsOr appliedOr replayFrom further
     replaying-next later e n a = go (nextLine w (lineOf journal at end)) refl (sym (y .answer) ∙ not-false t e) (y .words)
       where
         l : Line journal end next
-        l = line-at journal end next (h .inside) (h .ahead) n
+        l = line-at journal end next (h .inside) (h .ahead) (λ z. omega arith)
 
         go : (p : Option Point) → nextLine w (lineOf journal at end) ≡ p → applies p ≡ true → after ≡ wordsOr w p → Replaying journal end next later (number + 1) after
         go none u v z = absurd (let o : _≡_ {A = ℕ} 0 1 = cc in omega arith)
@@ -168,16 +187,12 @@ module _ (journal w : List ℕ) (at end next number : ℕ) (h : Replaying journa
               inside = l .inside;
               few = omega (arith, l .rises, h .few);
               ahead = a;
+              bound = line-bound journal next later (l .inside) a;
               whole = h .whole ∙ rw (u, l .line, z);
               bytes = h .bytes ∙ rw (joined-line journal end next l) (omega (arith, l .rises));
             }
 
 pub ruleset replaying = (replaying-start, replaying-done, replaying-wrong, replaying-next)
-
--- the line of a loop within the journal
-pub line-part : (journal w : List ℕ) (at end next number : ℕ) (r : Bool) (after : List ℕ) → Replaying journal at end next number w → Tried (nextLine w (take (end - 1 - at) (drop at journal))) w r after → Tried (nextLine w (lineOf journal at end)) w r after
-unfolding lineOf
-line-part journal w at end next number r after h y = y
 
 -- the cases after the loop
 module _ (journal w : List ℕ) (p : Place) (h : Placed journal p w) where
@@ -260,4 +275,19 @@ module _ (journal w : List ℕ) (e : ℕ) (q : e ≡ lineEnd journal 0) where
               bytes = joined-line journal 0 e l ∙ omega arith;
             }
 
-pub ruleset begun-cases = (begun-none, begun-wrong, begun)
+-- only the first line is there
+pub begun-over : (journal w lent : List ℕ) (first second : ℕ) → Begun journal first w → second ≡ lineEnd journal first → second ≤ first → Replays (replay (linesOf journal)) (length (joined (linesOf journal))) lent (answer.Given 0 first) w lent
+unfolding replayFrom replayAnswer replayWords replayBytes lengthAgain bytesAgain
+begun-over journal w lent first second h q l =
+    let none-left : linesOf (drop first journal) ≡ [] = line-over journal first second (h .inside) q l in
+    let bytes : length (joined (linesOf journal)) ≡ first = h .bytes ∙ rw none-left (omega arith) in
+    let whole : replay (linesOf journal) ≡ right (record { words = w; turned = none }) = h .whole ∙ rw none-left in
+    rw (whole, bytes) (record { answer = refl; words = refl; kept = refl })
+
+pub begun-inside : (journal : List ℕ) (e : ℕ) → e ≡ lineEnd journal 0 → e - 1 ≤ length journal
+begun-inside journal e q = omega (arith, line-bound journal 0 e (omega arith) q)
+
+pub begun-front : (journal : List ℕ) (e : ℕ) → e ≡ lineEnd journal 0 → e - 1 ≡ length (take (e - 1) journal)
+begun-front journal e q = sym (length-take-le (e - 1) journal (begun-inside journal e q))
+
+pub ruleset begun-cases = (begun-none, begun-wrong, begun, begun-over, begun-inside, begun-front)
