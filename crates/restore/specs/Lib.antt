@@ -13,3 +13,4 @@ pub mod Opened
 pub mod Given
 pub mod First
 pub mod Replaying
+pub mod Restored
