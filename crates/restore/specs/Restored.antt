@@ -62,34 +62,65 @@ module _ (x : Replay) (bytes : ℕ) (v lent copy message : List ℕ) (r : Restor
 
 pub ruleset onto-cases = (onto-refused, onto-journal, onto-given)
 
--- what a restore answers and leaves
-pub record Restoring (v journal lent : List ℕ) (r : Restored) (after message : List ℕ) : Type 0 where
-  pub answer : r ≡ restoreAnswer v journal (length lent)
-  pub words : after ≡ restoredWords v journal (length lent)
-  pub kept : message ≡ restoredBytes (length v) journal lent
+-- too few words or bytes
+lent-words : (words room : ℕ) → (words ≡ 2048 → ⊥) → lentAnswer words room ≡ 9
+unfolding lentAnswer
+lent-words words room n = rw (ne-eqb words 2048 n)
+
+lent-short : (words room : ℕ) → words ≡ 2048 → room < 140 → lentAnswer words room ≡ 8
+unfolding lentAnswer
+lent-short words room s l = rw (eq-eqb words 2048 s, lt-ltb room 140 l)
+
+lent-enough : (words room : ℕ) → words ≡ 2048 → 140 ≤ room → lentAnswer words room ≡ 0
+unfolding lentAnswer
+lent-enough words room s l = rw (eq-eqb words 2048 s, le-ltb room 140 l)
 
 module _ (v journal lent : List ℕ) where
-  pub restore-words : (length v ≡ 2048 → ⊥) → Restoring v journal lent (answer.Refused 9) v lent
-  unfolding restoreAnswer restoredWords restoredBytes lentAnswer
-  restore-words n = record { answer = rw (ne-eqb (length v) 2048 n); words = rw (ne-eqb (length v) 2048 n); kept = rw (ne-eqb (length v) 2048 n) }
+  module _ (k : ℕ) (e : lentAnswer (length v) (length lent) ≡ k) (n : k ≡ 0 → ⊥) where
+    refused-answer : answer.Refused k ≡ restoreAnswer v journal (length lent)
+    unfolding restoreAnswer
+    refused-answer = rw (e, ne-eqb k 0 n)
+
+    refused-words : v ≡ restoredWords v journal (length lent)
+    unfolding restoredWords
+    refused-words = rw (e, ne-eqb k 0 n)
+
+    refused-bytes : lent ≡ restoredBytes (length v) journal lent
+    unfolding restoredBytes
+    refused-bytes = rw (e, ne-eqb k 0 n)
+
+  module _ (n : length v ≡ 2048 → ⊥) where
+    pub no-state-answer : answer.Refused 9 ≡ restoreAnswer v journal (length lent)
+    no-state-answer = refused-answer 9 (lent-words (length v) (length lent) n) (λ z. omega arith)
+
+    pub no-state-words : v ≡ restoredWords v journal (length lent)
+    no-state-words = refused-words 9 (lent-words (length v) (length lent) n) (λ z. omega arith)
+
+    pub no-state-bytes : lent ≡ restoredBytes (length v) journal lent
+    no-state-bytes = refused-bytes 9 (lent-words (length v) (length lent) n) (λ z. omega arith)
 
   module _ (s : length v ≡ 2048) where
-    pub restore-short : length lent < 140 → Restoring v journal lent (answer.Refused 8) v lent
-    unfolding restoreAnswer restoredWords restoredBytes lentAnswer
-    restore-short l =
-        record {
-          answer = rw (eq-eqb (length v) 2048 s, lt-ltb (length lent) 140 l);
-          words = rw (eq-eqb (length v) 2048 s, lt-ltb (length lent) 140 l);
-          kept = rw (eq-eqb (length v) 2048 s, lt-ltb (length lent) 140 l);
-        }
+    module _ (l : length lent < 140) where
+      pub short-answer : answer.Refused 8 ≡ restoreAnswer v journal (length lent)
+      short-answer = refused-answer 8 (lent-short (length v) (length lent) s l) (λ z. omega arith)
 
-    pub restore-done : (r : Restored) (after message : List ℕ) → 140 ≤ length lent → Restores (replay (linesOf journal)) (length (joined (linesOf journal))) v lent r after message → Restoring v journal lent r after message
-    unfolding restoreAnswer restoredWords restoredBytes lentAnswer
-    restore-done r after message l h =
-        record {
-          answer = h .answer ∙ rw (eq-eqb (length v) 2048 s, le-ltb (length lent) 140 l);
-          words = h .words ∙ rw (eq-eqb (length v) 2048 s, le-ltb (length lent) 140 l);
-          kept = h .kept ∙ rw (eq-eqb (length v) 2048 s, le-ltb (length lent) 140 l);
-        }
+      pub short-words : v ≡ restoredWords v journal (length lent)
+      short-words = refused-words 8 (lent-short (length v) (length lent) s l) (λ z. omega arith)
 
-pub ruleset restore-cases = (restore-words, restore-short, restore-done)
+      pub short-bytes : lent ≡ restoredBytes (length v) journal lent
+      short-bytes = refused-bytes 8 (lent-short (length v) (length lent) s l) (λ z. omega arith)
+
+    module _ (r : Restored) (after message : List ℕ) (l : 140 ≤ length lent) (h : Restores (replay (linesOf journal)) (length (joined (linesOf journal))) v lent r after message) where
+      pub restored-answer : r ≡ restoreAnswer v journal (length lent)
+      unfolding restoreAnswer
+      restored-answer = h .answer ∙ rw (lent-enough (length v) (length lent) s l)
+
+      pub restored-words : after ≡ restoredWords v journal (length lent)
+      unfolding restoredWords
+      restored-words = h .words ∙ rw (lent-enough (length v) (length lent) s l)
+
+      pub restored-bytes : message ≡ restoredBytes (length v) journal lent
+      unfolding restoredBytes
+      restored-bytes = h .kept ∙ rw (lent-enough (length v) (length lent) s l)
+
+pub ruleset restore-cases = (no-state-answer, no-state-words, no-state-bytes, short-answer, short-words, short-bytes, restored-answer, restored-words, restored-bytes)

@@ -12,7 +12,7 @@ ghost use Prim.Native.Nat.{_≤_};
 ghost use lib.ListN.{length};
 ghost use Rattle.restore.specs.Complete.{linesOf, joined};
 ghost use Rattle.restore.specs.Restoring.{replay, restoreAnswer, restoredWords, restoredBytes};
-ghost use Rattle.restore.specs.Restored.{Restores, Restoring};
+ghost use Rattle.restore.specs.Restored.{Restores};
 
 // The answer of a restore.
 pub enum Restored {
@@ -51,4 +51,20 @@ fn restore_onto(state: &mut [u64], journal: &[u8], message: &mut [u8]) -> Restor
             Restored::Given(m, bytes)
         }
     }
+}
+
+// Restores a state from the complete lines of its journal. The lent bytes take the message of the last line again, if it sent one. A refusal
+// leaves the words and the bytes.
+pub fn restore(state: &mut [u64], journal: &[u8], message: &mut [u8]) -> Restored
+    ensures answer { λ r. ⌜ r ≡ restoreAnswer (now (state .entry)) (now (journal .entry)) (length (now (message .entry))) ⌝ }
+    ensures words { λ _. ⌜ now (state .exit) ≡ restoredWords (now (state .entry)) (now (journal .entry)) (length (now (message .entry))) ⌝ }
+    ensures bytes { λ _. ⌜ now (message .exit) ≡ restoredBytes (length (now (state .entry))) (now (journal .entry)) (now (message .entry)) ⌝ }
+{
+    if state.len() != layout::STATE_WORDS {
+        return Restored::Refused(refusal::NO_STATE);
+    }
+    if message.len() < turn::MESSAGE_BYTES {
+        return Restored::Refused(refusal::SHORT);
+    }
+    restore_onto(state, journal, message)
 }
