@@ -4,3 +4,16 @@ pub mod Restoring
 pub mod Written
 pub mod WrittenNumbers
 pub mod WrittenLines
+pub mod Places
+pub mod Parts
+pub mod Numbers
+pub mod Hex
+pub mod Applying
+pub mod Turning
+pub mod Forms
+pub mod Filling
+pub mod Opened
+pub mod Given
+pub mod First
+pub mod Replaying
+pub mod Restored
