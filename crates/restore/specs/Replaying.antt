@@ -148,15 +148,15 @@ module _ (journal w : List ℕ) (at end next number : ℕ) (h : Replaying journa
       record {
         refused = λ k z. absurd (let y : _≡_ {A = ℕ} 0 1 = cc in omega arith);
         last = λ a e k z.
-          let x : at ≡ a = cc in
-          let y : end ≡ e = cc in
-          let u : number ≡ k = cc in
-          rw (← x, ← y, ← u) (record {
-            rises = h .rises;
-            inside = h .inside;
-            whole = h .whole ∙ rw none-left;
-            bytes = h .bytes ∙ rw none-left (omega arith);
-          });
+            let x : at ≡ a = cc in
+            let y : end ≡ e = cc in
+            let u : number ≡ k = cc in
+            rw (← x, ← y, ← u) (record {
+              rises = h .rises;
+              inside = h .inside;
+              whole = h .whole ∙ rw none-left;
+              bytes = h .bytes ∙ rw none-left (omega arith);
+            });
       }
 
   module _ (t : Bool) (after : List ℕ) (y : Tried (nextLine w (lineOf journal at end)) w t after) where
