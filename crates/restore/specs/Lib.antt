@@ -1,6 +1,7 @@
 pub mod Complete
 pub mod Reading
 pub mod Restoring
+pub mod Truth
 pub mod Places
 pub mod Parts
 pub mod Numbers

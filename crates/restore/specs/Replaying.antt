@@ -1,9 +1,9 @@
 -- The lines of a journal as the code takes them: the first, those in the middle, and the last, whose message is given again.
-use Prim.Native.Nat.{ℕ, zero, suc, _+_, _-_, _^_, _≤_, _<_}
+use Prim.Native.Nat.{ℕ, _+_, _-_, _^_, _≤_, _<_}
 use mathlib.Core.Bool.{Bool, true, false, cond, _&&_, not}
-use mathlib.Core.List.{List, [], _∷_, _++_}
+use mathlib.Core.List.{List, [], _∷_}
 use mathlib.Core.Option.{Option, none, some}
-use mathlib.Core.Path.{_≡_, refl, sym, ap, _∙_}
+use mathlib.Core.Path.{_≡_, refl, sym, _∙_}
 use native.Mathlib.Omega.{arith}
 use native.Mathlib.Decide.{ℕ-discrete}
 use lib.Dec.{eqb, leb, ltb}
@@ -148,15 +148,15 @@ module _ (journal w : List ℕ) (at end next number : ℕ) (h : Replaying journa
       record {
         refused = λ k z. absurd (let y : _≡_ {A = ℕ} 0 1 = cc in omega arith);
         last = λ a e k z.
-          let x : at ≡ a = cc in
-          let y : end ≡ e = cc in
-          let u : number ≡ k = cc in
-          rw (← x, ← y, ← u) (record {
-            rises = h .rises;
-            inside = h .inside;
-            whole = h .whole ∙ rw none-left;
-            bytes = h .bytes ∙ rw none-left (omega arith);
-          });
+            let x : at ≡ a = cc in
+            let y : end ≡ e = cc in
+            let u : number ≡ k = cc in
+            rw (← x, ← y, ← u) (record {
+              rises = h .rises;
+              inside = h .inside;
+              whole = h .whole ∙ rw none-left;
+              bytes = h .bytes ∙ rw none-left (omega arith);
+            });
       }
 
   module _ (t : Bool) (after : List ℕ) (y : Tried (nextLine w (lineOf journal at end)) w t after) where
