@@ -1,5 +1,5 @@
 -- What a line does to the words and the lent bytes, as the code takes it.
-use Prim.Native.Nat.{ℕ, _+_, _*_, _-_, _≤_, _<_}
+use Prim.Native.Nat.{ℕ, _+_, _-_, _≤_, _<_}
 use mathlib.Core.Bool.{Bool, true, false, cond, _&&_}
 use mathlib.Core.List.{List, [], _∷_}
 use mathlib.Core.Option.{Option, none, some}
@@ -8,9 +8,9 @@ use native.Mathlib.Omega.{arith}
 use lib.Dec.{eqb, leb}
 use lib.ListN.{length, take, drop}
 use lib.Seq.{length-take-le}
-use borrow.Author.Tests.{eq-eqb, ne-eqb, eqb-true, eqb-false, le-leb, leb-true, lt-ltb, le-ltb}
+use borrow.Author.Tests.{eqb-true, eqb-false, le-leb, leb-true, lt-ltb}
 use Rattle.session.specs.Session.{sessionOf, sessionWith}
-use Rattle.wire.specs.Message.{countOf, lengthOf}
+use Rattle.wire.specs.Message.{countOf}
 use Rattle.wire.specs.declared.Message.{Message}
 use Rattle.wire.specs.declared.Message.the-variants.{Send, Echo, Ready, Est, Aux, Commit}
 use Rattle.wire_laws.specs.Laws.{Form}
@@ -20,7 +20,7 @@ use Rattle.delivery.specs.Delivery.{deliverAnswer, delivered}
 use Rattle.delivery.specs.Accepting.{Accepting, accepting}
 use Rattle.delivery.specs.Answers.{Taking, answer-accepted, answer-refused}
 use Rattle.text.specs.Fields.{TAB}
-use Rattle.text.specs.Numbers.{DECIMAL, valueOf}
+use Rattle.text.specs.Numbers.{valueOf}
 use Rattle.restore.specs.Reading.{proper, hexRight, bytesOf}
 use Rattle.restore.specs.Restoring.{Point, deliveredFrom}
 use Rattle.restore.specs.Places.{placeOf}

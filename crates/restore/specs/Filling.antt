@@ -1,24 +1,23 @@
 -- The fields of an opening line that are read one after another into an array of numbers.
-use Prim.Native.Nat.{ℕ, zero, suc, _+_, _*_, _-_, _^_, _≤_, _<_}
+use Prim.Native.Nat.{ℕ, suc, _+_, _-_, _≤_, _<_}
 use mathlib.Core.Bool.{Bool, true, false, cond, _&&_, not}
 use mathlib.Core.List.{List, [], _∷_, _++_, append-nil, append-assoc}
-use mathlib.Core.Option.{Option, none, some}
-use mathlib.Core.Path.{_≡_, refl, sym, ap, subst, _∙_}
+use mathlib.Core.Path.{_≡_, refl, sym, ap, _∙_}
 use native.Mathlib.Omega.{arith}
 use native.Mathlib.Numerals.{add-one}
-use lib.Dec.{eqb, leb, ltb}
-use lib.ListN.{length, getD, take, drop, set, length-append, length-set}
-use lib.Seq.{take-suc-set, take-set-le, length-take-le, getD-take}
-use borrow.Author.Tests.{eq-eqb, ne-eqb, lt-ltb, le-ltb, le-leb, lt-leb, leb-true, not-true, not-false}
+use lib.Dec.{leb}
+use lib.ListN.{length, take, drop, set, length-set}
+use lib.Seq.{take-suc-set}
+use borrow.Author.Tests.{le-leb, lt-leb, not-true, not-false}
 use Rattle.text.specs.Fields.{TAB}
-use Rattle.text.specs.Numbers.{digitOf, baseOf, allDigits, valueFrom, valueOf, complete, right}
+use Rattle.text.specs.Numbers.{valueOf, right}
+use Rattle.restore.specs.Truth.{and-none}
 use Rattle.restore.specs.Reading.{proper}
-use Rattle.restore.specs.Restoring.{Point, openingRead}
 use Rattle.restore.specs.Places.{placeOf}
 use Rattle.restore.specs.Parts.{fieldsAt, Field, field-at}
 use Rattle.restore.specs.Numbers.{numberOf}
-use Rattle.restore.specs.Forms.{formAt, properAll, valuesAll, countRight, countedFrom, opening-counted, values-length}
-use Rattle.restore.specs.Applying.{Tried, applies, wordsOr, fields-past}
+use Rattle.restore.specs.Forms.{formAt, properAll, valuesAll}
+use Rattle.restore.specs.Applying.{fields-past}
 use Rattle.restore.specs.declared.fields.Number.{Number}
 use Rattle.restore.specs.declared.fields.Number.the-variants as number
 use Rattle.restore.specs.declared.first.Fields.{Fields}
@@ -65,10 +64,6 @@ pub record Filling (n : ℕ) (b : List ℕ) (start room at k : ℕ) (xs : List �
 
 pub filling-start : (n : ℕ) (b : List ℕ) (start : ℕ) (xs : List ℕ) → start ≤ length b → Filling n b start (length xs) start 0 xs
 filling-start n b start xs h = record { size = refl; fits = omega arith; inside = h; right = refl; long = omega arith; numbers = refl }
-
-and-none : (b : Bool) → b && false ≡ false
-and-none true = refl
-and-none false = refl
 
 wrong-fields : (n : ℕ) (fs : List (List ℕ)) (room : ℕ) (after : List ℕ) → length after ≡ room → properAll n 0 fs && leb (length fs) room ≡ false → FieldsRead n fs room Wrong after
 wrong-fields n fs room after s e = record { size = s; answer = rw e; numbers = λ c z. absurd (let y : _≡_ {A = ℕ} 0 1 = cc in omega arith) }

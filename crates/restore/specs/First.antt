@@ -1,28 +1,27 @@
 -- The first line as the code takes it.
-use Prim.Native.Nat.{ℕ, zero, suc, _+_, _-_, _^_, _≤_, _<_}
+use Prim.Native.Nat.{ℕ, _+_, _-_, _^_, _≤_, _<_}
 use mathlib.Core.Bool.{Bool, true, false, cond, _&&_, _||_, not}
 use mathlib.Core.List.{List, [], _∷_}
-use mathlib.Core.Option.{Option, none, some}
+use mathlib.Core.Option.{none}
 use mathlib.Core.Path.{_≡_, refl, sym, ap, subst, _∙_}
 use native.Mathlib.Omega.{arith}
-use lib.Dec.{eqb, leb, ltb}
+use lib.Dec.{eqb, leb}
 use lib.ListN.{length, getD, take, drop}
 use lib.Seq.{length-take-le, getD-take}
 use borrow.Author.Tests.{eq-eqb, ne-eqb, lt-leb, eqb-true, leb-true, leb-false, not-true, not-false}
-use Rattle.quorum.specs.Bools.{and-left, and-right}
-use Rattle.text.specs.Fields.{TAB, fields, letter}
-use Rattle.text.specs.Numbers.{DECIMAL, baseOf, allDigits, valueOf, complete, right, valuesOf}
+use Rattle.text.specs.Fields.{letter}
+use Rattle.text.specs.Numbers.{valueOf, complete, right}
 use Rattle.journal.specs.Lines.{openingForms}
+use Rattle.restore.specs.Truth.{and-none}
 use Rattle.restore.specs.Reading.{proper, allProper, fieldAt, formsFor}
-use Rattle.restore.specs.Restoring.{Point, openingFrom, openingRead, firstOf, firstLine}
-use Rattle.restore.specs.Places.{placeOf}
-use Rattle.restore.specs.Parts.{fieldsAt, Field, field-at}
+use Rattle.restore.specs.Restoring.{openingFrom, openingRead, firstOf, firstLine}
+use Rattle.restore.specs.Parts.{fieldsAt, Field}
 use Rattle.restore.specs.Numbers.{numberOf}
 use Rattle.restore.specs.Forms.{properAll, valuesAll, countRight, countedFrom, opening-counted, values-length}
 use Rattle.restore.specs.Filling.{FieldsRead}
 use Rattle.restore.specs.Opened.{CoinsFit, coins-below}
 use Rattle.restore.specs.Given.{OpenGiven, refused}
-use Rattle.restore.specs.Applying.{Tried, applies, wordsOr, fields-past}
+use Rattle.restore.specs.Applying.{Tried, fields-past}
 use Rattle.restore.specs.Turning.{first-field}
 use Rattle.restore.specs.declared.fields.Number.{Number}
 use Rattle.restore.specs.declared.fields.Number.the-variants as number
@@ -133,10 +132,6 @@ module _ (b : List ℕ) (at e : ℕ) (h : Field b at e) where
 pub ruleset second-cases = (second-none, second-is)
 
 -- a line whose second field is no number
-and-none : (b : Bool) → b && false ≡ false
-and-none true = refl
-and-none false = refl
-
 no-second : (m count : ℕ) (fs : List (List ℕ)) → proper 10 (fieldAt fs 1) ≡ false → allProper (formsFor m count) fs ≡ false
 unfolding formsFor openingForms allProper fieldAt
 no-second m count [] h = refl

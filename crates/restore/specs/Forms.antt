@@ -1,18 +1,17 @@
 -- The fields of an opening line by their places: the form of each, and what reading them all gives.
-use Prim.Native.Nat.{ℕ, zero, suc, _+_, _*_, _-_, _^_, _≤_, _<_}
+use Prim.Native.Nat.{ℕ, zero, suc, _+_, _≤_, _<_}
 use mathlib.Core.Bool.{Bool, true, false, cond, _&&_, _||_}
-use mathlib.Core.List.{List, [], _∷_, _++_, append-nil, append-assoc}
-use mathlib.Core.Option.{Option, none, some}
+use mathlib.Core.List.{List, [], _∷_, _++_}
+use mathlib.Core.Option.{Option, none}
 use mathlib.Core.Path.{_≡_, refl, sym, ap, _∙_}
 use native.Mathlib.Omega.{arith}
-use native.Mathlib.Numerals.{add-one}
-use lib.Dec.{eqb, leb, ltb}
-use lib.ListN.{length, getD, take, drop, set, replicate, length-append, length-set, length-replicate}
-use lib.Seq.{take-suc-set, take-set-le, length-take-le}
-use borrow.Author.Tests.{eq-eqb, ne-eqb, lt-ltb, le-ltb, le-leb, lt-leb, eqb-true, eqb-false}
+use lib.Dec.{eqb, ltb}
+use lib.ListN.{length, replicate}
+use borrow.Author.Tests.{eq-eqb, ne-eqb, lt-ltb, le-ltb, le-leb, eqb-true, eqb-false}
 use Rattle.text.specs.Numbers.{DECIMAL, WORD, PACK, valueOf, valuesOf}
 use Rattle.journal.specs.Lines.{openingForms}
-use Rattle.restore.specs.Reading.{proper, allProper, fieldAt, formsFor}
+use Rattle.restore.specs.Truth.{and-none}
+use Rattle.restore.specs.Reading.{proper, allProper, formsFor}
 use Rattle.restore.specs.Restoring.{Point, openingFrom, openingRead}
 
 -- the form of field k of n concentrators: six decimals, the own input, n coin words, weights
@@ -106,10 +105,6 @@ proper-length [] [] n = absurd (n refl)
 proper-length [] (f ∷ fs) n = refl
 proper-length (w ∷ ws) [] n = refl
 proper-length (w ∷ ws) (f ∷ fs) n = rw (proper-length ws fs (λ e. n (ap suc e))) (and-none (proper w f))
-  where
-    and-none : (b : Bool) → b && false ≡ false
-    and-none true = refl
-    and-none false = refl
 
 -- the number of fields is right: with weights or without
 unfoldable pub countRight : ℕ → ℕ → Bool

@@ -1,30 +1,25 @@
 -- An opening line as the code takes it: what is asked of its numbers, and what it comes to.
-use Prim.Native.Nat.{ℕ, zero, suc, _+_, _*_, _-_, _^_, _≤_, _<_}
-use mathlib.Core.Bool.{Bool, true, false, cond, _&&_, _||_, not}
-use mathlib.Core.List.{List, [], _∷_, _++_}
-use mathlib.Core.Option.{Option, none, some}
-use mathlib.Core.Path.{_≡_, refl, sym, ap, subst, _∙_}
+use Prim.Native.Nat.{ℕ, _+_, _-_, _^_, _≤_, _<_}
+use mathlib.Core.Bool.{Bool, true, false, cond, _&&_, not}
+use mathlib.Core.List.{List, _++_}
+use mathlib.Core.Option.{Option, none}
+use mathlib.Core.Path.{_≡_, refl, sym, ap, _∙_}
 use native.Mathlib.Omega.{arith}
-use lib.Dec.{eqb, leb, ltb}
-use lib.ListN.{length, getD, take, drop, replicate, length-drop}
+use lib.Dec.{eqb, ltb}
+use lib.ListN.{length, getD, take, drop, replicate}
 use lib.Seq.{take-add, drop-at, length-take-le, getD-take, take-take}
 use mir.Val.{Fits}
 use mir.Syntax.{w32}
-use borrow.Author.Tests.{eq-eqb, ne-eqb, lt-ltb, le-ltb, eqb-true, leb-true, leb-false, ltb-true, not-true, not-false}
-use Rattle.opening.specs.Given.{weightsGiven, weightsWord}
+use borrow.Author.Tests.{eq-eqb, ne-eqb, lt-ltb, le-ltb, eqb-true, not-true, not-false}
+use Rattle.opening.specs.Given.{weightsWord}
 use Rattle.opening.specs.GivenLaws.{accepted-given}
-use Rattle.opening.specs.Opening.{openAnswer, openWords, opened}
+use Rattle.opening.specs.Opening.{openAnswer, opened}
+use Rattle.restore.specs.Truth.{no-truth}
 use Rattle.restore.specs.Reading.{weightsFrom}
-use Rattle.restore.specs.Restoring.{Point, openedFrom, openingFrom, openingRead}
-use Rattle.restore.specs.Forms.{properAll, valuesAll, countRight, countedFrom, opening-counted, values-length}
-use Rattle.restore.specs.Filling.{FieldsRead}
-use Rattle.restore.specs.Opened.{CoinsFit, Copied, WeightsRead, WeightsAsked, coins-below}
+use Rattle.restore.specs.Restoring.{Point, openedFrom, openingFrom}
+use Rattle.restore.specs.Forms.{countRight}
+use Rattle.restore.specs.Opened.{CoinsFit, Copied, WeightsRead, WeightsAsked}
 use Rattle.restore.specs.Applying.{Tried, applies, wordsOr}
-use Rattle.restore.specs.declared.first.Fields.{Fields}
-use Rattle.restore.specs.declared.first.Fields.the-variants.{Wrong, Count}
-
-no-truth : {A : Type 0} → true ≡ false → A
-no-truth e = absurd (let z : _≡_ {A = ℕ} 0 1 = cc in omega arith)
 
 -- a line that cannot be applied
 pub refused : (p : Option Point) (w : List ℕ) → p ≡ none → Tried p w false w

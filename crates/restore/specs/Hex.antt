@@ -1,15 +1,16 @@
 -- A field of hexadecimal digits that is read as bytes.
-use Prim.Native.Nat.{ℕ, zero, suc, _+_, _*_, _≤_, _<_}
+use Prim.Native.Nat.{ℕ, suc, _+_, _*_, _≤_, _<_}
 use mathlib.Core.Bool.{Bool, true, false, cond, _&&_}
 use mathlib.Core.List.{List, [], _∷_, _++_, append-nil, append-assoc}
 use mathlib.Core.Path.{_≡_, refl, sym, ap, _∙_}
 use native.Mathlib.Omega.{arith}
 use native.Mathlib.Numerals.{add-one}
 use lib.Dec.{leb, ltb}
-use lib.ListN.{length, getD, take, drop, set, length-append, length-set, length-drop, drop-of-length-le}
+use lib.ListN.{length, getD, take, drop, set, length-append, length-set, drop-of-length-le}
 use lib.Seq.{drop-cons, take-suc-set, length-take-le}
 use borrow.Author.Tests.{lt-ltb, le-ltb, le-leb, lt-leb, ltb-true}
 use Rattle.text.specs.Numbers.{digitOf}
+use Rattle.restore.specs.Truth.{and-none}
 use Rattle.restore.specs.Reading.{hexRight, bytesOf}
 use Rattle.restore.specs.declared.fields.Hex.{Hex}
 use Rattle.restore.specs.declared.fields.Hex.the-variants.{Wrong, Is}
@@ -27,10 +28,6 @@ pub record HexRead (f : List ℕ) (room : ℕ) (r : Hex) (after : List ℕ) : Ty
   pub size : length after ≡ room
   pub answer : r ≡ hexOf f room
   pub bytes : (n : ℕ) → r ≡ Is n → take n after ≡ bytesOf f
-
-and-none : (b : Bool) → b && false ≡ false
-and-none true = refl
-and-none false = refl
 
 -- two digits that are a byte
 record Byte (a b x : ℕ) : Type 0 where

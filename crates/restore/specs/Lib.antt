@@ -4,6 +4,7 @@ pub mod Restoring
 pub mod Written
 pub mod WrittenNumbers
 pub mod WrittenLines
+pub mod Truth
 pub mod Places
 pub mod Parts
 pub mod Numbers

@@ -1,5 +1,5 @@
 -- A field that is read as a number.
-use Prim.Native.Nat.{ℕ, zero, suc, _+_, _*_, _^_, _≤_, _<_}
+use Prim.Native.Nat.{ℕ, _+_, _*_, _^_, _≤_, _<_}
 use mathlib.Core.Bool.{Bool, true, false, cond, _&&_, not}
 use mathlib.Core.List.{List, [], _∷_}
 use mathlib.Core.Path.{_≡_, refl, sym, ap, _∙_}
@@ -9,9 +9,10 @@ use native.Mathlib.Nat.{mul-le-mul-left}
 use lib.Dec.{eqb, ltb}
 use lib.ListN.{length, getD, drop, drop-of-length-le}
 use lib.Seq.{drop-cons}
-use borrow.Author.Tests.{lt-ltb, le-ltb, eq-eqb, ne-eqb, ltb-true, ltb-false, not-true, not-false}
+use borrow.Author.Tests.{lt-ltb, le-ltb, ltb-true, ltb-false, not-true, not-false}
 use Rattle.text.specs.Fields.{letter}
-use Rattle.text.specs.Numbers.{DECIMAL, digitOf, baseOf, allDigits, valueFrom, valueOf, complete, right}
+use Rattle.text.specs.Numbers.{digitOf, baseOf, allDigits, valueFrom, valueOf, complete, right}
+use Rattle.restore.specs.Truth.{and-none}
 use Rattle.restore.specs.Reading.{zeroLed, proper}
 use Rattle.restore.specs.declared.fields.Number.{Number}
 use Rattle.restore.specs.declared.fields.Number.the-variants.{Wrong, Is}
@@ -46,10 +47,6 @@ stepped base v c d f e n = let m : digitOf c < base = rw e at n in rw (e, lt-ltb
 
 pub counting-fits : (v base d : ℕ) (t : Bool) → t ≡ ltb (v * base + d) (2 ^ 64) → not t ≡ false → v * base + d < 2 ^ 64
 counting-fits v base d t q b = ltb-true _ _ (sym q ∙ not-false t b)
-
-and-none : (b : Bool) → b && false ≡ false
-and-none true = refl
-and-none false = refl
 
 module _ (base : ℕ) (f : List ℕ) (k v : ℕ) (h : Counting base f k v) where
   pub counting-done : length f ≤ k → Is v ≡ digitsFrom base 0 f

@@ -1,28 +1,25 @@
 -- The numbers of an opening line given to the opening.
 use Prim.Native.Nat.{ℕ, zero, suc, _+_, _*_, _-_, _^_, _≤_, _<_}
-use mathlib.Core.Bool.{Bool, true, false, cond, _&&_, _||_, not}
+use mathlib.Core.Bool.{Bool, true, false, _&&_}
 use mathlib.Core.List.{List, [], _∷_, _++_}
-use mathlib.Core.Option.{Option, none, some}
-use mathlib.Core.Path.{_≡_, refl, sym, ap, subst, _∙_}
+use mathlib.Core.Path.{_≡_, refl, sym, ap, _∙_}
 use native.Mathlib.Omega.{arith}
 use native.Mathlib.Numerals.{add-one}
 use native.Mathlib.Nat.{pow-suc, mul-le-mul-right}
-use lib.Dec.{eqb, leb, ltb}
-use lib.ListN.{length, getD, take, drop, set, replicate, length-set, length-drop, length-replicate}
-use lib.Seq.{take-add, drop-at, take-suc, take-suc-set, length-take-le, getD-take, getD-drop, drop-cons}
+use lib.Dec.{eqb, ltb}
+use lib.ListN.{length, getD, take, drop, set, replicate, length-set, length-drop}
+use lib.Seq.{take-add, drop-at, take-suc, take-suc-set, length-take-le, getD-take, getD-drop}
 use mir.Val.{Fits}
-use mir.Syntax.{w8, w32}
-use borrow.Author.Tests.{eq-eqb, ne-eqb, lt-ltb, le-ltb, eqb-true, ltb-true}
+use mir.Syntax.{w32}
+use borrow.Author.Tests.{eq-eqb, ne-eqb, eqb-true, ltb-true}
 use Rattle.quorum.specs.Bools.{and-left, and-right}
 use Rattle.text.specs.Numbers.{digitOf, baseOf, allDigits, valueFrom, valueOf, complete, right}
-use Rattle.opening.specs.Given.{item, weightsGiven, weightsWord}
-use Rattle.opening.specs.GivenLaws.{WeightsGiven, are-given, accepted-given}
-use Rattle.opening.specs.Opening.{openAnswer, openWords, opened}
+use Rattle.opening.specs.Given.{item, weightsGiven}
+use Rattle.opening.specs.GivenLaws.{are-given}
 use Rattle.records.specs.Words.{word}
-use Rattle.restore.specs.Reading.{zeroLed, proper, weightsFrom}
-use Rattle.restore.specs.Restoring.{Point, openedFrom, openingFrom}
-use Rattle.restore.specs.Forms.{formAt, properAll, valuesAll, form-coin, countRight, countedFrom}
-use Rattle.restore.specs.Applying.{Tried, applies, wordsOr}
+use Rattle.restore.specs.Truth.{no-truth}
+use Rattle.restore.specs.Reading.{proper, weightsFrom}
+use Rattle.restore.specs.Forms.{formAt, properAll, valuesAll, form-coin, countRight}
 
 -- a word of eight hexadecimal digits has 32 bits
 digits-below : (v : ℕ) (f : List ℕ) → allDigits 16 f ≡ true → valueFrom 16 v f < (v + 1) * 16 ^ length f
@@ -104,9 +101,6 @@ pub record Weighed (xs : List ℕ) (base n room : ℕ) (r : Bool) (to : List ℕ
   pub size : length to ≡ room
   pub front : r ≡ true → take n to ≡ take n (drop base xs)
   pub wrong : r ≡ false → Heavy xs base n
-
-no-truth : {A : Type 0} → true ≡ false → A
-no-truth e = absurd (let z : _≡_ {A = ℕ} 0 1 = cc in omega arith)
 
 pub weighing-heavy : (xs : List ℕ) (base n room k : ℕ) (to : List ℕ) → Copying xs base n room k to → k < n → 255 < getD xs (base + k) 0 → Weighed xs base n room false to
 weighing-heavy xs base n room k to h l m = record { size = h .size; front = λ e. no-truth (sym e); wrong = λ e. record { place = k; low = l; heavy = m } }

@@ -4,7 +4,7 @@ use mathlib.Core.Bool.{Bool, true, false, cond, _&&_, not}
 use mathlib.Core.List.{List, [], _∷_}
 use lib.Dec.{eqb, ltb}
 use lib.ListN.{length, replicate, drop, getD}
-use Rattle.text.specs.Numbers.{DECIMAL, digitOf, right, valueOf}
+use Rattle.text.specs.Numbers.{DECIMAL, digitOf, right}
 use Rattle.journal.specs.Lines.{openingForms}
 
 -- a decimal of more than one digit that starts with 0

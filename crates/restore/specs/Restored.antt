@@ -1,15 +1,13 @@
 -- The cases of a restore.
 use Prim.Native.Nat.{ℕ, _+_, _≤_, _<_}
-use mathlib.Core.Bool.{Bool, true, false, cond, not}
-use mathlib.Core.List.{List, []}
-use mathlib.Core.Path.{_≡_, refl, sym, ap, _∙_}
+use mathlib.Core.List.{List}
+use mathlib.Core.Path.{_≡_, refl, sym, _∙_}
 use native.Mathlib.Omega.{arith}
-use lib.Dec.{eqb, ltb}
-use lib.ListN.{length, getD, take, drop, set}
+use lib.ListN.{length, getD, set}
 use lib.Seq.{take-all}
 use borrow.Author.Tests.{eq-eqb, ne-eqb, lt-ltb, le-ltb}
 use Rattle.restore.specs.Complete.{linesOf, joined}
-use Rattle.restore.specs.Restoring.{Point, Replay, wrong, right, replay, replayAnswer, replayWords, replayBytes, lentAnswer, restoreAnswer, restoredWords, restoredBytes}
+use Rattle.restore.specs.Restoring.{Replay, wrong, right, replay, replayAnswer, replayWords, replayBytes, lentAnswer, restoreAnswer, restoredWords, restoredBytes}
 use Rattle.restore.specs.Opened.{Copying, Copied, copying-start, copying-next, copying-done}
 use Rattle.restore.specs.Replaying.{Replays}
 use Rattle.restore.specs.declared.Restored.{Restored}

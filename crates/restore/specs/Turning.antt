@@ -6,11 +6,9 @@ use mathlib.Core.Option.{Option, none, some}
 use mathlib.Core.Path.{_≡_, refl, sym, ap, _∙_}
 use native.Mathlib.Omega.{arith}
 use lib.Dec.{eqb, ltb}
-use lib.ListN.{length, take, drop}
+use lib.ListN.{length, take}
 use lib.Seq.{length-take-le}
-use borrow.Author.Tests.{eq-eqb, ne-eqb, lt-ltb, le-ltb}
-use Rattle.records.specs.Records.{closed}
-use Rattle.acts.specs.Acts.{isDue}
+use borrow.Author.Tests.{eq-eqb, ne-eqb, le-ltb}
 use Rattle.acts.specs.declared.Act.{Act}
 use Rattle.acts.specs.declared.Act.the-variants as act
 use Rattle.session.specs.Session.{stored}
@@ -29,6 +27,7 @@ use Rattle.delivery.specs.Delivery.{deliverAnswer, delivered}
 use Rattle.text.specs.Fields.{TAB, fields, letter}
 use Rattle.text.specs.Numbers.{DECIMAL, valueOf}
 use Rattle.journal.specs.Journal.{acts}
+use Rattle.restore.specs.Truth.{no-truth}
 use Rattle.restore.specs.Reading.{proper, hexRight, bytesOf}
 use Rattle.restore.specs.Restoring.{Point, deliveredFrom, turnedFrom, nextOf, nextLine, lengthAgain, bytesAgain}
 use Rattle.restore.specs.Places.{placeOf}
@@ -94,9 +93,6 @@ admits-room w room h = go (stored w)
     go (Held x) = rw (le-ltb room 140 h)
 
 -- a turn that does not act leaves the words and the bytes
-no-truth : true ≡ false → ⊥
-no-truth e = let z : _≡_ {A = ℕ} 0 1 = cc in omega arith
-
 move-acts : (t : Bool) (o : Outcome) → acts o ≡ true → acts (cond t o outcome.MovedOut) ≡ true
 move-acts true o e = e
 move-acts false o e = refl
@@ -104,23 +100,23 @@ move-acts false o e = refl
 quiet-act : (own : ℕ) (w : List ℕ) (a : Act) → acts (outcomeOf own w a) ≡ false → applied w a ≡ w
 unfolding outcomeOf moveOutcome applied
 quiet-act own w act.Idle e = refl
-quiet-act own w act.InForce e = absurd (no-truth e)
-quiet-act own w (act.Commit k) e = absurd (no-truth e)
-quiet-act own w (act.Send v) e = absurd (no-truth e)
-quiet-act own w (act.Echo i v) e = absurd (no-truth e)
-quiet-act own w (act.Ready i v) e = absurd (no-truth e)
-quiet-act own w (act.Start i b) e = absurd (no-truth e)
-quiet-act own w (act.Relay i r b) e = absurd (no-truth e)
-quiet-act own w (act.Aux i r b) e = absurd (no-truth e)
-quiet-act own w (act.Move i r v) e = absurd (no-truth (sym (move-acts (ltb r roundLimit) _ refl) ∙ e))
+quiet-act own w act.InForce e = no-truth e
+quiet-act own w (act.Commit k) e = no-truth e
+quiet-act own w (act.Send v) e = no-truth e
+quiet-act own w (act.Echo i v) e = no-truth e
+quiet-act own w (act.Ready i v) e = no-truth e
+quiet-act own w (act.Start i b) e = no-truth e
+quiet-act own w (act.Relay i r b) e = no-truth e
+quiet-act own w (act.Aux i r b) e = no-truth e
+quiet-act own w (act.Move i r v) e = no-truth (sym (move-acts (ltb r roundLimit) _ refl) ∙ e)
 
 quiet-bytes : (x : Session) (w : List ℕ) (o : Outcome) (out : List ℕ) → acts o ≡ false → bytesAfter x w o out ≡ out
 unfolding bytesAfter
 quiet-bytes x w (outcome.Refused k) out e = refl
 quiet-bytes x w outcome.Idle out e = refl
-quiet-bytes x w (outcome.Sent m) out e = absurd (no-truth e)
-quiet-bytes x w outcome.MovedOut out e = absurd (no-truth e)
-quiet-bytes x w outcome.InForce out e = absurd (no-truth e)
+quiet-bytes x w (outcome.Sent m) out e = no-truth e
+quiet-bytes x w outcome.MovedOut out e = no-truth e
+quiet-bytes x w outcome.InForce out e = no-truth e
 
 quiet-words-for : (a : Admitted) (w : List ℕ) → acts (outcomeFor a w) ≡ false → wordsFor a w ≡ w
 unfolding outcomeFor wordsFor

@@ -5,8 +5,8 @@ ghost use Prim.Native.Nat.{_≤_, _<_};
 ghost use lib.ListN.{length};
 ghost use Rattle.text.specs.Fields.{letter};
 ghost use Rattle.text.specs.Numbers.{complete};
-ghost use Rattle.restore.specs.Reading.{zeroLed, fieldAt};
-ghost use Rattle.restore.specs.Parts.{fieldsAt, Field};
+ghost use Rattle.restore.specs.Reading.{zeroLed};
+ghost use Rattle.restore.specs.Parts.{Field};
 ghost use Rattle.restore.specs.Numbers.{digitsFrom, numberOf};
 ghost use Rattle.restore.specs.Hex.{byteOf, HexRead};
 

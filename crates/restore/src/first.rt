@@ -170,6 +170,7 @@ fn count_right(n: usize, count: usize) -> bool
     (count == 7 + n) | (count == 7 + n + n)
 }
 
+// Opens a session where there are as many numbers as n concentrators have.
 fn open_counted(copy: &mut [u64], n: usize, count: usize, values: &[u64]) -> bool
     requires { ⌜ CountGiven n count (now values) (now copy) ⌝ }
     ensures { λ r. ⌜ Tried (countedFrom n (take count (now (values .entry)))) (now (copy .entry)) r (now (copy .exit)) ⌝ }
@@ -211,6 +212,7 @@ fn second_number(line: &[u8], at: usize) -> Number
     fields::read_number(&line[start..g], fields::DECIMAL)
 }
 
+// Opens a session of as many concentrators as the second field says.
 fn open_by(copy: &mut [u64], line: &[u8], at: usize) -> bool
     requires { ⌜ (at ≤ length (now line)) × (length (now copy) ≡ 2048) ⌝ }
     ensures { λ r. ⌜ Tried (openingRead (valueOf 10 (fieldAt (fieldsAt (now (line .entry)) at) 1)) (fieldsAt (now (line .entry)) at)) (now (copy .entry)) r (now (copy .exit)) ⌝ }

@@ -34,6 +34,7 @@ fn deliver_hex(copy: &mut [u64], link: u64, h: &[u8]) -> bool
     }
 }
 
+// Delivers by a link and bytes as they are written.
 fn deliver_fields(copy: &mut [u64], l: &[u8], h: &[u8]) -> bool
     ensures { λ r. ⌜ Tried (deliveredFrom (now (copy .entry)) (now (l .entry) ∷ now (h .entry) ∷ [])) (now (copy .entry)) r (now (copy .exit)) ⌝ }
 {
@@ -61,6 +62,7 @@ fn deliver_line(copy: &mut [u64], line: &[u8], at: usize) -> bool
     deliver_fields(copy, &line[at..e], &line[start..g])
 }
 
+// A delivery as a line: it has no message.
 fn by_delivery(taken: bool) -> Applied
     ensures { λ r. ⌜ r ≡ deliveryApplied taken ⌝ }
 {
@@ -70,6 +72,7 @@ fn by_delivery(taken: bool) -> Applied
     Applied::Wrong
 }
 
+// A turn as a line: one that is refused or idle cannot be applied.
 fn by_outcome(o: Outcome) -> Applied
     ensures { λ r. ⌜ r ≡ outcomeApplied o ⌝ }
 {

@@ -1,5 +1,5 @@
 -- After j turns the first j are copied, and each is a byte.
-use Prim.Native.Nat.{_-_, _≤_}
+use Prim.Native.Nat.{_-_}
 use lib.ListN.{length}
 use Rattle.restore.specs.Opened.{Copying, weighing}
 use borrow.Author.Needs.{needs}
