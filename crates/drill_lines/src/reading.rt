@@ -21,9 +21,6 @@ const LETTER_L: u8 = 76;
 
 const LETTER_R: u8 = 82;
 
-// The form of a field is this, or the number of its hexadecimal digits.
-const DECIMAL: u8 = 10;
-
 const WORD: u8 = 8;
 
 const PACK: u8 = 16;
@@ -69,21 +66,21 @@ fn form(kind: u8, field: u8) -> u8
     if (kind == LETTER_P) & (field == 2) {
         return PACK;
     }
-    DECIMAL
+    text::DECIMAL
 }
 
 // Whether a field with so many digits may have one more.
 fn room(form: u8, digits: u8) -> bool
     ensures { λ r. ⌜ r ≡ room form digits ⌝ }
 {
-    (form == DECIMAL) | (digits < form)
+    (form == text::DECIMAL) | (digits < form)
 }
 
 // The digits with one more.
 fn counted(form: u8, digits: u8) -> u8
     ensures { λ r. ⌜ r ≡ counted form digits ⌝ }
 {
-    if form == DECIMAL {
+    if form == text::DECIMAL {
         return 1;
     }
     if digits < form {
@@ -169,7 +166,7 @@ fn lettered(byte: u8) -> Reader
 fn parted(r: Reader) -> Reader
     ensures { λ s. ⌜ s ≡ parted r ⌝ }
 {
-    if !text::complete(form(r.kind, r.field), r.digits) {
+    if !text::complete(form(r.kind, r.field), r.digits as usize) {
         return wrong();
     }
     if count(r.kind) as u64 <= r.field as u64 + 1 {
@@ -277,7 +274,7 @@ pub fn finish(r: Reader) -> Line
     if r.bad {
         return Line::Bad;
     }
-    if !text::complete(form(r.kind, r.field), r.digits) {
+    if !text::complete(form(r.kind, r.field), r.digits as usize) {
         return Line::Bad;
     }
     if r.field as u64 + 1 != count(r.kind) as u64 {

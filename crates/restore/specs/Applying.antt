@@ -9,16 +9,8 @@ use lib.Dec.{eqb, leb}
 use lib.ListN.{length, take, drop}
 use lib.Seq.{length-take-le}
 use borrow.Author.Tests.{eqb-true, eqb-false, le-leb, leb-true, lt-ltb}
-use Rattle.session.specs.Session.{sessionOf, sessionWith}
-use Rattle.wire.specs.Message.{countOf}
-use Rattle.wire.specs.declared.Message.{Message}
-use Rattle.wire.specs.declared.Message.the-variants.{Send, Echo, Ready, Est, Aux, Commit}
-use Rattle.wire_laws.specs.Laws.{Form}
-use Rattle.wire_laws.specs.Proper.{Layout}
-use Rattle.wire_laws.proofs.Converse.{taken-form}
 use Rattle.delivery.specs.Delivery.{deliverAnswer, delivered}
-use Rattle.delivery.specs.Accepting.{Accepting, accepting}
-use Rattle.delivery.specs.Answers.{Taking, answer-accepted, answer-refused}
+use Rattle.delivery.specs.Answers.{answer-short, answer-refused}
 use Rattle.text.specs.Fields.{TAB}
 use Rattle.text.specs.Numbers.{valueOf}
 use Rattle.restore.specs.Reading.{proper, hexRight, bytesOf}
@@ -46,24 +38,6 @@ wordsOr w (some x) = x .words
 pub record Tried (p : Option Point) (w : List ℕ) (r : Bool) (after : List ℕ) : Type 0 where
   pub answer : r ≡ applies p
   pub words : after ≡ wordsOr w p
-
--- a delivery of so many bytes is refused
-few-values : (n sender : ℕ) (m : Message) → n ≤ 16 → Layout n sender m → countOf m ≤ 16
-few-values n sender (Send i v) h l = omega arith
-few-values n sender (Echo i v) h l = omega arith
-few-values n sender (Ready i v) h l = omega arith
-few-values n sender (Est i r v) h l = omega arith
-few-values n sender (Aux i r v) h l = omega arith
-few-values n sender (Commit k) h l = omega arith
-
-pub delivered-short : (w : List ℕ) (link : ℕ) (b : List ℕ) → deliverAnswer w link b ≡ 0 → length b ≤ 140
-unfolding sessionOf sessionWith
-delivered-short w link b e =
-    let t : Taking w link b = answer-accepted w link b e in
-    let a : Accepting w link b (t .message) = accepting w link b (t .message) (t .accepted) in
-    let f : Form (sessionOf w .settings .n) (sessionOf w .number) link b (t .message) = taken-form _ _ link b (t .message) (a .taken) in
-    let c : countOf (t .message) ≤ 16 = few-values (sessionOf w .settings .n) link (t .message) (a .state .ruled .few) (f .layout) in
-    omega (arith, f .size)
 
 hex-is : (h : List ℕ) (room k : ℕ) → hexOf h room ≡ hex.Is k → (hexRight h ≡ true) × (k ≤ room)
 unfolding hexOf
@@ -97,7 +71,7 @@ module _ (w : List ℕ) (link : ℕ) (h after : List ℕ) (r : Hex) (q : HexRead
       go false b u v = record { answer = rw u; words = rw u }
       go true false u v = record { answer = rw (u, v); words = rw (u, v) }
       go true true u v =
-          let s : length (bytesOf h) ≤ 140 = delivered-short w link (bytesOf h) (eqb-true _ _ v) in
+          let s : length (bytesOf h) ≤ 140 = answer-short w link (bytesOf h) (eqb-true _ _ v) in
           let i : r ≡ hex.Is (length (bytesOf h)) = q .answer ∙ rw (u, le-leb (length (bytesOf h)) 140 s) in
           absurd (let z : _≡_ {A = ℕ} 0 1 = cc in omega arith)
 

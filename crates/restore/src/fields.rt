@@ -4,15 +4,12 @@ ghost use mathlib.Core.Path.{_≡_};
 ghost use Prim.Native.Nat.{_≤_, _<_};
 ghost use lib.ListN.{length};
 ghost use Rattle.text.specs.Fields.{letter};
-ghost use Rattle.text.specs.Numbers.{complete};
 ghost use Rattle.restore.specs.Reading.{zeroLed};
 ghost use Rattle.restore.specs.Parts.{Field};
 ghost use Rattle.restore.specs.Numbers.{digitsFrom, numberOf};
 ghost use Rattle.restore.specs.Hex.{byteOf, HexRead};
 
 const TAB: u8 = 9;
-
-pub const DECIMAL: u8 = 10;
 
 // A field that is read as a number.
 pub enum Number {
@@ -36,16 +33,6 @@ pub fn letter(f: &[u8]) -> u8
         return f[0];
     }
     0
-}
-
-// Whether a field has the digits of its form.
-fn complete(form: u8, digits: usize) -> bool
-    ensures { λ r. ⌜ r ≡ complete form digits ⌝ }
-{
-    if form == DECIMAL {
-        return 0 < digits;
-    }
-    digits == form as usize
 }
 
 // Whether a field of more than one digit starts with 0.
@@ -83,10 +70,10 @@ fn digits_value(f: &[u8], base: u8) -> Number
 pub fn read_number(f: &[u8], form: u8) -> Number
     ensures { λ r. ⌜ r ≡ numberOf form (now (f .entry)) ⌝ }
 {
-    if !complete(form, f.len()) {
+    if !text::complete(form, f.len()) {
         return Number::Wrong;
     }
-    if (form == DECIMAL) & zero_led(f) {
+    if (form == text::DECIMAL) & zero_led(f) {
         return Number::Wrong;
     }
     digits_value(f, text::base(form))

@@ -36,7 +36,7 @@ fn form_of(n: usize, k: usize) -> u8
     ensures { λ r. ⌜ r ≡ formAt n k ⌝ }
 {
     if k < 6 {
-        return fields::DECIMAL;
+        return text::DECIMAL;
     }
     if k == 6 {
         return PACK;
@@ -44,7 +44,7 @@ fn form_of(n: usize, k: usize) -> u8
     if k < 7 + n {
         return WORD;
     }
-    fields::DECIMAL
+    text::DECIMAL
 }
 
 // Reads a field as a number into place k.
@@ -209,7 +209,7 @@ fn second_number(line: &[u8], at: usize) -> Number
     }
     let start = e + 1;
     let g = fields::field_end(line, start);
-    fields::read_number(&line[start..g], fields::DECIMAL)
+    fields::read_number(&line[start..g], text::DECIMAL)
 }
 
 // Opens a session of as many concentrators as the second field says.

@@ -38,7 +38,7 @@ fn deliver_hex(copy: &mut [u64], link: u64, h: &[u8]) -> bool
 fn deliver_fields(copy: &mut [u64], l: &[u8], h: &[u8]) -> bool
     ensures { λ r. ⌜ Tried (deliveredFrom (now (copy .entry)) (now (l .entry) ∷ now (h .entry) ∷ [])) (now (copy .entry)) r (now (copy .exit)) ⌝ }
 {
-    let link = fields::read_number(l, fields::DECIMAL);
+    let link = fields::read_number(l, text::DECIMAL);
     match link {
         Number::Wrong => false,
         Number::Is(p) => deliver_hex(copy, p, h),

@@ -37,13 +37,13 @@ pub fn base(form: u8) -> u8
 }
 
 // Whether a field with so many digits is a number of its form.
-pub fn complete(form: u8, digits: u8) -> bool
+pub fn complete(form: u8, digits: usize) -> bool
     ensures { λ r. ⌜ r ≡ complete form digits ⌝ }
 {
     if form == DECIMAL {
         return 0 < digits;
     }
-    digits == form
+    digits == form as usize
 }
 
 // Whether the number with one digit more is below 2^64.

@@ -2,6 +2,7 @@
 mod digits;
 mod writing;
 
+pub use digits::DECIMAL;
 pub use digits::appended;
 pub use digits::base;
 pub use digits::complete;
