@@ -1,12 +1,13 @@
 -- The cases of the code of the three calls.
 use Prim.Native.Nat.{ℕ, _≤_, _<_}
-use mathlib.Core.Bool.{Bool, true, false, cond}
-use mathlib.Core.List.{List, [], _∷_, _++_}
+use mathlib.Core.Bool.{Bool, true, false, cond, false≢true}
+use mathlib.Core.List.{List, [], _∷_, _++_, append-nil}
 use mathlib.Core.Path.{_≡_, refl, sym, ap, _∙_}
 use native.Mathlib.Omega.{arith}
 use lib.Dec.{eqb, ltb}
-use lib.ListN.{length, drop}
-use borrow.Author.Tests.{lt-ltb, le-ltb, eq-eqb, ne-eqb, eqb-true}
+use lib.ListN.{length, take, drop}
+use lib.Seq.{length-take-le, take-length, drop-length}
+use borrow.Author.Tests.{lt-ltb, le-ltb, eq-eqb, ne-eqb, ltb-false}
 use Rattle.text.specs.Paste.{Wrote, wrote-front}
 use Rattle.opening.specs.Given.{weightsWord}
 use Rattle.opening.specs.Opening.{openAnswer, opened}
@@ -20,12 +21,12 @@ use Rattle.session.specs.Session.{stored}
 use Rattle.session.specs.declared.Session.{Session}
 use Rattle.session.specs.declared.Stored.{Stored}
 use Rattle.session.specs.declared.Stored.the-variants.{NoState, Held}
-use Rattle.turn.specs.Turn.{turnOutcome, turnWords, turnBytes, outcomeFor, admits, admittedFor, admittedIn}
+use Rattle.turn.specs.Turn.{turnOutcome, turnWords, turnBytes, outcomeFor, bytesFor, admits, admittedFor, admittedIn}
 use Rattle.turn.specs.declared.Admitted.the-variants as admitted
 use Rattle.turn.specs.declared.Outcome.{Outcome}
 use Rattle.journal.specs.Lines.{openingLine, deliveryLine, turnLine}
 use Rattle.journal.specs.Journal.{lineAnswer, lineWords, lineBytes, lineEntry, acts, openNumber, openedWords, openedBytes, openEntry, deliverNumber, deliveredWords, deliveredBytes, deliverEntry, turnRoom, turnedMessage, turnedLine}
-use Rattle.journal.specs.Laws.{line-answer, line-words, room-kept, message-kept}
+use Rattle.journal.specs.Laws.{line-answer, line-words, room-kept}
 use Rattle.journal.specs.Fitting.{opening-fits, delivery-fits, turn-fits}
 use Rattle.journal.specs.declared.Entry.{Entry}
 use Rattle.journal.specs.declared.Entry.the-variants as entry
@@ -182,6 +183,15 @@ module _ (s : List ℕ) (link : ℕ) (b : List ℕ) (room : ℕ) where
 
 pub ruleset deliver-cases = (deliver-short, deliver-refused, deliver-short-bytes, deliver-refused-bytes, deliver-line, deliver-bytes, deliver-short-words, deliver-words)
 
+pub room-none : (room line : ℕ) → line < 512 → 0 ≡ turnRoom room line
+unfolding turnRoom
+room-none room line h = rw (lt-ltb line 512 h)
+
+pub room-all : (room line : ℕ) → 512 ≤ line → room ≡ turnRoom room line
+room-all room line h = sym (room-kept room line h)
+
+pub ruleset room-cases = (room-none, room-all)
+
 -- a turn lent nothing is refused
 none-refused : (s : List ℕ) → acts (turnOutcome s 0) ≡ false
 unfolding turnOutcome outcomeFor admits admittedFor admittedIn
@@ -195,45 +205,70 @@ none-refused s = of (stored s)
     of NoState = refl
     of (Held x) = open-or-closed x (closed s)
 
--- turn
-module _ (s out : List ℕ) (line : ℕ) (h : line < 512) where
-  pub turn-short : (r : Outcome) → r ≡ turnOutcome s 0 → r ≡ turnOutcome s (turnRoom (length out) line)
+-- and keeps its bytes
+none-bytes : (s : List ℕ) → turnBytes s [] ≡ []
+unfolding turnBytes bytesFor admits admittedFor admittedIn
+none-bytes s = of (stored s)
+  where
+    open-or-closed : (x : Session) (c : Bool) → bytesFor (cond c (admitted.Refused 10) (admitted.Refused 8)) s [] ≡ []
+    open-or-closed x true = refl
+    open-or-closed x false = refl
+
+    of : (y : Stored) → bytesFor (admittedFor y s 0) s [] ≡ []
+    of NoState = refl
+    of (Held x) = open-or-closed x (closed s)
+
+-- turn: it gets the first k bytes for its message, all or none
+module _ (out : List ℕ) (line k : ℕ) (e : k ≡ turnRoom (length out) line) where
+  pub part-within : k ≤ length out
   unfolding turnRoom
-  turn-short r e = rw (lt-ltb line 512 h) e
+  part-within = rw e (of (ltb line 512))
+    where
+      of : (b : Bool) → cond b 0 (length out) ≤ length out
+      of true = omega arith
+      of false = omega arith
 
-  pub turn-short-words : (t : List ℕ) → t ≡ turnWords s 0 → t ≡ turnWords s (turnRoom (length out) line)
+  pub part-length : k ≡ length (take k out)
+  part-length = sym (length-take-le k out part-within)
+
+  same : length (take k out) ≡ turnRoom (length out) line
+  same = sym part-length ∙ e
+
+  module _ (s : List ℕ) where
+    pub part-answer : (r : Outcome) → r ≡ turnOutcome s (length (take k out)) → r ≡ turnOutcome s (turnRoom (length out) line)
+    part-answer r f = f ∙ ap (turnOutcome s) same
+
+    pub part-words : (t : List ℕ) → t ≡ turnWords s (length (take k out)) → t ≡ turnWords s (turnRoom (length out) line)
+    part-words t f = f ∙ ap (turnWords s) same
+
+    pub part-message : (t : List ℕ) → t ≡ turnBytes s (take k out) → t ++ drop k out ≡ turnedMessage s out line
+    unfolding turnedMessage turnRoom
+    part-message t f = rw f (of (ltb line 512) e)
+      where
+        of : (b : Bool) → k ≡ cond b 0 (length out) → turnBytes s (take k out) ++ drop k out ≡ cond b out (turnBytes s out)
+        of true q = rw (q, none-bytes s)
+        of false q = rw (q, take-length out, drop-length out) (append-nil (turnBytes s out))
+
+-- the line of a turn that acts, and of one that does not
+module _ (s out lent : List ℕ) (k : ℕ) (e : k ≡ turnRoom (length out) (length lent)) (r : Outcome) (f : r ≡ turnOutcome s (length (take k out))) (b : Bool) (eb : b ≡ acts r) where
+  told : acts (turnOutcome s (turnRoom (length out) (length lent))) ≡ b
+  told = ap acts (sym (part-answer out (length lent) k e s r f)) ∙ sym eb
+
+  -- it was lent enough
+  lent-enough : b ≡ true → 512 ≤ length lent
   unfolding turnRoom
-  turn-short-words t e = rw (lt-ltb line 512 h) e
+  lent-enough t = of (ltb (length lent) 512) refl (told ∙ t)
+    where
+      of : (c : Bool) → ltb (length lent) 512 ≡ c → acts (turnOutcome s (cond c 0 (length out))) ≡ true → 512 ≤ length lent
+      of true q a = absurd (false≢true (sym (none-refused s) ∙ a))
+      of false q a = ltb-false (length lent) 512 q
 
-  pub turn-short-message : out ≡ turnedMessage s out line
-  unfolding turnedMessage
-  turn-short-message = rw (lt-ltb line 512 h)
+  pub turn-line : b ≡ true → (j : ℕ) (after : List ℕ) → Wrote turnLine lent 0 j after → after ≡ turnedLine s (length out) lent
+  unfolding turnedLine atFront
+  turn-line t j after w = rw (told ∙ t) (wrote-front turnLine lent after j w (let l = turn-fits in omega (arith, lent-enough t)) .1)
 
-pub turn-short-line : (s lent : List ℕ) (room : ℕ) → length lent < 512 → lent ≡ turnedLine s room lent
-unfolding turnedLine turnRoom
-turn-short-line s lent room h = rw (lt-ltb (length lent) 512 h) (sym (ap (λ (b : Bool). cond b (atFront turnLine lent) lent) (none-refused s)))
+  pub turn-no-line : b ≡ false → lent ≡ turnedLine s (length out) lent
+  unfolding turnedLine
+  turn-no-line t = rw (told ∙ t)
 
-module _ (s out : List ℕ) (line : ℕ) (h : 512 ≤ line) where
-  pub turn-enough : (r : Outcome) → r ≡ turnOutcome s (length out) → r ≡ turnOutcome s (turnRoom (length out) line)
-  turn-enough r e = rw (room-kept (length out) line h) e
-
-  pub turn-enough-words : (t : List ℕ) → t ≡ turnWords s (length out) → t ≡ turnWords s (turnRoom (length out) line)
-  turn-enough-words t e = rw (room-kept (length out) line h) e
-
-  pub turn-enough-message : (t : List ℕ) → t ≡ turnBytes s out → t ≡ turnedMessage s out line
-  turn-enough-message t e = rw (message-kept s out line h) e
-
-module _ (s lent : List ℕ) (room : ℕ) (h : 512 ≤ length lent) (r : Outcome) (e : r ≡ turnOutcome s room) (b : Bool) (eb : b ≡ acts r) where
-  pub turn-line : b ≡ true → (k : ℕ) (after : List ℕ) → Wrote turnLine lent 0 k after → after ≡ turnedLine s room lent
-  unfolding turnedLine turnRoom atFront
-  turn-line t k after w =
-      let f : acts (turnOutcome s room) ≡ true = ap acts (sym e) ∙ sym eb ∙ t in
-      rw (le-ltb (length lent) 512 h, f) (wrote-front turnLine lent after k w (let l = turn-fits in omega arith) .1)
-
-  pub turn-no-line : b ≡ false → lent ≡ turnedLine s room lent
-  unfolding turnedLine turnRoom
-  turn-no-line t =
-      let f : acts (turnOutcome s room) ≡ false = ap acts (sym e) ∙ sym eb ∙ t in
-      rw (le-ltb (length lent) 512 h, f)
-
-pub ruleset turn-cases = (turn-short, turn-short-words, turn-short-message, turn-short-line, turn-enough, turn-enough-words, turn-enough-message, turn-line, turn-no-line)
+pub ruleset turn-cases = (part-within, part-length, part-answer, part-words, part-message, turn-line, turn-no-line)

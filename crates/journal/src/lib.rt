@@ -94,6 +94,13 @@ fn acted(o: Outcome) -> bool
     }
 }
 
+// The bytes that a turn gets for its message: none where its line has too few.
+fn turn_room(room: usize, line: usize) -> usize
+    ensures { λ r. ⌜ r ≡ turnRoom room line ⌝ }
+{
+    if line < LINE_BYTES { 0 } else { room }
+}
+
 // Takes a turn: a message that is sent stands at the front of the lent bytes.
 pub fn turn(state: &mut [u64], out: &mut [u8], line: &mut [u8]) -> Outcome
     ensures answer { λ r. ⌜ r ≡ turnOutcome (now (state .entry)) (turnRoom (length (now (out .entry))) (length (now (line .entry)))) ⌝ }
@@ -101,11 +108,8 @@ pub fn turn(state: &mut [u64], out: &mut [u8], line: &mut [u8]) -> Outcome
     ensures bytes { λ _. ⌜ now (out .exit) ≡ turnedMessage (now (state .entry)) (now (out .entry)) (length (now (line .entry))) ⌝ }
     ensures line_bytes { λ _. ⌜ now (line .exit) ≡ turnedLine (now (state .entry)) (length (now (out .entry))) (now (line .entry)) ⌝ }
 {
-    if line.len() < LINE_BYTES {
-        let mut none = [0u8; 0];
-        return turn::turn(state, &mut none);
-    }
-    let o = turn::turn(state, out);
+    let room = turn_room(out.len(), line.len());
+    let o = turn::turn(state, &mut out[..room]);
     if acted(o) {
         lines::put_turn(line);
     }

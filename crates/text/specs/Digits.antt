@@ -1,15 +1,20 @@
 -- The digits that the `io` library gives are the text of the definition.
-use Prim.Native.Nat.{ℕ, zero, suc, _+_, _-_, _/_, _%_, _^_, _≤_, _<_}
+use Prim.Native.Nat.{ℕ, zero, suc, _+_, _*_, _-_, _/_, _%_, _^_, _≤_, _<_}
+use mathlib.Core.Bool.{Bool, true, false}
 use mathlib.Core.List.{List, [], _∷_, _++_}
-use mathlib.Core.Path.{_≡_, ap, subst, _∙_}
+use mathlib.Core.Path.{_≡_, sym, ap, subst, _∙_}
 use native.Mathlib.Omega.{arith}
 use native.Mathlib.Decide.{decLe}
 use native.Mathlib.Nat.{le-div-iff-mul-le, div-lt-iff-lt-mul, mod-eq-of-lt, mod-lt, pow-suc, one-le-pow, pow-le-pow-right}
-use lib.ListN.{take}
-use borrow.Author.Tests.{lt-ltb, le-ltb}
+use lib.Dec.{leb}
+use lib.ListN.{length, getD, take, set, length-set}
+use borrow.Author.Tests.{lt-ltb, le-ltb, le-leb, lt-leb, leb-true}
+use mir.Val.{Fits}
+use mir.Syntax.{w64}
 use Rattle.io.specs.Digits.{digits, glyph, Fewest}
 use Rattle.text.specs.Numbers.{decimalIn, decimalText, hexText, wordText, byteText}
-use Rattle.text.specs.Paste.{Wrote, wrote-both}
+use Rattle.text.specs.Paste.{Wrote, wrote-both, wrote-within}
+use Rattle.text.specs.Each.{eachText, Each, each-start, each-next, each-done, each-length}
 
 less-one : (j : ℕ) → suc j - 1 ≡ j
 less-one j = omega arith
@@ -75,3 +80,70 @@ unfolding byteText
 wrote-byte b c d a r q s s' s'' e f h l =
     wrote-both (glyph (b / 16) ∷ []) (glyph (b % 16) ∷ []) s s' s'' a r q
     (subst (λ (x : ℕ). Wrote (x ∷ []) s a r s') e h) (subst (λ (x : ℕ). Wrote (x ∷ []) s' r q s'') f l)
+
+-- where there is room for both
+pub wrote-byte-within : (b c d a : ℕ) (s : List ℕ) → c ≡ glyph (b / 16) → d ≡ glyph (b % 16) → a + 1 < length s → Wrote (byteText b) s a (a + 2) (set (set s a c) (a + 1) d)
+wrote-byte-within b c d a s e f h =
+    let l : a + 1 < length (set s a c) = rw length-set h in
+    let n : a + 1 + 1 ≡ a + 2 = omega arith in
+    wrote-byte b c d a (a + 1) (a + 2) s (set s a c) (set (set s a c) (a + 1) d) e f (wrote-within c a s (omega arith)) (rw n at (wrote-within d (a + 1) (set s a c) l))
+
+-- a loop that has written the first k bytes, for all of which there is room
+pub record Within (bs s : List ℕ) (a k : ℕ) (after : List ℕ) : Type 0 where
+  pub room : a + 2 * length bs ≤ length s
+  pub each : Each byteText bs s a k (a + 2 * k) after
+
+pub within-start : (bs s : List ℕ) (a : ℕ) → a + 2 * length bs ≤ length s → Within bs s a 0 s
+within-start bs s a h = let e : a + 2 * 0 ≡ a = omega arith in record { room = h; each = rw e (each-start byteText bs s a) }
+
+pub within-next : (bs s s' s'' : List ℕ) (a k : ℕ) → Within bs s a k s' → k < length bs → Wrote (byteText (getD bs k 0)) s' (a + 2 * k) (a + 2 * k + 2) s'' → Within bs s a (k + 1) s''
+within-next bs s s' s'' a k h l w =
+    let e : a + 2 * k + 2 ≡ a + 2 * (k + 1) = omega arith in
+    record { room = h .room; each = rw e at (each-next byteText bs s s' s'' a k (a + 2 * k) (a + 2 * k + 2) (h .each) l w) }
+
+pub within-done : (bs s after : List ℕ) (a k : ℕ) → Within bs s a k after → length bs ≤ k → Wrote (eachText byteText bs) s a (a + 2 * length bs) after
+within-done bs s after a k h l =
+    let e : k ≡ length bs = omega (arith, h .each .within) in
+    rw e at (each-done byteText bs s after a k (a + 2 * k) (h .each) l)
+
+pub within-length : (bs s after : List ℕ) (a k : ℕ) → Within bs s a k after → length after ≡ length s
+within-length bs s after a k h = each-length byteText bs s after a k (a + 2 * k) (h .each)
+
+pub within-room : (bs s after : List ℕ) (a k : ℕ) → Within bs s a k after → k < length bs → a + 2 * k + 1 < length after
+within-room bs s after a k h l = omega (arith, h .room, within-length bs s after a k h)
+
+pub ruleset within = (within-start, within-next, within-done, within-length, within-room)
+
+-- numbers of one and two digits
+module _ (n : ℕ) (s s' s'' : List ℕ) (a r q : ℕ) where
+  pub wrote-one : n < 10 → Wrote ((48 + n) ∷ []) s a r s' → Wrote (decimalText n) s a r s'
+  unfolding decimalText decimalIn
+  wrote-one h w = rw (lt-ltb n 10 h) w
+
+  pub wrote-two : 10 ≤ n → n < 100 → Wrote ((48 + n / 10) ∷ []) s a r s' → Wrote ((48 + n % 10) ∷ []) s' r q s'' → Wrote (decimalText n) s a q s''
+  unfolding decimalText decimalIn
+  wrote-two l h w v = rw (le-ltb n 10 l, lt-ltb (n / 10) 10 (omega arith)) (wrote-both ((48 + n / 10) ∷ []) ((48 + n % 10) ∷ []) s s' s'' a r q w v)
+
+pub ruleset small-cases = (wrote-one, wrote-two)
+
+-- the test of the code, which nothing can wrap
+pub fits-past : (room a k : ℕ) → room < a → false ≡ leb (a + 2 * k) room
+fits-past room a k h = rw (lt-leb (a + 2 * k) room (omega arith))
+
+pub fits-half : (room a k : ℕ) → a ≤ room → leb k ((room - a) / 2) ≡ leb (a + 2 * k) room
+fits-half room a k h =
+    elim (decLe k ((room - a) / 2)) [
+      | yes q ↦ rw (le-leb _ _ q, le-leb (a + 2 * k) room (omega arith))
+      | no q ↦ rw (lt-leb k ((room - a) / 2) (omega arith), lt-leb (a + 2 * k) room (omega arith))
+    ]
+
+pub ruleset room-cases = (fits-past, fits-half)
+
+module _ (b : Bool) (a k room : ℕ) (e : b ≡ leb (a + 2 * k) room) (t : b ≡ true) where
+  pub room-there : a + 2 * k ≤ room
+  room-there = leb-true (a + 2 * k) room (sym e ∙ t)
+
+  pub place-fits : Fits w64 room → Fits w64 (a + 2 * k)
+  place-fits h = record { fits = omega (arith, room-there, h .fits) }
+
+pub ruleset room-given = (room-there, place-fits)

@@ -1,7 +1,6 @@
 -- `put_coins` writes word by word: after k turns the first k.
 use Prim.Native.Nat.{_-_}
 use lib.ListN.{length}
-use borrow.Author.Needs.{needs}
 use Rattle.text.specs.Each.{Each, each}
 use Rattle.journal.specs.Parts.{tabWord}
 use borrow.Author.Needs.{needs}

@@ -1,54 +1,46 @@
--- `put_hex_bytes` writes byte by byte: after k turns the first k.
-use Prim.Native.Nat.{_-_}
-use lib.ListN.{length}
-use borrow.Author.Needs.{needs}
-use Rattle.text.specs.Numbers.{byteText}
-use Rattle.text.specs.Each.{Each, each}
+-- Where there is room for all nothing is asked for each byte.
+use Rattle.text.specs.Digits.{room-given}
 use borrow.Author.Needs.{needs}
 use Rattle.text.proofs.writing.put_hex_bytes.Statement.{statement}
 use Rattle.text.proofs.writing.put_hex_bytes.Tie as tie
 
-abbrev Inv-loop : tie.InvT-loop
-Inv-loop out₀ at bytes place₀ k₀ out place k = Each byteText bytes out₀ at k place out
+hex-fits-requires : tie.Need-hex-fits-requires
+hex-fits-requires c κs = search needs
 
-abbrev μ-loop : tie.MeasureT-loop
-μ-loop out₀ at bytes place₀ k₀ out place k = length bytes - k
+set-hex-bytes-requires : tie.Need-set-hex-bytes-requires
+set-hex-bytes-requires c κs = search (room-given, needs)
 
-loop-holds : tie.Need-loop-holds Inv-loop μ-loop
-loop-holds c = search each
+mul-result : tie.Need-mul-result
+mul-result c = search needs
 
-shared-slice-read-put-hex-byte : tie.Need-shared-slice-read-put-hex-byte Inv-loop μ-loop
-shared-slice-read-put-hex-byte c = search needs
+add-result : tie.Need-add-result
+add-result c = search (room-given, needs)
 
-put-hex-byte-requires : tie.Need-put-hex-byte-requires Inv-loop μ-loop
-put-hex-byte-requires c κs = search needs
+same-length : tie.Need-same-length
+same-length c = search needs
 
-add-k : tie.Need-add-k Inv-loop μ-loop
-add-k c = search needs
+returns : tie.Need-returns
+returns c = search needs
 
-loop-less : tie.Need-loop-less Inv-loop μ-loop
-loop-less c = search needs
+put-hex-front-requires : tie.Need-put-hex-front-requires
+put-hex-front-requires c κs = search needs
 
-loop-again : tie.Need-loop-again Inv-loop μ-loop
-loop-again c = search each
+same-length-2 : tie.Need-same-length-2
+same-length-2 c = search needs
 
-same-length : tie.Need-same-length Inv-loop μ-loop
-same-length c = search each
-
-returns : tie.Need-returns Inv-loop μ-loop
-returns c = search each
+returns-2 : tie.Need-returns-2
+returns-2 c = search needs
 
 pub put-hex-bytes-spec : {M : Type 1} → statement M
 put-hex-bytes-spec =
     tie.close
     (tie.spec
-    Inv-loop
-    μ-loop
-    loop-holds
-    shared-slice-read-put-hex-byte
-    put-hex-byte-requires
-    add-k
-    loop-less
-    loop-again
+    hex-fits-requires
+    set-hex-bytes-requires
+    mul-result
+    add-result
     same-length
-    returns)
+    returns
+    put-hex-front-requires
+    same-length-2
+    returns-2)
