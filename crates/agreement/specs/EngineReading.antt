@@ -17,7 +17,6 @@ use Rattle.wire.specs.Bytes.{values, rises}
 use Rattle.wire.specs.Message.{countOf}
 use Rattle.wire.specs.Reading.{readMessage}
 use Rattle.wire.specs.declared.Message as wire
-use Rattle.wire.specs.declared.Message.the-variants as message
 use Rattle.wire.specs.declared.Parsed.the-variants.{Taken}
 use Rattle.opening.specs.Given.{item}
 use Rattle.turn.specs.Due.{due, commitDue}

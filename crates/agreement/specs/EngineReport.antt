@@ -1,13 +1,12 @@
 -- The laws of the report, of the engine: what it names is what the exits name, and a set in force has its COMMITs.
-use Prim.Native.Nat.{ℕ, _≤_}
-use mathlib.Core.Bool.{Bool, true, false, cond}
-use mathlib.Core.List.{List, []}
+use Prim.Native.Nat.{ℕ}
+use mathlib.Core.Bool.{Bool, true, false}
+use mathlib.Core.List.{List}
 use mathlib.Core.Logic.{_≢_}
-use mathlib.Core.Option.{Option, none, some}
+use mathlib.Core.Option.{some}
 use mathlib.Core.Path.{_≡_, refl, sym, ap, subst, _∙_}
 use native.Mathlib.Omega.{arith}
 use native.Mathlib.Decide.{ℕ-discrete}
-use lib.Dec.{eqb}
 use lib.ListN.{length, take}
 use borrow.Author.Tests.{eq-eqb, ne-eqb}
 use Rattle.settings.specs.Settings.{quorum}
@@ -24,17 +23,17 @@ use Rattle.turn.specs.Admitting.{admitting}
 use Rattle.turn.specs.Turn.{admits}
 use Rattle.turn.specs.declared.Admitted.{Admitted}
 use Rattle.turn.specs.declared.Admitted.the-variants as admitted
-use Rattle.report.specs.Report.{atFront, inForceSet, figuresOf, reportAnswer, reportNamed, reportInForce}
+use Rattle.report.specs.Report.{atFront, inForceSet, figuresOf, reportNamed, reportInForce}
 use Rattle.report.specs.Laws.{Reported, reported, report-gives, report-names, report-enforces, front-read}
 use Rattle.report.specs.declared.Figures.{Figures}
 use Rattle.agreement.specs.Evidence.{World, whole}
 use Rattle.agreement.specs.History.{Act, Names}
-use Rattle.held.specs.Held.{Message, COMMIT}
+use Rattle.held.specs.Held.{COMMIT}
 use Rattle.agreement.specs.Runs.{HeldFrom, OutputsHeld}
 use Rattle.agreement.specs.Calls.{Arguments, agreed, TurnLent, ReportNames, ReportEnforces, engine, world}
 use Rattle.agreement.specs.EngineSeen.{engineSeen}
 use Rattle.agreement.specs.EngineLent.{forMessage}
-use Rattle.agreement.specs.EngineReading.{Belongs, Belonging, admittedAct, actOf}
+use Rattle.agreement.specs.EngineReading.{Belongs, admittedAct, actOf}
 use Rattle.agreement.specs.EngineDue.{outputs-held, force-due}
 use Rattle.agreement.specs.EngineTurn.{settings-same}
 

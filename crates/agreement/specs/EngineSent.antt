@@ -1,5 +1,5 @@
 -- The bytes that a turn of the engine sends say the message of its act.
-use Prim.Native.Nat.{ℕ, zero, suc, _+_, _*_, _≤_, _<_, _^_, _%_}
+use Prim.Native.Nat.{ℕ, zero, suc, _+_, _*_, _≤_, _<_, _^_}
 use mathlib.Core.Bool.{Bool, true, false, cond}
 use mathlib.Core.List.{List, [], _∷_, List·Memᴰ, List·Memᴰ·head, List·Memᴰ·tail}
 use mathlib.Core.Logic.{_⊎_, inl, inr}
@@ -12,10 +12,8 @@ use lib.Seq.{take-all, take-at}
 use borrow.Author.Tests.{lt-ltb, ltb-true}
 use Rattle.quorum.specs.Bools.{and-both}
 use Rattle.settings.specs.Settings.{quorum, copy}
-use Rattle.settings.specs.Laws.{Ruled}
 use Rattle.settings.specs.Thresholds.{ruled-bounds, copy-sum}
 use Rattle.settings.specs.declared.Settings.{Settings}
-use Rattle.records.specs.Words.{word}
 use Rattle.records.specs.Records.{sendValue, echoHeld, echoValue, readyHeld, readyValue, commitCount, commitValue, commitSet, decidedZero, decidedOne}
 use Rattle.records.specs.Records as records
 use Rattle.records.specs.Bounds.{Fit}
@@ -25,22 +23,21 @@ use Rattle.acts.specs.declared.View.{View}
 use Rattle.acts.specs.declared.View.the-variants.{Only, Both}
 use Rattle.broadcasts.specs.Leading.{holders}
 use Rattle.broadcasts.specs.Broadcasts.{output}
-use Rattle.broadcasts.specs.Laws.{Holder, holders-some, ready-rests, output-holders}
+use Rattle.broadcasts.specs.Laws.{holders-some, ready-rests, output-holders}
 use Rattle.broadcasts.specs.declared.Output.the-variants.{Value}
-use Rattle.votes.specs.Votes.{estimate, coinValue}
+use Rattle.votes.specs.Votes.{estimate}
 use Rattle.votes.specs.Told.{Shown}
 use Rattle.exits.specs.Exits.{Exit, outputsOfS}
 use Rattle.exits.specs.Stated.{singleExit, outputsExit}
 use Rattle.exits.specs.Exits.{noExit}
-use Rattle.exits.specs.Rising.{RisingFrom, Rising, Source, outputs-from}
+use Rattle.exits.specs.Rising.{RisingFrom, Rising, outputs-from}
 use Rattle.exits.specs.Ways.{Way, first, second, third, way}
 use Rattle.exits.specs.Ways as ways
 use Rattle.exits.specs.Laws.{names-rising, names-few}
 use Rattle.exits.specs.Now.{exitNow}
 use Rattle.commits.specs.Sets.{listed, set-listed, set-length}
-use Rattle.wire.specs.Bytes.{values, risesFrom, rises}
-use Rattle.wire.specs.Message.{besides, countOf, lengthOf, valuesOf, encode, atFront}
-use Rattle.wire.specs.Reading.{readMessage}
+use Rattle.wire.specs.Bytes.{risesFrom, rises}
+use Rattle.wire.specs.Message.{besides, lengthOf, valuesOf, encode, atFront}
 use Rattle.wire.specs.declared.Message as wire
 use Rattle.wire.specs.declared.Message.the-variants as message
 use Rattle.wire.proofs.Laws.{length-encode}

@@ -37,10 +37,8 @@ use Rattle.journal.specs.Laws.{room-enough, acts-admitted}
 use Rattle.agreement.specs.Evidence.{World}
 use Rattle.agreement.specs.History.{Act, send}
 use Rattle.held.specs.Keeping.{count-back, set-back}
-use Rattle.agreement.specs.Runs.{Kept}
 use Rattle.agreement.specs.Calls.{Arguments, agreed, Bytes, TurnLent, SendsBytes, engine, world}
-use Rattle.agreement.specs.Laws.{Quiet, Active, Turned}
-use Rattle.agreement.specs.EngineSeen.{engineSeen}
+use Rattle.agreement.specs.Laws.{Turned}
 use Rattle.agreement.specs.EngineLent.{forMessage, room-same, SendsPlain, sends-plain}
 use Rattle.agreement.specs.EngineReading.{Belongs, Sets, Belonging, shownAct, admittedAct, actOf, engineReading}
 use Rattle.agreement.specs.EngineKept.{belongs-applied}

@@ -5,7 +5,7 @@ use Rattle.agreement_example.specs.Refusals.{refusalOf, refusal, withRef
 use Rattle.opening.specs.Ones.{onesGiven}
 use Rattle.text.specs.Numbers.{decimalIn, decimalText}
 use Rattle.journal.specs.Lines.{numberText, numberTexts, tabbed, openingForms, openingText, hexBytes, deliveryText, withEnd}
-use Rattle.journal.specs.Journal.{lineAnswer, lineWords, openNumber, openedWords, deliverNumber, deliveredWords, turnRoom, acts, turnedMessage}
+use Rattle.journal.specs.Journal.{lineAnswer, lineWords, openNumber, openedWords, deliverNumber, deliveredWords, turnRoom, turnedMessage}
 use Rattle.agreement_example.specs.Messages.{lowBytes, bytesOf, coinsOf, openingWith, openingOf, deliver, turnOf}
 
 unfoldable pub checks : Unit {0}

@@ -9,7 +9,7 @@ use lib.Seq.{take-all}
 use mir.Val.{Fits}
 use mir.Syntax.{w8}
 use Rattle.records.specs.Records.{closed}
-use Rattle.session.specs.Session.{stored, settingsOf, sessionWith, sessionOf}
+use Rattle.session.specs.Session.{stored, sessionWith, sessionOf}
 use Rattle.session.specs.Laws.{State, Read, held-read}
 use Rattle.session.specs.declared.Session.{Session}
 use Rattle.session.specs.declared.Stored.{Stored}

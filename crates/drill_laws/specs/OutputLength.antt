@@ -1,11 +1,10 @@
 -- The output of a drill has at most 2,048 bytes, so that as many lent bytes hold all of it.
-use Prim.Native.Nat.{ℕ, zero, suc, _+_, _*_, _/_, _%_, _≤_}
+use Prim.Native.Nat.{ℕ, zero, suc, _+_, _*_, _≤_}
 use mathlib.Core.List.{List, [], _∷_}
 use mathlib.Core.Path.{_≡_, refl, ap, _∙_}
 use native.Mathlib.Omega.{arith}
 use lib.ListN.{length, take, length-append, length-take}
-use lib.Dec.{eqb, ltb}
-use Rattle.io.specs.Digits.{digits, glyph}
+use lib.Dec.{eqb}
 use Rattle.settings.specs.Settings.{quorum}
 use Rattle.settings.specs.declared.Settings.{Settings}
 use Rattle.quorum.specs.Marks.{mark}
@@ -18,7 +17,7 @@ use Rattle.report.specs.Laws.{Reported, reported}
 use Rattle.report.specs.declared.Figures.{Figures}
 use Rattle.report.specs.declared.Answer.{Answer}
 use Rattle.report.specs.declared.Answer.the-variants.{Refused, Given}
-use Rattle.text.specs.Numbers.{decimalIn, decimalText, hexText}
+use Rattle.text.specs.Numbers.{hexText}
 use Rattle.text.specs.Each.{eachText}
 use Rattle.text.specs.Lengths.{decimal-length, hex-length}
 use Rattle.drill_lines.specs.Text.{commaText, valuesText, fieldText, resultLine, endText, sentLine, badLine}

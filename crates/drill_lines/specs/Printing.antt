@@ -1,11 +1,10 @@
 -- The cases of the code that prints.
-use Prim.Native.Nat.{ℕ, suc, _+_, _-_, _≤_, _<_}
-use mathlib.Core.List.{List, [], _∷_, _++_, append-nil, append-assoc}
-use mathlib.Core.Path.{_≡_, refl, sym, ap, subst, _∙_}
+use Prim.Native.Nat.{ℕ, suc, _-_, _≤_, _<_}
+use mathlib.Core.List.{List, [], _∷_}
+use mathlib.Core.Path.{_≡_, refl, sym, subst}
 use native.Mathlib.Omega.{arith}
-use native.Mathlib.Numerals.{add-one}
 use lib.ListN.{length, getD, take, drop}
-use lib.Seq.{take-suc, take-all, length-take-le}
+use lib.Seq.{take-all, length-take-le}
 use Rattle.text.specs.Numbers.{decimalText, hexText}
 use Rattle.drill_lines.specs.Text.{commaText, valuesText, fieldText, resultLine, endText, sentLine, badLine}
 use Rattle.text.specs.Paste.{Wrote, wrote-both}

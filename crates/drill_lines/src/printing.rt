@@ -1,7 +1,6 @@
 // The bytes that the drill prints. Each function writes a text into the lent bytes from a place on, as far as they go,
 // and answers the place after it.
 ghost use lib.ListN.{take};
-ghost use Rattle.text.specs.Numbers.{decimalText, hexText};
 ghost use Rattle.drill_lines.specs.Text.{commaText, valuesText, fieldText, resultLine, endText, sentLine, badLine};
 ghost use Rattle.text.specs.Paste.{Wrote};
 ghost use Rattle.text.specs.Each.{eachText};

@@ -1,13 +1,13 @@
 -- The cases of the code of the three calls.
 use Prim.Native.Nat.{ℕ, _≤_, _<_}
 use mathlib.Core.Bool.{Bool, true, false, cond, false≢true}
-use mathlib.Core.List.{List, [], _∷_, _++_, append-nil}
+use mathlib.Core.List.{List, [], _++_, append-nil}
 use mathlib.Core.Path.{_≡_, refl, sym, ap, _∙_}
 use native.Mathlib.Omega.{arith}
 use lib.Dec.{eqb, ltb}
 use lib.ListN.{length, take, drop}
 use lib.Seq.{length-take-le, take-length, drop-length}
-use borrow.Author.Tests.{lt-ltb, le-ltb, eq-eqb, ne-eqb, ltb-false}
+use borrow.Author.Tests.{lt-ltb, eq-eqb, ne-eqb, ltb-false}
 use Rattle.text.specs.Paste.{Wrote, wrote-front}
 use Rattle.opening.specs.Given.{weightsWord}
 use Rattle.opening.specs.Opening.{openAnswer, opened}
@@ -28,7 +28,6 @@ use Rattle.journal.specs.Lines.{openingLine, deliveryLine, turnLine}
 use Rattle.journal.specs.Journal.{lineAnswer, lineWords, lineBytes, lineEntry, acts, openNumber, openedWords, openedBytes, openEntry, deliverNumber, deliveredWords, deliveredBytes, deliverEntry, turnRoom, turnedMessage, turnedLine}
 use Rattle.journal.specs.Laws.{line-answer, line-words, room-kept}
 use Rattle.journal.specs.Fitting.{opening-fits, delivery-fits, turn-fits}
-use Rattle.journal.specs.declared.Entry.{Entry}
 use Rattle.journal.specs.declared.Entry.the-variants as entry
 
 pub short-accepted : (k : ℕ) → k ≡ 0 → 8 ≡ lineAnswer k 0

@@ -1,7 +1,7 @@
 -- Every line fits into the 512 bytes that are lent for it.
 use Prim.Native.Nat.{ℕ, suc, _+_, _*_, _-_, _≤_, _<_}
 use mathlib.Core.List.{List, [], _∷_, _++_}
-use mathlib.Core.Path.{_≡_, refl, sym, ap, _∙_}
+use mathlib.Core.Path.{_≡_, refl}
 use native.Mathlib.Omega.{arith}
 use lib.ListN.{length, length-append}
 use borrow.Author.Tests.{ne-eqb}
@@ -12,7 +12,7 @@ use Rattle.opening.specs.Opening.{openAnswer}
 use Rattle.opening.specs.Cases.{accepted}
 use Rattle.delivery.specs.Answers.{answer-short}
 use Rattle.delivery.specs.Delivery.{deliverAnswer}
-use Rattle.text.specs.Numbers.{decimalText, hexText, wordText, byteText}
+use Rattle.text.specs.Numbers.{byteText}
 use Rattle.text.specs.Each.{eachText}
 use Rattle.text.specs.Lengths.{decimal-length, figure-length, hex-length, word-length, bytes-length}
 use Rattle.journal.specs.Lines.{withEnd, openingLine, deliveryLine, turnLine}

@@ -1,16 +1,14 @@
 -- The parts in which the code writes a line, and that they make it.
 use Prim.Native.Nat.{ℕ, _/_, _%_}
-use mathlib.Core.Bool.{cond}
 use mathlib.Core.List.{List, [], _∷_, _++_, append-nil, append-assoc}
 use mathlib.Core.Path.{_≡_, refl, sym, ap, subst, _∙_}
-use lib.Dec.{eqb}
 use lib.ListN.{length, replicate}
 use Rattle.io.specs.Digits.{digits, glyph}
 use Rattle.text.specs.Fields.{TAB, LF}
-use Rattle.text.specs.Numbers.{DECIMAL, WORD, PACK, decimalText, hexText, wordText, byteText}
+use Rattle.text.specs.Numbers.{DECIMAL, WORD, decimalText, hexText, wordText, byteText}
 use Rattle.text.specs.Paste.{Wrote, wrote-both}
 use Rattle.text.specs.Each.{eachText}
-use Rattle.journal.specs.Lines.{LETTER-O, LETTER-D, LETTER-T, VERSION, numberText, numberTexts, tabbed, openingForms, openingText, hexBytes, deliveryText, withEnd, openingLine, deliveryLine, turnLine}
+use Rattle.journal.specs.Lines.{LETTER-O, VERSION, numberText, numberTexts, tabbed, openingForms, openingText, hexBytes, deliveryText, withEnd, openingLine, deliveryLine, turnLine}
 
 -- a field after its tab
 unfoldable pub tabDecimal : ℕ → List ℕ

@@ -1,6 +1,5 @@
 // The lines, written at the front of the lent bytes. Each function of a part writes from a place on, as far as the bytes go, and answers the
 // place after it.
-ghost use mathlib.Core.List.{[], _∷_};
 ghost use Rattle.text.specs.Paste.{Wrote};
 ghost use Rattle.text.specs.Each.{eachText};
 ghost use Rattle.journal.specs.Lines.{openingLine, deliveryLine, turnLine};

@@ -6,7 +6,6 @@ use settings::Checked;
 use settings::Settings;
 use settings::refusal;
 ghost use mathlib.Core.Path.{_≡_};
-ghost use Prim.Native.Nat.{_≤_};
 ghost use lib.ListN.{length};
 ghost use Rattle.settings.specs.Settings.{validSettings, namedTa};
 ghost use Rattle.records.specs.Fill.{blank};

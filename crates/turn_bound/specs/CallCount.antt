@@ -3,11 +3,9 @@ use Prim.Native.Nat.{ℕ, _+_}
 use mathlib.Core.Bool.{Bool, true, false, cond, false≢true}
 use mathlib.Core.List.{List, [], _∷_}
 use mathlib.Core.Path.{_≡_, refl, sym, ap, _∙_}
-use native.Mathlib.Omega.{arith}
 use lib.Dec.{eqb, ltb}
 use lib.ListN.{length}
 use borrow.Author.Tests.{eqb-true}
-use Rattle.settings.specs.Settings.{turnBound}
 use Rattle.settings.specs.declared.Settings.{Settings}
 use Rattle.records.specs.Layout.{turnsAt}
 use Rattle.records.specs.Words.{word}
@@ -20,7 +18,7 @@ use Rattle.restore.specs.Complete.{linesOf, joined}
 use Rattle.restore.specs.Restoring.{Replay, wrong, right, replay, replayAnswer, replayWords, lentAnswer, restoreAnswer, restoredWords, accepted}
 use Rattle.restore.specs.declared.Restored.the-variants as restored
 use Rattle.turn_bound.specs.TurnBound.{Arguments, answer, openedBy, settingsBy, TurnCount}
-use Rattle.turn_bound.specs.Calls.{Call, opening, delivery, turn, report, restore, openNumberBy, restoreTaken, called, afterCalls, begun, turnLines, turnsSince, lineSettings, settingsSince, CountedCalls, CallCount}
+use Rattle.turn_bound.specs.Calls.{Call, opening, delivery, turn, report, restore, openNumberBy, restoreTaken, called, afterCalls, begun, turnLines, turnsSince, lineSettings, settingsSince, CallCount}
 use Rattle.turn_bound.specs.Count.{turn-count, refused-words}
 use Rattle.turn_bound.specs.Stepped.{Stepped, opening-stepped, delivery-stepped, turn-stepped, replay-stepped}
 

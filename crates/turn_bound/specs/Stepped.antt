@@ -1,30 +1,27 @@
 -- Calls with their lines and restores come to calls without: the words, the count and the settings are those after an accepted opening and steps.
-use Prim.Native.Nat.{ℕ, _+_, _^_, _<_, _≤_}
-use mathlib.Core.Bool.{Bool, true, false, cond, _&&_, false≢true}
-use mathlib.Core.List.{List, [], _∷_, _++_}
+use Prim.Native.Nat.{ℕ, _+_, _^_}
+use mathlib.Core.Bool.{Bool, true, false, cond, _&&_}
+use mathlib.Core.List.{List, [], _∷_}
 use mathlib.Core.Option.{Option, none, some}
-use mathlib.Core.Path.{_≡_, refl, sym, ap, subst, _∙_}
+use mathlib.Core.Path.{_≡_, refl, sym, ap, _∙_}
 use native.Mathlib.Omega.{arith}
 use lib.Dec.{eqb, leb, ltb}
 use lib.ListN.{length, take, drop, getD}
-use borrow.Author.Tests.{eqb-true, ne-eqb, lt-ltb, le-ltb}
+use borrow.Author.Tests.{eqb-true, ne-eqb}
 use Rattle.settings.specs.declared.Settings.{Settings}
 use Rattle.records.specs.Fill.{blank, length-blank}
-use Rattle.quorum.specs.Bools.{and-left, and-right}
 use Rattle.session.specs.Session.{settingsOf}
-use Rattle.opening.specs.Given.{weightsWord}
 use Rattle.opening.specs.Opening.{openAnswer, openWords, opened}
 use Rattle.delivery.specs.Delivery.{deliverAnswer, delivered}
 use Rattle.turn.specs.Turn.{turnOutcome, turnWords}
 use Rattle.text.specs.Fields.{fields, letter}
 use Rattle.text.specs.Numbers.{DECIMAL, valueOf, valuesOf}
-use Rattle.journal.specs.Journal.{acts, lineAnswer, lineWords, openNumber, openedWords, deliveredWords, turnRoom}
-use Rattle.restore.specs.Complete.{linesOf}
+use Rattle.journal.specs.Journal.{acts}
 use Rattle.restore.specs.Reading.{proper, allProper, fieldAt, formsFor, weightsFrom, hexRight, bytesOf}
-use Rattle.restore.specs.Restoring.{Point, openedFrom, openingFrom, openingRead, firstOf, firstLine, deliveredFrom, turnedFrom, nextOf, nextLine, Replay, wrong, right, appliedOr, further, replayFrom, replay, replayAnswer, replayWords, lentAnswer, restoreAnswer, restoredWords, accepted}
+use Rattle.restore.specs.Restoring.{Point, openedFrom, openingFrom, openingRead, firstOf, firstLine, deliveredFrom, turnedFrom, nextOf, nextLine, wrong, right, appliedOr, further, replayFrom, replay}
 use Rattle.turn_bound.specs.TurnBound.{weightsBy, Arguments, answer, openedBy, settingsBy, Step, after, acting, current}
 use Rattle.turn_bound.specs.TurnBound as step
-use Rattle.turn_bound.specs.Calls.{Call, opening, delivery, turn, report, restore, openNumberBy, restoreTaken, called, afterCalls, begun, isTurn, turnLines, turnsSince, pointSettings, lineSettings, settingsSince}
+use Rattle.turn_bound.specs.Calls.{delivery, turn, isTurn, turnLines, pointSettings, lineSettings}
 use Rattle.turn_bound.specs.Count.{going, opening-going}
 
 -- w, k and g are the words, the count and the settings after an accepted opening and some steps
