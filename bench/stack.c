@@ -3,18 +3,20 @@
  * byte that lost its paint is sought. What an empty call takes in the same place is subtracted.
  */
 #define _XOPEN_SOURCE 700
+#include <stdbool.h>
 #include <stdio.h>
 #include <string.h>
 #include <ucontext.h>
 
 #include "pack_agreement.h"
 
-#define STACK 65536
+#define STACK 131072
 #define PAINT 0xc5
 #define N 16
 #define MESSAGES 65536
+#define JOURNAL (1 << 20)
 
-enum call { CALL_NONE, CALL_OPEN, CALL_DELIVER, CALL_TURN, CALL_REPORT, CALLS };
+enum call { CALL_NONE, CALL_OPEN, CALL_DELIVER, CALL_TURN, CALL_REPORT, CALL_RESTORE, CALLS };
 
 struct message {
     uint8_t bytes[PACK_MESSAGE_BYTES];
@@ -34,27 +36,44 @@ static uint8_t weights[N];
 static enum call call;
 static uint64_t *state, answer;
 static uint64_t own, named[PACK_SET_WORDS], in_force[PACK_SET_WORDS];
-static uint8_t bytes[PACK_MESSAGE_BYTES];
+static uint8_t bytes[PACK_MESSAGE_BYTES], line[PACK_LINE_BYTES];
 static const struct message *delivered;
+/* The journal of the first concentrator. */
+static uint8_t journal[JOURNAL];
+static size_t journal_bytes;
+static uint64_t restored[PACK_STATE_WORDS];
 
 static void run(void)
 {
     switch (call) {
     case CALL_OPEN:
-        answer = pack_open(state, PACK_STATE_WORDS, N, 5, 5, own, 7, own, coins, N, weights, N);
+        answer = pack_open(state, PACK_STATE_WORDS, N, 5, 5, own, 7, own, coins, N, weights, N, line, sizeof line);
         break;
     case CALL_DELIVER:
-        answer = pack_deliver(state, PACK_STATE_WORDS, delivered->bytes[2], delivered->bytes, delivered->length);
+        answer = pack_deliver(state, PACK_STATE_WORDS, delivered->bytes[2], delivered->bytes, delivered->length, line,
+                              sizeof line);
         break;
     case CALL_TURN:
-        answer = pack_turn(state, PACK_STATE_WORDS, bytes, sizeof bytes);
+        answer = pack_turn(state, PACK_STATE_WORDS, bytes, sizeof bytes, line, sizeof line);
         break;
     case CALL_REPORT:
         answer = pack_report(state, PACK_STATE_WORDS, named, PACK_SET_WORDS, in_force, PACK_SET_WORDS);
         break;
+    case CALL_RESTORE:
+        answer = pack_restore(restored, PACK_STATE_WORDS, journal, journal_bytes, bytes, sizeof bytes);
+        break;
     default:
         break;
     }
+}
+
+/* Keeps the line that the last call at the first concentrator wrote. */
+static void keep(size_t length)
+{
+    if (state != states[0] || length > JOURNAL - journal_bytes)
+        return;
+    memcpy(journal + journal_bytes, line, length);
+    journal_bytes += length;
 }
 
 /* Makes the call on the painted stack, and keeps the most that its kind took. */
@@ -82,6 +101,8 @@ static void act(unsigned p)
     do {
         measure(CALL_TURN);
         uint64_t turn = answer;
+        if (pack_refusal_of(turn) == PACK_ACCEPTED && pack_outcome_of(turn) != PACK_IDLE)
+            keep(PACK_TURN_LINE);
         if (pack_outcome_of(turn) == PACK_SENT && sent_count < MESSAGES) {
             memcpy(sent[sent_count].bytes, bytes, sizeof bytes);
             sent[sent_count++].length = pack_length_of(turn);
@@ -93,7 +114,7 @@ static void act(unsigned p)
 
 int main(void)
 {
-    static const char *names[CALLS] = {"", "pack_open", "pack_deliver", "pack_turn", "pack_report"};
+    static const char *names[CALLS] = {"", "pack_open", "pack_deliver", "pack_turn", "pack_report", "pack_restore"};
     measure(CALL_NONE);
     for (unsigned p = 0; p < N; p++) {
         coins[p] = 0xb5a39d71u << p % 7;
@@ -103,6 +124,7 @@ int main(void)
         state = states[p];
         own = p + 1;
         measure(CALL_OPEN);
+        keep(pack_length_of(answer));
     }
     for (unsigned p = 0; p < N; p++)
         act(p);
@@ -111,11 +133,19 @@ int main(void)
             state = states[p];
             delivered = &sent[k];
             measure(CALL_DELIVER);
-            if (answer == PACK_ACCEPTED && k % 8 == 7)
+            bool accepted = pack_refusal_of(answer) == PACK_ACCEPTED;
+            if (accepted)
+                keep(pack_length_of(answer));
+            if (accepted && k % 8 == 7)
                 act(p);
         }
     for (unsigned p = 0; p < N; p++)
         act(p);
+    measure(CALL_RESTORE);
+    if (pack_refusal_of(answer) != PACK_ACCEPTED || memcmp(restored, states[0], sizeof restored) != 0) {
+        fprintf(stderr, "stack: the journal does not give the state back\n");
+        return 1;
+    }
     printf("| call | stack, bytes |\n|---|---|\n");
     for (unsigned kind = CALL_OPEN; kind < CALLS; kind++)
         printf("| `%s` | %zu |\n", names[kind], most[kind] - most[CALL_NONE]);

@@ -82,25 +82,27 @@ static bool open_session(struct session *s)
         coins[i] = (uint32_t)pack_costliest_setting(s->n, SETTINGS + i + 1);
     /* Opening sets all words, whatever they hold. */
     memset(s->state, 0xa5, sizeof s->state);
+    uint8_t line[PACK_LINE_BYTES];
     uint64_t answer = pack_open(s->state, PACK_STATE_WORDS, settings[0], settings[1], settings[2], settings[3],
-                                (uint32_t)settings[4], settings[5], coins, s->n, weights, s->n);
+                                (uint32_t)settings[4], settings[5], coins, s->n, weights, s->n, line, sizeof line);
     if (s->calls)
         write_opening(s->calls, settings, coins, s->n, answer);
-    return answer == 0 || unexpected(0, "opening", answer);
+    return pack_refusal_of(answer) == 0 || unexpected(0, "opening", answer);
 }
 
 static bool deliver(struct session *s, uint64_t k, uint64_t call, const uint8_t *message)
 {
     uint64_t link = pack_costliest_link_of(call);
     size_t length = pack_costliest_length_of(call);
-    uint64_t answer = pack_deliver(s->state, PACK_STATE_WORDS, link, message, length);
+    uint8_t line[PACK_LINE_BYTES];
+    uint64_t answer = pack_deliver(s->state, PACK_STATE_WORDS, link, message, length, line, sizeof line);
     s->deliveries++;
     if (s->calls) {
         fprintf(s->calls, "D\t%" PRIu64 "\t", link);
         print_bytes(s->calls, message, length);
         fprintf(s->calls, "\t%u\n", pack_refusal_of(answer));
     }
-    return answer == 0 || unexpected(k, "delivery", answer);
+    return pack_refusal_of(answer) == 0 || unexpected(k, "delivery", answer);
 }
 
 /* Counts a message that was sent; byte 1 is its kind. */
@@ -116,11 +118,11 @@ static bool count_message(struct session *s, uint64_t k, const uint8_t *message,
 
 static bool take_turn(struct session *s, uint64_t k, uint64_t call)
 {
-    uint8_t message[PACK_MESSAGE_BYTES];
+    uint8_t message[PACK_MESSAGE_BYTES], line[PACK_LINE_BYTES];
     size_t lent = pack_costliest_length_of(call);
     if (lent > sizeof message)
         return unexpected(k, "turn is lent", lent);
-    uint64_t answer = pack_turn(s->state, PACK_STATE_WORDS, message, lent);
+    uint64_t answer = pack_turn(s->state, PACK_STATE_WORDS, message, lent, line, sizeof line);
     unsigned outcome = pack_outcome_of(answer);
     size_t length = pack_length_of(answer);
     if (s->calls) {

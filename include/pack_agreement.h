@@ -9,16 +9,31 @@
  * all n concentrators, the sender included, by pack_deliver. The turn that answers "in force" closes the session: from
  * then on pack_deliver and pack_turn are refused with PACK_CLOSED, and pack_report gives the set in force.
  *
+ * A concentrator that may lose its memory, or fall back to an older image of it, keeps a journal. Every opening and delivery
+ * that is accepted, and every turn that is neither idle nor refused, writes one line of text into bytes that the caller
+ * lends; the lines of a session, one behind the other, are its journal, and each opening starts a new one. pack_restore
+ * rebuilds the state from it, also where it was cut at any byte behind its first line. What the caller owes:
+ *   - Store the lines in the order of the calls, none left out, and the line of a turn for good before its message leaves.
+ *     A message has left once it was delivered anywhere, to the concentrator itself too.
+ *   - After a restore, write new lines behind the last complete line: cut the journal there. Turns of lost lines never
+ *     happened, and what they sent must not leave any more unless it is sent again.
+ *   - A concentrator whose journal lost the line of a message that left would count among those that lie: the engine cannot
+ *     tell, and accepts such a journal. It must stay out of that session.
+ * A journal is believed: a line that was changed and is still one that the calls could have written is applied as it
+ * stands. Whoever can write the journal can say anything in the concentrator's name.
+ *
  * Every concentrator has a weight. Where a rule wants enough senders, or enough instances, it is their weights that are
  * summed, and ta and ts limit the weight of those that lie; W is the sum of all n weights.
  *
  * A count is a number of elements: 64-bit words, 32-bit coin words or bytes.
  * A null pointer with count 0 is an empty buffer. No call keeps a pointer or allocates; of the C library only
- * memcpy and memset are used. Calls on different states may run at the same time.
+ * memcpy and memset are used. pack_restore has a second state on the stack, 16,384 bytes, and takes some 18,300 bytes of it
+ * in all; the other calls take up to 1,300. Calls on different states may run at the same time.
  *
- * Every call answers one number. Bits 0 to 7 are 0 where it was accepted, else the number of the refusal; a refusal
- * sets no other bit, and leaves state and buffers as they were. Every value of every argument has its answer; the
- * caller owes only that each pointer has as many elements behind it as its count says, and that buffers do not overlap.
+ * Every call answers one number. Bits 0 to 7 are 0 where it was accepted, else the number of the refusal; a refusal sets no
+ * other bit, but for the line's number with PACK_JOURNAL, and leaves state and buffers as they were. Every value of every
+ * argument has its answer; the caller owes only that each pointer has as many elements behind it as its count says, and
+ * that buffers do not overlap.
  */
 #ifndef PACK_AGREEMENT_H
 #define PACK_AGREEMENT_H
@@ -32,8 +47,12 @@ extern "C" {
 
 /* Words of a state, exactly. */
 #define PACK_STATE_WORDS 2048
-/* Bytes that a turn must be lent at least: the longest message. */
+/* Bytes that a turn and a restore must be lent at least for the message: the longest one. */
 #define PACK_MESSAGE_BYTES 140
+/* Bytes that opening, delivery and turn must be lent at least for the line of the journal. */
+#define PACK_LINE_BYTES 512
+/* The length of the line of a turn. */
+#define PACK_TURN_LINE 2
 /* Words that a report must be lent at least for each set. */
 #define PACK_SET_WORDS 16
 /* Concentrators of a session at most. */
@@ -60,14 +79,19 @@ enum pack_refusal {
     PACK_FIELD = 6,
     /* EST or AUX above 1, or COMMIT not rising. */
     PACK_VALUE = 7,
-    /* A turn lent under 140 bytes, a report lent under 16 words for either set. */
+    /*
+     * A turn or restore lent under 140 bytes for the message, an opening, delivery or turn lent under 512 bytes for the
+     * line, a report lent under 16 words for either set.
+     */
     PACK_SHORT = 8,
     /* Not PACK_STATE_WORDS words, or stored numbers that no session has. */
     PACK_NO_STATE = 9,
     /* Delivery or turn after closing. */
     PACK_CLOSED = 10,
     /* That place already holds a message. */
-    PACK_HELD = 11
+    PACK_HELD = 11,
+    /* A journal without a complete opening line, or with a complete line that cannot be applied. */
+    PACK_JOURNAL = 15
 };
 
 /* The outcomes of a turn, bits 8 to 15 of its answer. */
@@ -88,35 +112,63 @@ enum pack_outcome {
  * i in round r. weights are n bytes, that of concentrator 1 first, each 1 to PACK_WEIGHT_MAX; where all are 1, W is n.
  * n, ta, ts, session, coins and weights are the same at all concentrators of a session; it is the same ta whether it was
  * named or left unnamed.
- * Refusals, in this order: PACK_NO_STATE (the word count only), PACK_SETTINGS. The answer has no other bits.
+ * The line of the journal stands at the front of the lent bytes; the others keep their value. It starts a new journal:
+ * "O", the version of the line, 1, then n, ta as it was given, ts, own, session, input in 16 hexadecimal digits, the coin
+ * words in 8 each, and the weights, fields parted by tabs, ended by a line feed.
+ * Answer: bits 16 to 31 the length of the line in bytes, the others 0.
+ * Refusals, in this order: PACK_NO_STATE (the word count only), PACK_SETTINGS, PACK_SHORT.
  */
 uint64_t pack_open(uint64_t *state, size_t words, uint64_t n, uint64_t ta, uint64_t ts, uint64_t own, uint32_t session,
                    uint64_t input, const uint32_t *coins, size_t coin_words, const uint8_t *weights,
-                   size_t weight_count);
+                   size_t weight_count, uint8_t *line, size_t line_bytes);
 
 /*
  * Records a message that came over the link of concentrator `link`.
- * Refusals, in this order: PACK_NO_STATE, PACK_CLOSED, PACK_LENGTH to PACK_VALUE, PACK_HELD. The answer has no other bits.
+ * Its line, at the front of the lent bytes, is "D", the link and the message in hexadecimal; the other bytes keep their
+ * value.
+ * Answer: bits 16 to 31 the length of the line in bytes, the others 0.
+ * Refusals, in this order: PACK_NO_STATE, PACK_CLOSED, PACK_LENGTH to PACK_VALUE, PACK_HELD, PACK_SHORT.
  */
-uint64_t pack_deliver(uint64_t *state, size_t words, uint64_t link, const uint8_t *message, size_t length);
+uint64_t pack_deliver(uint64_t *state, size_t words, uint64_t link, const uint8_t *message, size_t length, uint8_t *line,
+                      size_t line_bytes);
 
 /*
- * Does the first thing due. A message that is sent stands at the front of the lent bytes; the others keep their value.
+ * Does the first thing due. A message that is sent stands at the front of the bytes lent for it, and a turn that is not
+ * idle writes its line, "T" and a line feed (PACK_TURN_LINE bytes), to the front of the bytes lent for that; the others
+ * keep their value.
  * Answer: bits 8 to 15 the outcome, bits 16 to 31 the length of the message in bytes (0 unless sent), the others 0.
- * Refusals, in this order: PACK_NO_STATE, PACK_CLOSED, PACK_SHORT.
+ * Refusals, in this order: PACK_NO_STATE, PACK_CLOSED, PACK_SHORT; an idle turn wants both buffers too.
  */
-uint64_t pack_turn(uint64_t *state, size_t words, uint8_t *message, size_t capacity);
+uint64_t pack_turn(uint64_t *state, size_t words, uint8_t *message, size_t capacity, uint8_t *line, size_t line_bytes);
 
 /*
  * Reports on a state, also on a closed one. The set that the exits name stands at the front of the first lent buffer,
  * the set in force at the front of the second, both rising in a state that these calls wrote; the other words keep
  * their value.
  * Answer: bits 8 to 15 the exit (1 to 3, 0 for none), bits 16 to 23 the number of values named, bits 24 to 31 the
- * number of values in force (0: none), bits 32 to 63 the number of turns since opening that did not answer idle.
+ * number of values in force (0: none), bits 32 to 63 the number of turns since opening that did not answer idle; after a
+ * restore those of the journal's lines count.
  * Refusals, in this order: PACK_NO_STATE, PACK_SHORT.
  */
 uint64_t pack_report(const uint64_t *state, size_t words, uint64_t *named, size_t named_words, uint64_t *in_force,
                      size_t in_force_words);
+
+/*
+ * Rebuilds the state after the last complete line of a journal, whatever the words held. A line is complete with its line
+ * feed; what stands behind the last one is not looked at. The first line must be an opening's, and each further one that of
+ * a delivery or a turn; an opening's line without weights, as it was before there were any, reads as all 1. If the last line
+ * is that of a turn that sent a message, the message stands again at the front of the lent bytes, since it may not have
+ * left; the others keep their value.
+ * Where a line cannot be applied the answer is PACK_JOURNAL: it has not the form above (leading zeros and capital letters
+ * are another form), its call would be refused, it is a turn that would be idle, or an opening behind the first line.
+ * Answer: bits 8 to 15 are 1 where a message is given again, else 0, bits 16 to 31 its length in bytes, bits 32 to 63 the
+ * number of bytes of the journal up to the end of the last complete line, modulo 2^32. With PACK_JOURNAL bits 8 to 63 are
+ * the number of the first line, from 1, that cannot be applied, and 1 where no line is complete.
+ * Refusals, in this order: PACK_NO_STATE (the word count only), PACK_SHORT, PACK_JOURNAL; each leaves the state's words and
+ * the lent bytes as they were.
+ */
+uint64_t pack_restore(uint64_t *state, size_t words, const uint8_t *journal, size_t journal_bytes, uint8_t *message,
+                      size_t capacity);
 
 /* The parts of an answer. */
 
@@ -124,7 +176,8 @@ static inline unsigned pack_refusal_of(uint64_t answer) { return (unsigned)(answ
 
 static inline unsigned pack_outcome_of(uint64_t turn) { return (unsigned)(turn >> 8 & 0xff); }
 
-static inline size_t pack_length_of(uint64_t turn) { return (size_t)(turn >> 16 & 0xffff); }
+/* Of the message that a turn sent or a restore gives again, or of the line of an opening or a delivery. */
+static inline size_t pack_length_of(uint64_t answer) { return (size_t)(answer >> 16 & 0xffff); }
 
 static inline unsigned pack_exit_of(uint64_t report) { return (unsigned)(report >> 8 & 0xff); }
 
@@ -133,6 +186,11 @@ static inline size_t pack_named_of(uint64_t report) { return (size_t)(report >> 
 static inline size_t pack_in_force_of(uint64_t report) { return (size_t)(report >> 24 & 0xff); }
 
 static inline uint64_t pack_turns_of(uint64_t report) { return report >> 32; }
+
+static inline uint32_t pack_complete_of(uint64_t restore) { return (uint32_t)(restore >> 32); }
+
+/* The line that is refused with PACK_JOURNAL. */
+static inline uint64_t pack_line_of(uint64_t restore) { return restore >> 8; }
 
 #ifdef __cplusplus
 }

@@ -4,8 +4,10 @@ pub mod masks;
 pub mod plain;
 pub mod trace;
 
-use pack_reference::c_engine::{words, Words};
+use pack_reference::c_engine::{words, CEngine, Words};
 use pack_reference::engine::Engine;
+use pack_reference::journal::{Line, LINE_BYTES};
+use pack_reference::message::LONGEST;
 use pack_reference::Opening;
 
 /// [`masks`] as an engine over the words of a state.
@@ -19,19 +21,71 @@ impl Engine for Masks {
         words(&[0; masks::STATE_WORDS])
     }
 
-    fn open(&self, state: &mut Words, opening: &Opening) -> u64 {
-        masks::open(state, opening)
+    fn littered(&self, seed: u64) -> Words {
+        CEngine.littered(seed)
     }
 
-    fn deliver(&self, state: &mut Words, link: u64, message: &[u8]) -> u64 {
-        masks::deliver(state, link, message)
+    fn open(&self, state: &mut Words, opening: &Opening, line: &mut [u8]) -> u64 {
+        masks::open(state, opening, line)
     }
 
-    fn turn(&self, state: &mut Words, message: &mut [u8]) -> u64 {
-        masks::turn(state, message)
+    fn deliver(&self, state: &mut Words, link: u64, message: &[u8], line: &mut [u8]) -> u64 {
+        masks::deliver(state, link, message, line)
+    }
+
+    fn turn(&self, state: &mut Words, message: &mut [u8], line: &mut [u8]) -> u64 {
+        masks::turn(state, message, line)
     }
 
     fn report(&self, state: &Words, named: &mut [u64], in_force: &mut [u64]) -> u64 {
         masks::report(state, named, in_force)
     }
+
+    fn restore(&self, state: &mut Words, journal: &[u8], message: &mut [u8]) -> u64 {
+        restore(state, journal, message)
+    }
+}
+
+/// The calls of a journal's lines, made by the masks; the lines are read by the reference.
+pub fn restore(state: &mut [u64], journal: &[u8], message: &mut [u8]) -> u64 {
+    if state.len() != masks::STATE_WORDS {
+        return masks::refusal::NO_STATE;
+    }
+    if message.len() < LONGEST {
+        return masks::refusal::SHORT;
+    }
+    let mut words = [0; masks::STATE_WORDS];
+    let (mut sent, mut length) = ([0; LONGEST], 0);
+    let (mut number, mut complete) = (0, 0);
+    for line in journal.split_inclusive(|&byte| byte == b'\n').filter(|line| line.ends_with(b"\n"))
+    {
+        number += 1;
+        complete += line.len();
+        let read = Line::read(&line[..line.len() - 1]);
+        let Some(sent_length) = apply(&mut words, number == 1, read, &mut sent) else {
+            return masks::refusal::JOURNAL | number << 8;
+        };
+        length = sent_length;
+    }
+    if number == 0 {
+        return masks::refusal::JOURNAL | 1 << 8;
+    }
+    state.copy_from_slice(&words);
+    message[..length].copy_from_slice(&sent[..length]);
+    u64::from(length != 0) << 8 | (length as u64) << 16 | (complete as u64) << 32
+}
+
+/// Makes the line's call. Answers the length of the message that it sent, and `None` where it cannot be applied.
+fn apply(words: &mut [u64], first: bool, line: Option<Line>, sent: &mut [u8]) -> Option<usize> {
+    let lent = &mut [0; LINE_BYTES];
+    let answer = match (line?, first) {
+        (Line::Opening(opening), true) => masks::open(words, &opening.opening(), lent),
+        (Line::Delivery { link, message }, false) => masks::deliver(words, link, &message, lent),
+        (Line::Turn, false) => {
+            let answer = masks::turn(words, sent, lent);
+            return (answer > 0xff).then_some((answer >> 16) as usize);
+        }
+        _ => return None,
+    };
+    (answer & 0xff == 0).then_some(0)
 }

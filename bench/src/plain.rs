@@ -1,10 +1,12 @@
 //! The engines as they are timed: no guards, no copies.
 
-use pack_reference::c_engine::calls::{pack_deliver, pack_open, pack_report, pack_turn};
+use pack_reference::c_engine::calls::{
+    pack_deliver, pack_open, pack_report, pack_restore, pack_turn,
+};
 use pack_reference::engine::Engine;
 use pack_reference::Opening;
 
-use crate::masks;
+use crate::{masks, restore};
 
 /// The proved engine's archive.
 #[derive(Clone, Copy, Debug, Default)]
@@ -18,7 +20,11 @@ impl Engine for Archive {
         vec![0; masks::STATE_WORDS]
     }
 
-    fn open(&self, state: &mut Vec<u64>, opening: &Opening) -> u64 {
+    fn littered(&self, _seed: u64) -> Vec<u64> {
+        self.blank()
+    }
+
+    fn open(&self, state: &mut Vec<u64>, opening: &Opening, line: &mut [u8]) -> u64 {
         let Opening { n, ta, ts, own, session, input, coins, weights } = *opening;
         let (words, count) = (state.as_mut_ptr(), state.len());
         let (coins, coin_words) = (coins.as_ptr(), coins.len());
@@ -37,18 +43,22 @@ impl Engine for Archive {
                 coin_words,
                 weights,
                 weight_count,
+                line.as_mut_ptr(),
+                line.len(),
             )
         }
     }
 
-    fn deliver(&self, state: &mut Vec<u64>, link: u64, message: &[u8]) -> u64 {
+    fn deliver(&self, state: &mut Vec<u64>, link: u64, message: &[u8], line: &mut [u8]) -> u64 {
         let (words, count) = (state.as_mut_ptr(), state.len());
-        unsafe { pack_deliver(words, count, link, message.as_ptr(), message.len()) }
+        let (bytes, length) = (message.as_ptr(), message.len());
+        unsafe { pack_deliver(words, count, link, bytes, length, line.as_mut_ptr(), line.len()) }
     }
 
-    fn turn(&self, state: &mut Vec<u64>, message: &mut [u8]) -> u64 {
+    fn turn(&self, state: &mut Vec<u64>, message: &mut [u8], line: &mut [u8]) -> u64 {
         let (words, count) = (state.as_mut_ptr(), state.len());
-        unsafe { pack_turn(words, count, message.as_mut_ptr(), message.len()) }
+        let (bytes, capacity) = (message.as_mut_ptr(), message.len());
+        unsafe { pack_turn(words, count, bytes, capacity, line.as_mut_ptr(), line.len()) }
     }
 
     fn report(&self, state: &Vec<u64>, named: &mut [u64], in_force: &mut [u64]) -> u64 {
@@ -56,6 +66,12 @@ impl Engine for Archive {
         let (in_force, in_force_words) = (in_force.as_mut_ptr(), in_force.len());
         let (words, count) = (state.as_ptr(), state.len());
         unsafe { pack_report(words, count, named, named_words, in_force, in_force_words) }
+    }
+
+    fn restore(&self, state: &mut Vec<u64>, journal: &[u8], message: &mut [u8]) -> u64 {
+        let (words, count) = (state.as_mut_ptr(), state.len());
+        let (bytes, capacity) = (message.as_mut_ptr(), message.len());
+        unsafe { pack_restore(words, count, journal.as_ptr(), journal.len(), bytes, capacity) }
     }
 }
 
@@ -70,19 +86,27 @@ impl Engine for PlainMasks {
         vec![0; masks::STATE_WORDS]
     }
 
-    fn open(&self, state: &mut Vec<u64>, opening: &Opening) -> u64 {
-        masks::open(state, opening)
+    fn littered(&self, _seed: u64) -> Vec<u64> {
+        self.blank()
     }
 
-    fn deliver(&self, state: &mut Vec<u64>, link: u64, message: &[u8]) -> u64 {
-        masks::deliver(state, link, message)
+    fn open(&self, state: &mut Vec<u64>, opening: &Opening, line: &mut [u8]) -> u64 {
+        masks::open(state, opening, line)
     }
 
-    fn turn(&self, state: &mut Vec<u64>, message: &mut [u8]) -> u64 {
-        masks::turn(state, message)
+    fn deliver(&self, state: &mut Vec<u64>, link: u64, message: &[u8], line: &mut [u8]) -> u64 {
+        masks::deliver(state, link, message, line)
+    }
+
+    fn turn(&self, state: &mut Vec<u64>, message: &mut [u8], line: &mut [u8]) -> u64 {
+        masks::turn(state, message, line)
     }
 
     fn report(&self, state: &Vec<u64>, named: &mut [u64], in_force: &mut [u64]) -> u64 {
         masks::report(state, named, in_force)
+    }
+
+    fn restore(&self, state: &mut Vec<u64>, journal: &[u8], message: &mut [u8]) -> u64 {
+        restore(state, journal, message)
     }
 }

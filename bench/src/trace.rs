@@ -4,6 +4,7 @@
 use std::collections::VecDeque;
 
 use pack_reference::engine::Engine;
+use pack_reference::journal::LINE_BYTES;
 use pack_reference::message::LONGEST;
 use pack_reference::packing::{unpack_turn, TurnAnswer};
 use pack_reference::{Message, Opening, PackSet};
@@ -99,9 +100,9 @@ impl Trace {
 impl Feeder {
     fn run(&mut self) {
         for own in 1..=self.trace.liars_from {
-            let answer =
-                PlainMasks.open(&mut self.states[own as usize - 1], &self.trace.opening(own));
-            assert_eq!(answer, 0, "good settings");
+            let state = &mut self.states[own as usize - 1];
+            let answer = PlainMasks.open(state, &self.trace.opening(own), &mut [0; LINE_BYTES]);
+            assert_eq!(answer & 0xff, 0, "good settings");
         }
         for liar in self.trace.liars_from + 1..=self.trace.n {
             let lies = lies(self.trace.n, liar);
@@ -120,7 +121,8 @@ impl Feeder {
         if self.closed[own as usize - 1] {
             return;
         }
-        let answer = PlainMasks.deliver(&mut self.states[own as usize - 1], link, message);
+        let state = &mut self.states[own as usize - 1];
+        let answer = PlainMasks.deliver(state, link, message, &mut [0; LINE_BYTES]);
         if own == 1 {
             self.trace.calls.push(Call::Deliver { link, message: message.to_vec(), answer });
         }
@@ -130,7 +132,8 @@ impl Feeder {
     fn act(&mut self, own: u64) {
         while !self.closed[own as usize - 1] {
             let mut lent = [0; LONGEST];
-            let answer = PlainMasks.turn(&mut self.states[own as usize - 1], &mut lent);
+            let state = &mut self.states[own as usize - 1];
+            let answer = PlainMasks.turn(state, &mut lent, &mut [0; LINE_BYTES]);
             let read = unpack_turn(answer).expect("an answer of a turn");
             let length = if let TurnAnswer::Sent { length } = read { length } else { 0 };
             let message = lent[..length].to_vec();
@@ -178,15 +181,17 @@ fn lies(n: u64, liar: u64) -> Vec<Vec<u8>> {
 /// Makes the calls of a trace on a fresh state and compares every answer and message with the trace.
 pub fn check<E: Engine>(engine: &E, trace: &Trace) {
     let mut state = engine.blank();
-    assert_eq!(engine.open(&mut state, &trace.opening(1)), 0, "good settings");
+    let line = &mut [0; LINE_BYTES];
+    assert_eq!(engine.open(&mut state, &trace.opening(1), line) & 0xff, 0, "good settings");
     for call in &trace.calls {
         match call {
             Call::Deliver { link, message, answer } => {
-                assert_eq!(engine.deliver(&mut state, *link, message), *answer, "a delivery");
+                let given = engine.deliver(&mut state, *link, message, line);
+                assert_eq!(given, *answer, "a delivery");
             }
             Call::Turn { answer, message } => {
                 let mut lent = [0; LONGEST];
-                assert_eq!(engine.turn(&mut state, &mut lent), *answer, "a turn");
+                assert_eq!(engine.turn(&mut state, &mut lent, line), *answer, "a turn");
                 assert_eq!(&lent[..message.len()], message, "a message");
             }
         }
@@ -204,15 +209,18 @@ pub enum Part {
 
 /// Runs a part of a session. Answers a sum, so that nothing can be left out.
 pub fn replay<E: Engine>(engine: &E, state: &mut E::State, trace: &Trace, part: Part) -> u64 {
-    let mut sum = engine.open(state, &trace.opening(1));
+    let line = &mut [0; LINE_BYTES];
+    let mut sum = engine.open(state, &trace.opening(1), line);
     if part == Part::Opening {
         return sum;
     }
     let mut lent = [0; LONGEST];
     for call in &trace.calls {
         match call {
-            Call::Deliver { link, message, .. } => sum += engine.deliver(state, *link, message),
-            Call::Turn { .. } if part == Part::Whole => sum += engine.turn(state, &mut lent),
+            Call::Deliver { link, message, .. } => {
+                sum += engine.deliver(state, *link, message, line);
+            }
+            Call::Turn { .. } if part == Part::Whole => sum += engine.turn(state, &mut lent, line),
             Call::Turn { .. } => {}
         }
     }

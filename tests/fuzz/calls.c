@@ -1,18 +1,17 @@
 /*
- * The four calls under libFuzzer: the input bytes open a feeder of up to four concentrators and make a list of calls on
- * their states, with messages as sent, forged, damaged or of any bytes, and with planted words.
+ * Opening, delivery, turn and report under libFuzzer: the input bytes open a feeder of up to four concentrators and make a
+ * list of calls on their states, with messages as sent, forged, damaged or of any bytes, and with planted words. Then the
+ * journal of each state without planted words must give it back.
  * The archive is not instrumented, so what the fuzzer follows are the answers (see `note`).
  */
+#include "input.h"
+#include "kept.h"
 #include "lent.h"
 #include "pack_agreement.h"
 
 #define STATES 4
 #define SENT 4096
 #define STATE_BYTES (PACK_STATE_WORDS * sizeof(uint64_t))
-
-struct input {
-    const uint8_t *at, *end;
-};
 
 struct message {
     uint8_t bytes[PACK_MESSAGE_BYTES];
@@ -21,7 +20,8 @@ struct message {
     unsigned next;
 };
 
-static struct lent state[STATES], weights_lent, bytes_lent, named_lent, in_force_lent;
+static struct lent state[STATES], weights_lent, bytes_lent, line_lent, named_lent, in_force_lent;
+static struct kept kept[STATES];
 static struct message sent[SENT];
 static size_t sent_count;
 /* Words were planted, or a state was opened again: what one state sends may then be refused by another. */
@@ -41,26 +41,6 @@ __attribute__((section("__libfuzzer_extra_counters"))) static uint8_t counters[4
 /* Tells the fuzzer of an answer of one of eight kinds, with what makes it different from others. */
 static void note(unsigned kind, unsigned detail) { counters[(kind * 512 + detail) % sizeof counters] = 1; }
 
-static uint8_t take(struct input *in) { return in->at < in->end ? *in->at++ : 0; }
-
-static uint64_t take_word(struct input *in)
-{
-    uint64_t word = 0;
-    for (int byte = 0; byte < 8; byte++)
-        word = word << 8 | take(in);
-    return word;
-}
-
-/* Mostly the byte itself; from 0xf0 on a number from the edge of what fits. */
-static uint64_t take_number(struct input *in)
-{
-    static const uint64_t edges[16] = {255, 256, 257, 33, 34, 99 * 4 + 3, 99 * 4 + 4, 1587, 1588, UINT32_MAX,
-                                       (uint64_t)1 << 32, (uint64_t)1 << 63, ((uint64_t)1 << 63) + 1, UINT64_MAX - 1,
-                                       UINT64_MAX, 4660};
-    uint8_t byte = take(in);
-    return byte < 0xf0 ? byte : edges[byte & 15];
-}
-
 static uint64_t *words_of(unsigned p) { return (uint64_t *)(void *)lent_start(&state[p]); }
 
 /* Lends state p; mostly all its words, else fewer of them, or one more before them. */
@@ -69,6 +49,22 @@ static size_t lend_state(unsigned p, uint8_t choice)
     static const size_t counts[4] = {0, 1, PACK_STATE_WORDS - 1, PACK_STATE_WORDS + 1};
     lend(&state[p], STATE_BYTES);
     return choice < 0xf8 ? PACK_STATE_WORDS : counts[choice & 3];
+}
+
+/* Lends bytes for a line; mostly just enough of them. */
+static uint8_t *lend_line(uint8_t choice)
+{
+    static const size_t counts[8] = {0, 1, 511, 513, 2, 600, 511, 1024};
+    return lend_filled(&line_lent, (choice & 0xf0) != 0xe0 ? PACK_LINE_BYTES : counts[choice & 7], 0xa5);
+}
+
+/* The line of an accepted opening or delivery. */
+static void take_line(unsigned p, uint64_t answer, char letter)
+{
+    size_t length = pack_length_of(answer);
+    require(answer == (uint64_t)length << 16 && line_lent.size >= PACK_LINE_BYTES, "the answer of an opening or delivery");
+    require(lent_kept(&line_lent, length) && lent_start(&line_lent)[0] == letter, "the line of an opening or delivery");
+    keep(&kept[p], lent_start(&line_lent), length, NULL, 0);
 }
 
 /* Where so many words of state p start. */
@@ -103,13 +99,17 @@ static void open_state(const struct opening *opening, unsigned p, uint64_t own, 
     size_t count = opening->weight_count;
     memcpy(weights_lent.end - count, opening->weights, count);
     const uint8_t *weights = lend(&weights_lent, count);
+    uint8_t *line = lend_line(choice);
     uint64_t answer = pack_open(words_from(p, words), words, opening->n, opening->ta, opening->ts, own, opening->session,
                                 opening->input + p % 3 * (opening->input & 1), opening->coins, opening->coin_words,
-                                count == 0 ? NULL : weights, count);
+                                count == 0 ? NULL : weights, count, line, line_lent.size);
     require(memcmp(before, opening->coins, sizeof before) == 0, "an opening changed the coins");
     require(lent_kept(&weights_lent, 0), "an opening changed the weights");
-    require(!accepted(p, words, answer) || answer == 0, "an opening's answer");
-    note(0, (unsigned)answer);
+    if (accepted(p, words, answer))
+        take_line(p, answer, 'O');
+    else
+        require(lent_kept(&line_lent, 0), "a refused opening wrote a line");
+    note(0, pack_refusal_of(answer));
 }
 
 /* n weights, or another number of them; each mostly 1 to 4. */
@@ -145,14 +145,20 @@ static struct opening take_opening(struct input *in)
     return opening;
 }
 
+/* Answers the refusal. */
 static uint64_t deliver_once(unsigned p, uint64_t link, size_t length, uint8_t choice)
 {
     size_t words = lend_state(p, choice);
     uint8_t *message = lend(&bytes_lent, length);
-    uint64_t answer = pack_deliver(words_from(p, words), words, link, length == 0 ? NULL : message, length);
+    uint8_t *line = lend_line(choice);
+    uint64_t answer = pack_deliver(words_from(p, words), words, link, length == 0 ? NULL : message, length,
+                                   line_lent.size == 0 ? NULL : line, line_lent.size);
     require(lent_kept(&bytes_lent, 0), "a delivery changed the message");
-    require(!accepted(p, words, answer) || answer == 0, "a delivery's answer");
-    return answer;
+    if (accepted(p, words, answer))
+        take_line(p, answer, 'D');
+    else
+        require(lent_kept(&line_lent, 0), "a refused delivery wrote a line");
+    return pack_refusal_of(answer);
 }
 
 /* Delivers the bytes; where they are taken, the same delivery again is held. */
@@ -185,17 +191,21 @@ static bool turn(unsigned p, size_t capacity, uint8_t choice)
 {
     size_t words = lend_state(p, choice);
     uint8_t *message = lend_filled(&bytes_lent, capacity, 0xa5);
-    uint64_t answer = pack_turn(words_from(p, words), words, capacity == 0 ? NULL : message, capacity);
+    uint8_t *line = lend_line(choice);
+    uint64_t answer = pack_turn(words_from(p, words), words, capacity == 0 ? NULL : message, capacity, line, line_lent.size);
     unsigned outcome = pack_outcome_of(answer);
     size_t length = pack_length_of(answer);
     note(3, (unsigned)(answer & 0xffff) % 512);
-    require(lent_kept(&bytes_lent, length), "a turn wrote other bytes");
+    bool acted = answer >> 8 != 0;
+    require(lent_kept(&bytes_lent, length) && lent_kept(&line_lent, acted ? PACK_TURN_LINE : 0), "a turn wrote other bytes");
     if (!accepted(p, words, answer))
         return false;
     require(outcome <= PACK_IN_FORCE && answer >> 32 == 0, "a turn's answer");
     require((outcome == PACK_SENT) == (length != 0), "a length with no message");
-    require(capacity >= PACK_MESSAGE_BYTES, "a turn lent too little");
+    require(capacity >= PACK_MESSAGE_BYTES && line_lent.size >= PACK_LINE_BYTES, "a turn lent too little");
     require(outcome != PACK_IDLE || lent_kept(&state[p], 0), "an idle turn changed the state");
+    if (acted)
+        keep(&kept[p], line, PACK_TURN_LINE, message, length);
     if (outcome == PACK_SENT)
         check_sent(p, message, length);
     return outcome != PACK_IDLE;
@@ -314,6 +324,7 @@ static void plant(struct input *in)
     if (at >= 142)
         at = (at << 8 | take(in)) % PACK_STATE_WORDS;
     words_of(p)[at] = take(in) & 1 ? take_word(in) : take_number(in);
+    kept[p].whole = false;
     irregular = true;
 }
 
@@ -354,6 +365,7 @@ int LLVMFuzzerInitialize(int *count, char ***arguments)
         lent_make(&state[p]);
     lent_make(&weights_lent);
     lent_make(&bytes_lent);
+    lent_make(&line_lent);
     lent_make(&named_lent);
     lent_make(&in_force_lent);
     return 0;
@@ -367,11 +379,14 @@ int LLVMFuzzerTestOneInput(const uint8_t *data, size_t size)
     irregular = false;
     for (unsigned p = 0; p < STATES; p++) {
         lend_filled(&state[p], STATE_BYTES, 0);
+        kept[p].whole = false;
         open_state(&opening, p, p + 1, 0);
     }
     while (in.at < in.end)
         call(&in, &opening);
-    for (unsigned p = 0; p < STATES; p++)
+    for (unsigned p = 0; p < STATES; p++) {
         report(p, PACK_SET_WORDS, PACK_SET_WORDS, 0);
+        check_kept(&kept[p], words_of(p));
+    }
     return 0;
 }

@@ -1,4 +1,4 @@
-/* The four calls as C makes them: refusals, null buffers, and what a call leaves alone. */
+/* The five calls as C makes them: refusals, null buffers, and what a call leaves alone. */
 #include <stdbool.h>
 #include <stdio.h>
 #include <string.h>
@@ -18,17 +18,19 @@ static void expect(bool held, const char *what)
 static uint64_t state[PACK_STATE_WORDS];
 static const uint32_t coins[PACK_CONCENTRATORS] = {1, 1, 1, 1};
 static const uint8_t weights[PACK_CONCENTRATORS] = {1, 1, 1, 1, 1};
+static uint8_t line[PACK_LINE_BYTES];
+static const char opening_line[] = "O\t1\t4\t1\t1\t1\t7\t0000000000000005\t00000001\t00000001\t00000001\t00000001\t1\t1\t1\t1\n";
 
-/* What opening one of four answers, in session 7 with input 5 and weights of 1. */
+/* The refusal of an opening of one of four, in session 7 with input 5 and weights of 1. */
 static uint64_t open_four(size_t words, uint64_t ta, uint64_t ts, uint64_t own)
 {
-    return pack_open(words == 0 ? NULL : state, words, 4, ta, ts, own, 7, 5, coins, 4, weights, 4);
+    return pack_open(words == 0 ? NULL : state, words, 4, ta, ts, own, 7, 5, coins, 4, weights, 4, line, sizeof line) & 0xff;
 }
 
 /* The same of concentrator 1 with other weights. */
 static uint64_t open_weighted(uint64_t ta, uint64_t ts, const uint8_t *list, size_t count)
 {
-    return pack_open(state, PACK_STATE_WORDS, 4, ta, ts, 1, 7, 5, coins, 4, list, count);
+    return pack_open(state, PACK_STATE_WORDS, 4, ta, ts, 1, 7, 5, coins, 4, list, count, line, sizeof line) & 0xff;
 }
 
 static void open_first(void)
@@ -44,10 +46,25 @@ static void test_opening(void)
     memcpy(old, state, sizeof old);
     expect(open_four(0, 1, 1, 1) == PACK_NO_STATE, "opening, no words");
     expect(open_four(PACK_STATE_WORDS - 1, 1, 1, 1) == PACK_NO_STATE, "opening, a word short");
-    expect(pack_open(state, PACK_STATE_WORDS, 4, 1, 1, 1, 7, 5, NULL, 0, weights, 4) == PACK_SETTINGS, "opening, no coins");
+    expect(pack_open(state, PACK_STATE_WORDS, 4, 1, 1, 1, 7, 5, NULL, 0, weights, 4, NULL, 0) == PACK_SETTINGS,
+           "opening, no coins before no line");
     expect(open_four(PACK_STATE_WORDS, 1, 1, 5) == PACK_SETTINGS, "opening, own above n");
     expect(open_four(PACK_STATE_WORDS, 1, UINT64_MAX, 1) == PACK_SETTINGS, "opening, huge ts");
+    expect(pack_open(state, PACK_STATE_WORDS, 4, 1, 1, 1, 7, 5, coins, 4, weights, 4, line, 511) == PACK_SHORT,
+           "opening, 511 bytes for the line");
     expect(memcmp(old, state, sizeof old) == 0, "a refused opening leaves the state");
+}
+
+static void test_opening_line(void)
+{
+    uint8_t old[PACK_LINE_BYTES];
+    size_t length = sizeof opening_line - 1;
+    memset(line, 0xa5, sizeof line);
+    memcpy(old, line, sizeof old);
+    expect(pack_open(state, PACK_STATE_WORDS, 4, 1, 1, 1, 7, 5, coins, 4, weights, 4, line, sizeof line) == length << 16,
+           "the answer of an opening");
+    expect(memcmp(line, opening_line, length) == 0, "the line of an opening");
+    expect(memcmp(old + length, line + length, sizeof old - length) == 0, "an opening writes no other bytes");
 }
 
 static void test_unnamed_ta(void)
@@ -85,6 +102,11 @@ static void test_weights(void)
     expect(open_weighted(5, 5, most, 4) == PACK_ACCEPTED, "opening, ta and ts above n");
 }
 
+static uint64_t take_turn(uint8_t *bytes)
+{
+    return pack_turn(state, PACK_STATE_WORDS, bytes, PACK_MESSAGE_BYTES, line, sizeof line);
+}
+
 static void test_turn(void)
 {
     static const uint8_t send[20] = {1, 1, 1, 1, 0, 1, 0, 0, 0, 0, 0, 7, 0, 0, 0, 0, 0, 0, 0, 5};
@@ -92,14 +114,21 @@ static void test_turn(void)
     memset(bytes, 0xa5, sizeof bytes);
     memcpy(old, bytes, sizeof old);
     open_first();
-    expect(pack_turn(state, PACK_STATE_WORDS, NULL, 0) == PACK_SHORT, "turn, no bytes");
-    expect(pack_turn(state, PACK_STATE_WORDS, bytes, 139) == PACK_SHORT, "turn, a byte short");
-    expect(pack_turn(NULL, 0, bytes, 139) == PACK_NO_STATE, "turn, no state before short");
-    expect(memcmp(old, bytes, sizeof old) == 0, "a refused turn leaves the bytes");
-    expect(pack_turn(state, PACK_STATE_WORDS, bytes, sizeof bytes) == (20u << 16 | PACK_SENT << 8), "the first turn sends");
+    memset(line, 0xa5, sizeof line);
+    expect(pack_turn(state, PACK_STATE_WORDS, NULL, 0, line, sizeof line) == PACK_SHORT, "turn, no bytes");
+    expect(pack_turn(state, PACK_STATE_WORDS, bytes, 139, line, sizeof line) == PACK_SHORT, "turn, a byte short");
+    expect(pack_turn(state, PACK_STATE_WORDS, bytes, sizeof bytes, line, 511) == PACK_SHORT, "turn, 511 bytes for the line");
+    expect(pack_turn(state, PACK_STATE_WORDS, bytes, sizeof bytes, NULL, 0) == PACK_SHORT, "turn, no line");
+    expect(pack_turn(NULL, 0, bytes, 139, NULL, 0) == PACK_NO_STATE, "turn, no state before short");
+    expect(memcmp(old, bytes, sizeof old) == 0 && line[0] == 0xa5, "a refused turn leaves the bytes");
+    expect(take_turn(bytes) == (20u << 16 | PACK_SENT << 8), "the first turn sends");
     expect(memcmp(send, bytes, sizeof send) == 0, "the SEND's bytes");
     expect(memcmp(old + 20, bytes + 20, sizeof old - 20) == 0, "a turn writes no other bytes");
-    expect(pack_turn(state, PACK_STATE_WORDS, bytes, sizeof bytes) == PACK_IDLE << 8, "the second turn is idle");
+    expect(memcmp(line, "T\n\xa5", 3) == 0, "the line of a turn");
+    memset(line, 0xa5, sizeof line);
+    expect(take_turn(bytes) == PACK_IDLE << 8, "the second turn is idle");
+    expect(line[0] == 0xa5, "an idle turn writes no line");
+    expect(pack_turn(state, PACK_STATE_WORDS, bytes, sizeof bytes, line, 511) == PACK_SHORT, "an idle turn, 511 bytes");
 }
 
 /* What a delivery of a 20-byte SEND of concentrator 2 answers with one byte changed. */
@@ -107,21 +136,65 @@ static uint64_t deliver_changed(size_t at, uint8_t value, uint64_t link, size_t 
 {
     uint8_t bytes[20] = {1, 1, 2, 2, 0, 1, 0, 0, 0, 0, 0, 7, 0, 0, 0, 0, 0, 0, 0, 6};
     bytes[at] = value;
-    return pack_deliver(state, PACK_STATE_WORDS, link, bytes, length);
+    return pack_deliver(state, PACK_STATE_WORDS, link, bytes, length, line, sizeof line);
 }
 
 static void test_delivery(void)
 {
     open_first();
-    expect(pack_deliver(NULL, 0, 2, NULL, 0) == PACK_NO_STATE, "delivery, no state");
-    expect(pack_deliver(state, PACK_STATE_WORDS, 2, NULL, 0) == PACK_LENGTH, "delivery, no bytes");
+    static const uint8_t echo[20] = {1, 2, 2, 1, 0, 1, 0, 0, 0, 0, 0, 7, 0, 0, 0, 0, 0, 0, 0, 0xfe};
+    static const char delivery_line[] = "D\t2\t0101020200010000000000070000000000000006\n";
+    expect(pack_deliver(NULL, 0, 2, NULL, 0, NULL, 0) == PACK_NO_STATE, "delivery, no state");
+    expect(pack_deliver(state, PACK_STATE_WORDS, 2, NULL, 0, NULL, 0) == PACK_LENGTH, "delivery, no bytes");
+    expect(pack_deliver(state, PACK_STATE_WORDS, 2, echo, 20, line, 511) == PACK_SHORT, "delivery, 511 bytes for the line");
     expect(deliver_changed(0, 1, 2, 19) == PACK_LENGTH, "delivery, a byte short");
     expect(deliver_changed(1, 7, 2, 20) == PACK_KIND, "delivery, kind 7");
     expect(deliver_changed(11, 8, 2, 20) == PACK_SESSION, "delivery, session 8");
     expect(deliver_changed(0, 1, 258, 20) == PACK_SENDER, "delivery, link 258");
     expect(deliver_changed(3, 3, 2, 20) == PACK_FIELD, "delivery, another instance");
-    expect(deliver_changed(0, 1, 2, 20) == PACK_ACCEPTED, "delivery is accepted");
+    memset(line, 0xa5, sizeof line);
+    expect(deliver_changed(0, 1, 2, 20) == (sizeof delivery_line - 1) << 16, "delivery is accepted");
+    expect(memcmp(line, delivery_line, sizeof delivery_line - 1) == 0, "the line of a delivery");
+    expect(line[sizeof delivery_line - 1] == 0xa5, "a delivery writes no other bytes");
     expect(deliver_changed(0, 1, 2, 20) == PACK_HELD, "delivery, held");
+}
+
+/* What a restore from this text answers. */
+static uint64_t restore(const char *journal, uint8_t *bytes)
+{
+    return pack_restore(state, PACK_STATE_WORDS, (const uint8_t *)journal, strlen(journal), bytes, PACK_MESSAGE_BYTES);
+}
+
+static void test_restore(void)
+{
+    static const char torn[] = "O\t1\t4\t1\t1\t1\t7\t0000000000000005\t00000001\t00000001\t00000001\t00000001\nT\nD\t2\t01";
+    const uint64_t complete = sizeof torn - 1 - 6;
+    uint64_t opened[PACK_STATE_WORDS], old[PACK_STATE_WORDS];
+    uint8_t bytes[PACK_MESSAGE_BYTES], sent[PACK_MESSAGE_BYTES], untouched[PACK_MESSAGE_BYTES];
+    memset(bytes, 0xa5, sizeof bytes);
+    memcpy(untouched, bytes, sizeof bytes);
+    memcpy(sent, bytes, sizeof bytes);
+    open_first();
+    memcpy(opened, state, sizeof opened);
+    memset(state, 0xc3, sizeof state);
+    memcpy(old, state, sizeof old);
+    expect(pack_restore(NULL, 0, NULL, 0, NULL, 0) == PACK_NO_STATE, "restore, no state");
+    expect(pack_restore(state, PACK_STATE_WORDS, NULL, 0, bytes, 139) == PACK_SHORT, "restore, short before the journal");
+    expect(pack_restore(state, PACK_STATE_WORDS, NULL, 0, bytes, 140) == (1 << 8 | PACK_JOURNAL), "restore, no journal");
+    expect(restore("T\n", bytes) == (1 << 8 | PACK_JOURNAL), "restore, no opening line");
+    expect(restore("O\t1\t1\t0\t0\t1\t7\t0000000000000005\t00000000\nT\nT\n", bytes) == (3 << 8 | PACK_JOURNAL),
+           "restore, an idle turn");
+    expect(memcmp(old, state, sizeof old) == 0, "a refused restore leaves the state");
+    expect(memcmp(untouched, bytes, sizeof bytes) == 0, "a refused restore leaves the bytes");
+    expect(restore(opening_line, bytes) == (uint64_t)(sizeof opening_line - 1) << 32, "the answer of a restore");
+    expect(memcmp(opened, state, sizeof opened) == 0, "the state of an opening, restored");
+    expect(memcmp(untouched, bytes, sizeof bytes) == 0, "a restore without a message leaves the bytes");
+    take_turn(sent);
+    memcpy(opened, state, sizeof opened);
+    memset(state, 0xc3, sizeof state);
+    expect(restore(torn, bytes) == (complete << 32 | 20u << 16 | 1 << 8), "the answer of a restore with a message");
+    expect(memcmp(opened, state, sizeof opened) == 0, "the state of a turn, restored");
+    expect(memcmp(sent, bytes, sizeof bytes) == 0, "the message again, and no other bytes");
 }
 
 /* One concentrator alone: five turns, and the set {input} is in force. */
@@ -132,15 +205,15 @@ static void test_session(void)
     memset(named, 0xa5, sizeof named);
     memset(in_force, 0xa5, sizeof in_force);
     memset(untouched, 0xa5, sizeof untouched);
-    answer = pack_open(state, PACK_STATE_WORDS, 1, 0, 0, 1, 7, UINT64_MAX, coins, 1, weights, 1);
-    expect(answer == PACK_ACCEPTED, "opening alone");
-    while (pack_refusal_of(answer = pack_turn(state, PACK_STATE_WORDS, bytes, sizeof bytes)) == PACK_ACCEPTED) {
-        if (pack_outcome_of(answer) != PACK_SENT)
-            break;
-        expect(pack_deliver(state, PACK_STATE_WORDS, 1, bytes, pack_length_of(answer)) == PACK_ACCEPTED, "own message");
+    answer = pack_open(state, PACK_STATE_WORDS, 1, 0, 0, 1, 7, UINT64_MAX, coins, 1, weights, 1, line, sizeof line);
+    expect(pack_refusal_of(answer) == PACK_ACCEPTED, "opening alone");
+    while (pack_refusal_of(answer = take_turn(bytes)) == PACK_ACCEPTED && pack_outcome_of(answer) == PACK_SENT) {
+        size_t length = pack_length_of(answer);
+        answer = pack_deliver(state, PACK_STATE_WORDS, 1, bytes, length, line, sizeof line);
+        expect(pack_refusal_of(answer) == PACK_ACCEPTED, "own message");
     }
     expect(answer == PACK_IN_FORCE << 8, "the last turn is in force");
-    expect(pack_turn(state, PACK_STATE_WORDS, bytes, 0) == PACK_CLOSED, "turn, closed before short");
+    expect(pack_turn(state, PACK_STATE_WORDS, bytes, 0, NULL, 0) == PACK_CLOSED, "turn, closed before short");
     expect(deliver_changed(0, 1, 2, 20) == PACK_CLOSED, "delivery, closed");
     expect(pack_report(state, PACK_STATE_WORDS, named, 15, in_force, 16) == PACK_SHORT, "report, a word short");
     expect(pack_report(state, PACK_STATE_WORDS, named, 16, NULL, 0) == PACK_SHORT, "report, no words in force");
@@ -155,10 +228,12 @@ static void test_session(void)
 int main(void)
 {
     test_opening();
+    test_opening_line();
     test_weights();
     test_unnamed_ta();
     test_turn();
     test_delivery();
+    test_restore();
     test_session();
     return failures == 0 ? 0 : 1;
 }

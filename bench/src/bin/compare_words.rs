@@ -7,7 +7,9 @@ use std::time::Instant;
 
 use pack_bench::Masks;
 use pack_reference::c_engine::{CEngine, Words};
-use pack_reference::compare::{damaged_deliveries, foreign_calls, random_calls, unnamed_openings};
+use pack_reference::compare::{
+    damaged_deliveries, foreign_calls, random_calls, restores, unnamed_openings,
+};
 use pack_reference::engine::Engine;
 use pack_reference::Opening;
 
@@ -25,25 +27,34 @@ impl Engine for SameWords {
         (CEngine.blank(), Masks.blank())
     }
 
-    fn open(&self, state: &mut Self::State, opening: &Opening) -> u64 {
-        let answer = CEngine.open(&mut state.0, opening);
-        assert_eq!(answer, Masks.open(&mut state.1, opening), "openings differ");
+    fn littered(&self, seed: u64) -> Self::State {
+        (CEngine.littered(seed), CEngine.littered(seed))
+    }
+
+    fn open(&self, state: &mut Self::State, opening: &Opening, line: &mut [u8]) -> u64 {
+        let mut copy = line.to_vec();
+        let answer = CEngine.open(&mut state.0, opening, line);
+        let other = Masks.open(&mut state.1, opening, &mut copy);
+        assert_eq!((answer, &*line), (other, &*copy), "openings differ");
         same(state);
         answer
     }
 
-    fn deliver(&self, state: &mut Self::State, link: u64, message: &[u8]) -> u64 {
-        let answer = CEngine.deliver(&mut state.0, link, message);
-        assert_eq!(answer, Masks.deliver(&mut state.1, link, message), "deliveries differ");
+    fn deliver(&self, state: &mut Self::State, link: u64, message: &[u8], line: &mut [u8]) -> u64 {
+        let mut copy = line.to_vec();
+        let answer = CEngine.deliver(&mut state.0, link, message, line);
+        let other = Masks.deliver(&mut state.1, link, message, &mut copy);
+        assert_eq!((answer, &*line), (other, &*copy), "deliveries differ");
         same(state);
         answer
     }
 
-    fn turn(&self, state: &mut Self::State, message: &mut [u8]) -> u64 {
-        let mut copy = message.to_vec();
-        let answer = CEngine.turn(&mut state.0, message);
-        let other = Masks.turn(&mut state.1, &mut copy);
-        assert_eq!((answer, &*message), (other, &*copy), "turns differ");
+    fn turn(&self, state: &mut Self::State, message: &mut [u8], line: &mut [u8]) -> u64 {
+        let (mut message_copy, mut line_copy) = (message.to_vec(), line.to_vec());
+        let answer = CEngine.turn(&mut state.0, message, line);
+        let other = Masks.turn(&mut state.1, &mut message_copy, &mut line_copy);
+        let copies = (other, &*message_copy, &*line_copy);
+        assert_eq!((answer, &*message, &*line), copies, "turns differ");
         same(state);
         answer
     }
@@ -54,6 +65,15 @@ impl Engine for SameWords {
         let other = Masks.report(&state.1, &mut named_copy, &mut in_force_copy);
         let copies = (other, &*named_copy, &*in_force_copy);
         assert_eq!((answer, &*named, &*in_force), copies, "reports differ");
+        answer
+    }
+
+    fn restore(&self, state: &mut Self::State, journal: &[u8], message: &mut [u8]) -> u64 {
+        let mut copy = message.to_vec();
+        let answer = CEngine.restore(&mut state.0, journal, message);
+        let other = Masks.restore(&mut state.1, journal, &mut copy);
+        assert_eq!((answer, &*message), (other, &*copy), "restores differ");
+        same(state);
         answer
     }
 }
@@ -72,6 +92,7 @@ fn main() -> ExitCode {
     };
     note("damaged messages", &damaged_deliveries(&SameWords));
     note("ta unnamed", &unnamed_openings(&SameWords, seed, 20));
+    note("restores", &restores(&SameWords, seed, 12));
     note("random calls", &random_calls(&SameWords, seed, calls));
     note("planted words", &foreign_calls(&CEngine, &Masks, seed, foreign));
     println!("no difference");

@@ -1,9 +1,10 @@
 //! The rules of 01 over the engine's own words, written for speed: masks, population counts, no allocation. It has the
-//! answers of the C functions and is not proved; `compare-words` compares it with the engine. The calls are never inlined,
-//! as those of a library are not.
+//! answers and lines of the C functions and is not proved; `compare-words` compares it with the engine. The calls are never
+//! inlined, as those of a library are not.
 
 mod exits;
 mod layout;
+mod lines;
 mod state;
 mod votes;
 mod wire;
@@ -15,6 +16,7 @@ use layout::*;
 use state::{leading, row, Session, Words};
 
 pub use layout::STATE_WORDS;
+use lines::LINE_BYTES;
 
 pub mod refusal {
     pub const SETTINGS: u64 = 1;
@@ -28,6 +30,7 @@ pub mod refusal {
     pub const NO_STATE: u64 = 9;
     pub const CLOSED: u64 = 10;
     pub const HELD: u64 = 11;
+    pub const JOURNAL: u64 = 15;
 }
 
 const IN_FORCE: u64 = 3 << 8;
@@ -36,7 +39,7 @@ const UNNAMED: u64 = 255;
 const SET_WORDS: usize = 16;
 
 #[inline(never)]
-pub fn open(state: &mut [u64], opening: &Opening) -> u64 {
+pub fn open(state: &mut [u64], opening: &Opening, line: &mut [u8]) -> u64 {
     let Ok(words) = <&mut Words>::try_from(state) else {
         return refusal::NO_STATE;
     };
@@ -49,13 +52,16 @@ pub fn open(state: &mut [u64], opening: &Opening) -> u64 {
     if !valid || coins.len() as u64 != n {
         return refusal::SETTINGS;
     }
+    let Some(line) = line.first_chunk_mut::<LINE_BYTES>() else {
+        return refusal::SHORT;
+    };
     words.fill(0);
     words[..6].copy_from_slice(&[n, ta, ts, own, u64::from(session), input]);
     words[WEIGHTS] = weights;
     for (word, &coin) in words[COINS + 1..].iter_mut().zip(coins) {
         *word = u64::from(coin);
     }
-    0
+    lines::opening(line, opening) << 16
 }
 
 /// The smaller of ts and W − 1 − 2·ts, and 0 where that is below 0. W is the number of marks.
@@ -91,43 +97,44 @@ fn unclosed(state: &mut [u64]) -> Result<(&mut Words, Session), u64> {
 }
 
 #[inline(never)]
-pub fn deliver(state: &mut [u64], link: u64, message: &[u8]) -> u64 {
+pub fn deliver(state: &mut [u64], link: u64, message: &[u8], line: &mut [u8]) -> u64 {
     let (words, session) = match unclosed(state) {
         Ok(found) => found,
         Err(number) => return number,
     };
-    match wire::check(words, &session, link, message) {
-        0 => record(words, link as usize & 31, message),
-        number => number,
+    let number = wire::check(words, &session, link, message);
+    if number != 0 {
+        return number;
+    }
+    let line = line.first_chunk_mut::<LINE_BYTES>();
+    let number = record(words, link as usize & 31, message, line.is_none());
+    match line {
+        Some(line) if number == 0 => lines::delivery(line, link, message) << 16,
+        _ => number,
     }
 }
 
-/// Records a message that fits the layout, unless its place is taken.
+/// Records a message that fits the layout, unless its place is taken or the bytes for its line are `short`.
 #[inline]
-fn record(words: &mut Words, p: usize, message: &[u8]) -> u64 {
+fn record(words: &mut Words, p: usize, message: &[u8], short: bool) -> u64 {
     let (i, round) = (usize::from(message[3]) & 31, usize::from(message[4]));
     let value = wire::value(message, 0);
     let mark = 1 << (p - 1);
     let vote = VOTES + 32 * i + round;
-    match message[1] {
-        wire::SEND => take(words, SEND_MARKS, mark, mark, Some((SEND_VALUES + i, value))),
-        wire::ECHO => {
-            take(words, ECHO_MARKS + i, mark, mark, Some((ECHO_VALUES + 16 * i + p, value)))
-        }
-        wire::READY => {
-            take(words, READY_MARKS + i, mark, mark, Some((READY_VALUES + 16 * i + p, value)))
-        }
-        wire::EST => take(words, vote, mark << (16 * value), mark << (16 * value), None),
-        wire::AUX => take(words, vote, mark << 32 | mark << 48, mark << (32 + 16 * value), None),
-        _ => record_commit(words, p, message),
-    }
-}
-
-/// Refuses where one of the marks `held` is set, else sets `mark` and the value's word.
-#[inline]
-fn take(words: &mut Words, at: usize, held: u64, mark: u64, value: Option<(usize, u64)>) -> u64 {
+    let (at, held, mark, value) = match message[1] {
+        wire::SEND => (SEND_MARKS, mark, mark, Some((SEND_VALUES + i, value))),
+        wire::ECHO => (ECHO_MARKS + i, mark, mark, Some((ECHO_VALUES + 16 * i + p, value))),
+        wire::READY => (READY_MARKS + i, mark, mark, Some((READY_VALUES + 16 * i + p, value))),
+        wire::EST => (vote, mark << (16 * value), mark << (16 * value), None),
+        wire::AUX => (vote, mark << 32 | mark << 48, mark << (32 + 16 * value), None),
+        _ => return record_commit(words, p, message, short),
+    };
+    // One of the marks `held` is set, or else `mark` and the value's word are.
     if words[at & (STATE_WORDS - 1)] & held != 0 {
         return refusal::HELD;
+    }
+    if short {
+        return refusal::SHORT;
     }
     words[at & (STATE_WORDS - 1)] |= mark;
     if let Some((place, value)) = value {
@@ -136,9 +143,12 @@ fn take(words: &mut Words, at: usize, held: u64, mark: u64, value: Option<(usize
     0
 }
 
-fn record_commit(words: &mut Words, p: usize, message: &[u8]) -> u64 {
+fn record_commit(words: &mut Words, p: usize, message: &[u8], short: bool) -> u64 {
     if words[COMMIT_COUNTS + p] != 0 {
         return refusal::HELD;
+    }
+    if short {
+        return refusal::SHORT;
     }
     let count = usize::from(message[5]);
     for k in 0..count {
@@ -149,16 +159,19 @@ fn record_commit(words: &mut Words, p: usize, message: &[u8]) -> u64 {
 }
 
 #[inline(never)]
-pub fn turn(state: &mut [u64], lent: &mut [u8]) -> u64 {
+pub fn turn(state: &mut [u64], lent: &mut [u8], line: &mut [u8]) -> u64 {
     let (words, session) = match unclosed(state) {
         Ok(found) => found,
         Err(number) => return number,
     };
-    if lent.len() < wire::LONGEST {
+    if lent.len() < wire::LONGEST || line.len() < LINE_BYTES {
         return refusal::SHORT;
     }
     let answer = act(words, &session, lent);
-    words[TURNS] += u64::from(answer != 0);
+    if answer != 0 {
+        words[TURNS] += 1;
+        line[..2].copy_from_slice(b"T\n");
+    }
     answer
 }
 

@@ -13,10 +13,11 @@ use Rattle.agreement.specs.Runs as Runs
 use Rattle.held.specs.Held.{Message, COMMIT}
 use Rattle.agreement.specs.Runs.{HeldFrom, OutputsHeld, Inv, Due, backing, shows-named, shows-force}
 use Rattle.agreement.specs.Agreement.{Shown, agreement, validity}
-use Rattle.agreement.specs.Calls.{Machine, Call, world, place, words, Shows, Opened, Conditions, PutIn, Earlier, OneSet, NamedFirst, OnlyInput, DemandThree}
+use Rattle.agreement.specs.Calls.{Machine, Call, world, place, words, journal, Shows, Opened, Conditions, PutIn, Earlier, OneSet, NamedFirst, OnlyInput, DemandThree}
 use Rattle.agreement.specs.Laws.{Reading, Active, Laws}
 use Rattle.agreement.specs.Openings.{did, tell, status, history, opened-known, known-opened, TurnDid, did-turn}
-use Rattle.agreement.specs.Lists.{Left, Live, Good, known-live, history-within, all-good, left-single}
+use Rattle.agreement.specs.Chains.{Noted, history-within, Left, Live, Good, belongs, keeps, known-live}
+use Rattle.agreement.specs.Lists.{all-good, left-single}
 
 -- calls: the whole list
 module _ (M : Machine) (R : Reading M) (H : ℕ → Bool) (laws : Laws M R H) (start : ℕ → M .Words) (S : M .Session) (calls : List (Call M)) (conditions : Conditions M start S H calls) where
@@ -28,23 +29,23 @@ module _ (M : Machine) (R : Reading M) (H : ℕ → Bool) (laws : Laws M R H) (s
   Here cs = Within cs calls
 
   abbrev Gone : ℕ → Message → Type 0
-  Gone m x = Left M R H laws start S calls m x
+  Gone m x = Left M R H start S calls m x
 
   abbrev told : List (Call M) → History
   told cs = history M R start cs
 
-  good : (cs : List (Call M)) → Here cs → Good M R H laws start S calls cs
+  good : (cs : List (Call M)) → Here cs → Good M R H start S calls cs
   good cs k = all-good M R H laws start S calls calls now conditions cs k
 
   -- an opened one
   record Open (cs : List (Call M)) (p : ℕ) : Type 0 where
     by-opening : M .Opening
-    live : Live M R H laws start S calls by-opening (told cs) p (words M start cs p)
+    live : Live M R H start S calls by-opening (told cs) p (words M start cs p) (journal M start cs p)
 
   open-at : (cs : List (Call M)) → Here cs → (p : ℕ) → Opened M start cs p → Open cs p
   open-at cs k p o =
       let x = opened-known M R start cs p o in
-      record { by-opening = x .by-opening; live = known-live M R H laws start S calls cs (good cs k) p (x .by-opening) (x .known) }
+      record { by-opening = x .by-opening; live = known-live M R H start S calls cs (good cs k) p (x .by-opening) (x .known) }
 
   -- ---- what the words of an opened one show
 
@@ -53,13 +54,13 @@ module _ (M : Machine) (R : Reading M) (H : ℕ → Bool) (laws : Laws M R H) (s
     w = words M start cs p
 
     abbrev acts : Act → Type 0
-    acts = Did (told cs) p
+    acts = Noted M R start (journal M start cs p)
 
     owned : R .Belongs (x .by-opening) w
-    owned = x .live .belongs
+    owned = belongs (x .live)
 
     inv : Inv W (R .seen) Gone (told cs) acts p w
-    inv = x .live .inv
+    inv = keeps (x .live)
 
     outs : OutputsHeld W (R .seen) w
     outs = rw (x .live .session) at (laws .outputs-held (x .by-opening) w owned)
@@ -81,7 +82,7 @@ module _ (M : Machine) (R : Reading M) (H : ℕ → Bool) (laws : Laws M R H) (s
   -- a turn that did a
   active : (cs : List (Call M)) → Here cs → (p : ℕ) (a : Act) (d : TurnDid M R start (words M start cs p) (status M R start cs p) a) → Active M R H (d .by-opening) (words M start cs p) (d .lent) a
   active cs k p a d =
-      let live = known-live M R H laws start S calls cs (good cs k) p (d .by-opening) (d .known) in
+      let live = known-live M R H start S calls cs (good cs k) p (d .by-opening) (d .known) in
       rw (d .acts) at (laws .turn-told (d .by-opening) (words M start cs p) (owned cs p (record { by-opening = d .by-opening; live = live })) (d .lent))
 
   -- ---- none is in force that exits had not named before
@@ -103,8 +104,8 @@ module _ (M : Machine) (R : Reading M) (H : ℕ → Bool) (laws : Laws M R H) (s
         later : Here cs
         later = within-tail c k
 
-        live : Live M R H laws start S calls (d .by-opening) (told cs) p (words M start cs p)
-        live = known-live M R H laws start S calls cs (good cs later) p (d .by-opening) (d .known)
+        live : Live M R H start S calls (d .by-opening) (told cs) p (words M start cs p) (journal M start cs p)
+        live = known-live M R H start S calls cs (good cs later) p (d .by-opening) (d .known)
 
         due : Due W (R .seen) (words M start cs p) (commit X) → Then (c ∷ cs)
         due (inl n) =
@@ -173,8 +174,8 @@ module _ (M : Machine) (R : Reading M) (laws : (H : ℕ → Bool) → Laws M R H
       let u = open-at M R H l start S cs k ds a p x in
       let v = open-at M R H l start S cs k es b q y in
       let so = sound-at M R H l start S cs k ds p u (M .settings S .ta) (u .live .ruled .ordered) few in
-      agreement (world M S H) (Runs.Gone (world M S H) (R .seen) (Left M R H l start S cs)) so (left-single M R H l start S cs k) (history M R start cs) (good M R H l start S cs k cs now .lawful)
-      (history-within M R H l start S cs a) (history-within M R H l start S cs b) X Y
+      agreement (world M S H) (Runs.Gone (world M S H) (R .seen) (Left M R H start S cs)) so (left-single M R H l start S cs k) (history M R start cs) (good M R H l start S cs k cs now .lawful)
+      (history-within M R start a) (history-within M R start b) X Y
       (show M R H l start S cs k ds p u X s) (show M R H l start S cs k es q v Y t)
 
   named-first : NamedFirst M
@@ -191,7 +192,7 @@ module _ (M : Machine) (R : Reading M) (laws : (H : ℕ → Bool) → Laws M R H
       let u = open-at M R H l start S cs k ds a p x in
       let so = sound-at M R H l start S cs k ds p u (M .settings S .ts) (omega arith) few in
       let j : PutIn M start v ds = λ q o es w. i q o es (within-trans w a) in
-      validity (world M S H) (Runs.Gone (world M S H) (R .seen) (Left M R H l start S cs)) (M .settings S .ts) so (history M R start ds) (good M R H l start S cs k ds a .lawful) v
+      validity (world M S H) (Runs.Gone (world M S H) (R .seen) (Left M R H start S cs)) (M .settings S .ts) so (history M R start ds) (good M R H l start S cs k ds a .lawful) v
       (λ q r hq d. sent-input M R H l start S cs k v ds a j q r d) X (show M R H l start S cs k ds p u X s)
 
   pub demand-three : DemandThree M

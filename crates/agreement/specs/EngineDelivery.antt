@@ -27,9 +27,11 @@ use Rattle.wire_laws.proofs.Parts.{length-values, value-below, all-drop}
 use Rattle.wire_laws.proofs.Converse.{taken-form, only-encodings}
 use Rattle.delivery.specs.Accepting.{Accepting, accepting}
 use Rattle.delivery.specs.Answers.{Taking, answer-accepted, answer-refused}
-use Rattle.delivery.specs.Delivery.{placeHeld, recorded, deliverAnswer}
+use Rattle.delivery.specs.Delivery.{placeHeld, recorded, deliverAnswer, delivered}
 use Rattle.delivery.specs.Frame.{InLayout, length-recorded}
 use Rattle.delivery.specs.Kept.{in-layout, SetAfter, before, now, set-after, Untouched, word-untouched, word-free, ValueFits, fit-recorded}
+use Rattle.journal.specs.Journal.{LINE-BYTES, deliverNumber, deliveredWords}
+use Rattle.journal.specs.Laws.{line-taken, line-words, line-stays}
 use Rattle.agreement.specs.History.{Decision, zero, one}
 use Rattle.held.specs.Held.{Message, meaning}
 use Rattle.held.specs.Recording.{held-recorded}
@@ -153,11 +155,13 @@ module _ (o : Arguments) (w : List ℕ) (B : Belongs o w) (S : Sets o w) (p : �
     fits : ValueFits (t .message) (drop 12 (b .list))
     fits = value-fits (t .message) _ (drop 12 (b .list)) (encoded .proper .fits) (value-below (drop 12 (b .list)) (all-drop (b .list) 12 (b .each)))
 
-    taking-delivery : Delivery engine engineReading H o w p b
-    taking-delivery =
+    taking-delivery : LINE-BYTES ≤ b .line → Delivery engine engineReading H o w p b
+    unfolding deliveredWords
+    taking-delivery enough =
+        let now = line-words (b .line) w _ enough ∙ t .words in
         record {
           belongs =
-              subst (Belonging o) (sym (t .words))
+              subst (Belonging o) (sym now)
               (record {
                 words = recorded-belongs o w B (drop 12 (b .list)) p (t .message) layout fits;
                 sets = recorded-sets o w B (drop 12 (b .list)) p (t .message) layout S (form .rising) (form .layout);
@@ -165,17 +169,26 @@ module _ (o : Arguments) (w : List ℕ) (B : Belongs o w) (S : Sets o w) (p : �
           said = meaning (t .message) (values (countOf (t .message)) (drop 12 (b .list)));
           says = record { message = t .message; taken = read; means = refl };
           holds =
-              subst (λ (x : List ℕ). Delivered (at engine engineReading H o) engineSeen w x p (meaning (t .message) (values (countOf (t .message)) (drop 12 (b .list))))) (sym (t .words))
+              subst (λ (x : List ℕ). Delivered (at engine engineReading H o) engineSeen w x p (meaning (t .message) (values (countOf (t .message)) (drop 12 (b .list))))) (sym now)
               (recorded-delivered o w B (drop 12 (b .list)) p (t .message) layout H (message-accepting .free));
         }
 
 -- ---- the laws
 
+pub without-line : (w : List ℕ) (m : ℕ) (b : Bytes) → engine .accepts w m b ≡ true → (deliverAnswer w m (b .list) ≡ 0) × (LINE-BYTES ≤ b .line)
+unfolding deliverNumber
+without-line w m b e = line-taken _ (b .line) (eqb-true _ 0 e)
+
+pub delivered-words : (w : List ℕ) (m : ℕ) (b : Bytes) → LINE-BYTES ≤ b .line → engine .delivered w m b ≡ delivered w m (b .list)
+unfolding deliveredWords
+delivered-words w m b l = line-words (b .line) w _ l
+
 pub deliver-refused : (w : List ℕ) (m : ℕ) (b : Bytes) → engine .accepts w m b ≡ false → engine .delivered w m b ≡ w
-deliver-refused w m b e = answer-refused w m (b .list) (eqb-false (deliverAnswer w m (b .list)) 0 e)
+unfolding deliverNumber deliveredWords
+deliver-refused w m b e = line-stays _ (b .line) w _ e (λ f. answer-refused w m (b .list) (eqb-false (deliverAnswer w m (b .list)) 0 f))
 
 pub deliver-accepted : (H : ℕ → Bool) (o : Arguments) (w : List ℕ) → Belonging o w → (m : ℕ) (b : Bytes) → engine .accepts w m b ≡ true → Delivery engine engineReading H o w m b
-deliver-accepted H o w B m b e = taking-delivery o w (B .words) (B .sets) m b H (answer-accepted w m (b .list) (eqb-true (deliverAnswer w m (b .list)) 0 e))
+deliver-accepted H o w B m b e = taking-delivery o w (B .words) (B .sets) m b H (answer-accepted w m (b .list) (without-line w m b e .0)) (without-line w m b e .1)
 
 same-taken : (a b : wire-message.Message) → Taken a ≡ Taken b → a ≡ b
 same-taken a b e = cc

@@ -7,10 +7,11 @@ use Rattle.agreement.specs.Demand.{demand-three}
 use Rattle.agreement.specs.EngineReading.{engineReading}
 use Rattle.agreement.specs.EngineOpening.{open-ruled, open-belongs, open-blank, open-refused}
 use Rattle.agreement.specs.EngineDelivery.{deliver-refused, deliver-accepted, says-one}
-use Rattle.agreement.specs.EngineTurn.{turn-belongs, turn-told}
+use Rattle.agreement.specs.EngineJournal.{restore-refused, restore-ran}
+use Rattle.agreement.specs.EngineTurn.{turn-belongs, turn-told, turn-idle}
 use Rattle.agreement.specs.EngineReport.{outputs-have-readies, names-exits, exits-names, force-held}
 
-engine-laws : (H : ℕ → Bool) → Laws engine engineReading H
+pub engine-laws : (H : ℕ → Bool) → Laws engine engineReading H
 engine-laws H =
     record {
       open-ruled = open-ruled;
@@ -20,8 +21,11 @@ engine-laws H =
       deliver-refused = deliver-refused;
       deliver-accepted = deliver-accepted H;
       says-one = says-one;
-      turn-belongs = λ o w x lent. turn-belongs o w x lent;
-      turn-told = λ o w x lent. turn-told o w x lent H;
+      turn-belongs = λ o w x l. turn-belongs o w x l;
+      turn-told = λ o w x l. turn-told o w x l H;
+      turn-idle = λ o w x l e. turn-idle w l e;
+      restore-refused = restore-refused;
+      restore-ran = restore-ran;
       outputs-held = λ o w x. outputs-have-readies o H w (x .words);
       names-exits = λ o w x. names-exits o H w (x .words);
       exits-names = λ o w x. exits-names o H w (x .words);

@@ -22,7 +22,9 @@ use Rattle.wire.specs.Bytes.{rises}
 use Rattle.opening.specs.Cases.{Accepted, accepted}
 use Rattle.opening.specs.GivenLaws.{weights-fit}
 use Rattle.opening.specs.Laws.{coin-below, length-first, first-n, first-ta, first-ts, first-own, first-session, first-input, first-coin, first-weights, first-zero, fit-first}
-use Rattle.opening.specs.Opening.{openWords, opened}
+use Rattle.opening.specs.Opening.{openAnswer, openWords, opened}
+use Rattle.journal.specs.Journal.{LINE-BYTES, openNumber, openedWords}
+use Rattle.journal.specs.Laws.{line-taken, line-words, line-stays}
 use Rattle.agreement.specs.History.{Decision, zero, one}
 use Rattle.held.specs.Held.{Message, SEND, ECHO, READY, EST, AUX, COMMIT, holds}
 use Rattle.agreement.specs.Runs.{Blank}
@@ -32,25 +34,29 @@ use Rattle.agreement.specs.EngineSeen.{engineSeen}
 use Rattle.agreement.specs.EngineReading.{Belongs, Sets, Belonging, engineReading}
 
 -- the words after an accepted opening
-abbrev first : Arguments → List ℕ
+abbrev pub first : Arguments → List ℕ
 first o = openWords (o .n) (o .ta) (o .ts) (weightsOf o) (o .own) (o .session) (o .input) (o .coins)
 
 -- ---- what an accepted opening tells
 
 module _ (w : List ℕ) (o : Arguments) (e : engine .opens w o ≡ true) where
-  told : Accepted (length w) (o .n) (o .ta) (o .ts) (weightsOf o) (o .own) (length (o .coins))
-  told = accepted (length w) (o .n) (o .ta) (o .ts) (weightsOf o) (o .own) (length (o .coins)) (eqb-true _ 0 e)
+  pub without-line : (openAnswer (length w) (o .n) (o .ta) (o .ts) (weightsOf o) (o .own) (length (o .coins)) ≡ 0) × (LINE-BYTES ≤ o .line)
+  unfolding openNumber
+  without-line = line-taken _ (o .line) (eqb-true _ 0 e)
 
-  own-within : (1 ≤ o .own) × (o .own ≤ o .n)
+  pub told : Accepted (length w) (o .n) (o .ta) (o .ts) (weightsOf o) (o .own) (length (o .coins))
+  told = accepted (length w) (o .n) (o .ta) (o .ts) (weightsOf o) (o .own) (length (o .coins)) (without-line .0)
+
+  pub own-within : (1 ≤ o .own) × (o .own ≤ o .n)
   unfolding numbered
   own-within =
       let low = leb 1 (o .own) in
       let high = leb (o .own) (o .n) in
       (leb-true 1 (o .own) (and-left low high (told .own-number)), leb-true (o .own) (o .n) (and-right low high (told .own-number)))
 
-  opened-first : engine .opened w o ≡ first o
-  unfolding opened
-  opened-first = rw e
+  pub opened-first : engine .opened w o ≡ first o
+  unfolding openedWords opened
+  opened-first = line-words (o .line) w _ (without-line .1) ∙ rw (without-line .0)
 
   pub open-ruled : Ruled (agreed o .settings)
   open-ruled = valid-rules (o .n) (namedTa (o .n) (o .ta) (o .ts) (weightsOf o)) (o .ts) (weightsOf o) (told .valid)
@@ -133,5 +139,5 @@ open-blank H w o e =
     (record { held = λ m x lo hi h. none-held o few m x (omega (arith, few)) h; decs = λ i b lo hi d. none-decided o few i b d })
 
 pub open-refused : (w : List ℕ) (o : Arguments) → engine .opens w o ≡ false → engine .opened w o ≡ w
-unfolding opened
-open-refused w o e = rw e
+unfolding openNumber openedWords opened
+open-refused w o e = line-stays _ (o .line) w _ e (λ f. rw f)

@@ -17,7 +17,6 @@ use Rattle.wire.specs.Bytes.{values, rises}
 use Rattle.wire.specs.Message.{countOf}
 use Rattle.wire.specs.Reading.{readMessage}
 use Rattle.wire.specs.declared.Message as wire
-use Rattle.wire.specs.declared.Message.the-variants as message
 use Rattle.wire.specs.declared.Parsed.the-variants.{Taken}
 use Rattle.opening.specs.Given.{item}
 use Rattle.turn.specs.Due.{due, commitDue}
@@ -26,9 +25,10 @@ use Rattle.turn.specs.declared.Admitted.{Admitted}
 use Rattle.turn.specs.declared.Admitted.the-variants as admitted
 use Rattle.held.specs.Held.{Message, meaning}
 use Rattle.agreement.specs.History.{Act, send, echo, ready, start, relay, aux, move, commit}
-use Rattle.agreement.specs.Calls.{Arguments, weightsOf, Agreed, agreed, Bytes, engine}
+use Rattle.agreement.specs.Calls.{Arguments, weightsOf, Agreed, agreed, Bytes, TurnLent, engine}
 use Rattle.agreement.specs.Laws.{Reading}
 use Rattle.agreement.specs.EngineSeen.{engineSeen}
+use Rattle.agreement.specs.EngineLent.{forMessage}
 
 -- the words hold the session of an accepted opening
 pub record Belongs (o : Arguments) (w : List ℕ) : Type 0 where
@@ -72,8 +72,8 @@ unfoldable pub admittedAct : Admitted → List ℕ → Option Act
 admittedAct (admitted.Refused k) s = none
 admittedAct (admitted.Open x) s = shownAct (x .settings) s (due (x .settings) s)
 
-unfoldable pub actOf : List ℕ → List ℕ → Option Act
-actOf w lent = admittedAct (admits w (length lent)) w
+unfoldable pub actOf : List ℕ → TurnLent → Option Act
+actOf w l = admittedAct (admits w (length (forMessage l))) w
 
 -- the bytes b from the link of concentrator m say x
 pub record Says (S : Agreed) (m : ℕ) (b : Bytes) (x : Message) : Type 0 where

@@ -1,13 +1,12 @@
 -- The laws of the report, of the engine: what it names is what the exits name, and a set in force has its COMMITs.
-use Prim.Native.Nat.{ℕ, _≤_}
-use mathlib.Core.Bool.{Bool, true, false, cond}
-use mathlib.Core.List.{List, []}
+use Prim.Native.Nat.{ℕ}
+use mathlib.Core.Bool.{Bool, true, false}
+use mathlib.Core.List.{List}
 use mathlib.Core.Logic.{_≢_}
-use mathlib.Core.Option.{Option, none, some}
+use mathlib.Core.Option.{some}
 use mathlib.Core.Path.{_≡_, refl, sym, ap, subst, _∙_}
 use native.Mathlib.Omega.{arith}
 use native.Mathlib.Decide.{ℕ-discrete}
-use lib.Dec.{eqb}
 use lib.ListN.{length, take}
 use borrow.Author.Tests.{eq-eqb, ne-eqb}
 use Rattle.settings.specs.Settings.{quorum}
@@ -24,16 +23,17 @@ use Rattle.turn.specs.Admitting.{admitting}
 use Rattle.turn.specs.Turn.{admits}
 use Rattle.turn.specs.declared.Admitted.{Admitted}
 use Rattle.turn.specs.declared.Admitted.the-variants as admitted
-use Rattle.report.specs.Report.{atFront, inForceSet, figuresOf, reportAnswer, reportNamed, reportInForce}
+use Rattle.report.specs.Report.{atFront, inForceSet, figuresOf, reportNamed, reportInForce}
 use Rattle.report.specs.Laws.{Reported, reported, report-gives, report-names, report-enforces, front-read}
 use Rattle.report.specs.declared.Figures.{Figures}
 use Rattle.agreement.specs.Evidence.{World, whole}
 use Rattle.agreement.specs.History.{Act, Names}
-use Rattle.held.specs.Held.{Message, COMMIT}
+use Rattle.held.specs.Held.{COMMIT}
 use Rattle.agreement.specs.Runs.{HeldFrom, OutputsHeld}
-use Rattle.agreement.specs.Calls.{Arguments, agreed, ReportNames, ReportEnforces, engine, world}
+use Rattle.agreement.specs.Calls.{Arguments, agreed, TurnLent, ReportNames, ReportEnforces, engine, world}
 use Rattle.agreement.specs.EngineSeen.{engineSeen}
-use Rattle.agreement.specs.EngineReading.{Belongs, Belonging, admittedAct, actOf}
+use Rattle.agreement.specs.EngineLent.{forMessage}
+use Rattle.agreement.specs.EngineReading.{Belongs, admittedAct, actOf}
 use Rattle.agreement.specs.EngineDue.{outputs-held, force-due}
 use Rattle.agreement.specs.EngineTurn.{settings-same}
 
@@ -77,18 +77,18 @@ module _ (o : Arguments) (H : ℕ → Bool) (w : List ℕ) (x : Belongs o w) whe
           }
 
   -- a turn that acts has a state, and its report is given
-  acting-state : (lent : List ℕ) (a : Act) → actOf w lent ≡ some a → State w
+  acting-state : (l : TurnLent) (a : Act) → actOf w l ≡ some a → State w
   unfolding actOf admittedAct
-  acting-state lent a e = go (admits w (length lent)) refl e
+  acting-state l a e = go (admits w (length (forMessage l))) refl e
     where
-      go : (v : Admitted) → admits w (length lent) ≡ v → admittedAct v w ≡ some a → State w
+      go : (v : Admitted) → admits w (length (forMessage l)) ≡ v → admittedAct v w ≡ some a → State w
       go (admitted.Refused k) f h = absurd (let z : _≡_ {A = ℕ} 0 1 = cc in omega arith)
-      go (admitted.Open y) f h = admitting w (length lent) y f .state
+      go (admitted.Open y) f h = admitting w (length (forMessage l)) y f .state
 
-  pub exits-names : (lent : List ℕ) (a : Act) → actOf w lent ≡ some a → (X : List ℕ) → Names (W .settings) (engineSeen .standing w) X → ReportNames w X
+  pub exits-names : (l : TurnLent) (a : Act) → actOf w l ≡ some a → (X : List ℕ) → Names (W .settings) (engineSeen .standing w) X → ReportNames w X
   unfolding exitNow figuresOf
-  exits-names lent a e X h =
-      let is : isState w ≡ true = state-is w (acting-state lent a e) in
+  exits-names l a e X h =
+      let is : isState w ≡ true = state-is w (acting-state l a e) in
       let n : Names (settingsOf w) (engineSeen .standing w) X = subst (λ (y : Settings). Names y (engineSeen .standing w) X) (sym (settings-same o w x)) h in
       record {
         lent = blank 16;

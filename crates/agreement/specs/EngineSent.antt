@@ -1,5 +1,5 @@
 -- The bytes that a turn of the engine sends say the message of its act.
-use Prim.Native.Nat.{ℕ, zero, suc, _+_, _*_, _≤_, _<_, _^_, _%_}
+use Prim.Native.Nat.{ℕ, zero, suc, _+_, _*_, _≤_, _<_, _^_}
 use mathlib.Core.Bool.{Bool, true, false, cond}
 use mathlib.Core.List.{List, [], _∷_, List·Memᴰ, List·Memᴰ·head, List·Memᴰ·tail}
 use mathlib.Core.Logic.{_⊎_, inl, inr}
@@ -12,10 +12,8 @@ use lib.Seq.{take-all, take-at}
 use borrow.Author.Tests.{lt-ltb, ltb-true}
 use Rattle.quorum.specs.Bools.{and-both}
 use Rattle.settings.specs.Settings.{quorum, copy}
-use Rattle.settings.specs.Laws.{Ruled}
 use Rattle.settings.specs.Thresholds.{ruled-bounds, copy-sum}
 use Rattle.settings.specs.declared.Settings.{Settings}
-use Rattle.records.specs.Words.{word}
 use Rattle.records.specs.Records.{sendValue, echoHeld, echoValue, readyHeld, readyValue, commitCount, commitValue, commitSet, decidedZero, decidedOne}
 use Rattle.records.specs.Records as records
 use Rattle.records.specs.Bounds.{Fit}
@@ -25,22 +23,21 @@ use Rattle.acts.specs.declared.View.{View}
 use Rattle.acts.specs.declared.View.the-variants.{Only, Both}
 use Rattle.broadcasts.specs.Leading.{holders}
 use Rattle.broadcasts.specs.Broadcasts.{output}
-use Rattle.broadcasts.specs.Laws.{Holder, holders-some, ready-rests, output-holders}
+use Rattle.broadcasts.specs.Laws.{holders-some, ready-rests, output-holders}
 use Rattle.broadcasts.specs.declared.Output.the-variants.{Value}
-use Rattle.votes.specs.Votes.{estimate, coinValue}
+use Rattle.votes.specs.Votes.{estimate}
 use Rattle.votes.specs.Told.{Shown}
 use Rattle.exits.specs.Exits.{Exit, outputsOfS}
 use Rattle.exits.specs.Stated.{singleExit, outputsExit}
 use Rattle.exits.specs.Exits.{noExit}
-use Rattle.exits.specs.Rising.{RisingFrom, Rising, Source, outputs-from}
+use Rattle.exits.specs.Rising.{RisingFrom, Rising, outputs-from}
 use Rattle.exits.specs.Ways.{Way, first, second, third, way}
 use Rattle.exits.specs.Ways as ways
 use Rattle.exits.specs.Laws.{names-rising, names-few}
 use Rattle.exits.specs.Now.{exitNow}
 use Rattle.commits.specs.Sets.{listed, set-listed, set-length}
-use Rattle.wire.specs.Bytes.{values, risesFrom, rises}
-use Rattle.wire.specs.Message.{besides, countOf, lengthOf, valuesOf, encode, atFront}
-use Rattle.wire.specs.Reading.{readMessage}
+use Rattle.wire.specs.Bytes.{risesFrom, rises}
+use Rattle.wire.specs.Message.{besides, lengthOf, valuesOf, encode, atFront}
 use Rattle.wire.specs.declared.Message as wire
 use Rattle.wire.specs.declared.Message.the-variants as message
 use Rattle.wire.proofs.Laws.{length-encode}
@@ -49,7 +46,7 @@ use Rattle.wire_laws.specs.Laws.{ReadBack}
 use Rattle.wire_laws.proofs.RoundTrip.{round-trip}
 use Rattle.session.specs.declared.Session.{Session}
 use Rattle.turn.specs.Due.{due, commitDue}
-use Rattle.turn.specs.Turn.{moveOutcome, outcomeOf, bytesAfter, turnBytes}
+use Rattle.turn.specs.Turn.{moveOutcome, outcomeOf, bytesAfter, turnOutcome, turnBytes}
 use Rattle.turn.specs.Told.{ActTold, Rests, on-exit, on-copies}
 use Rattle.turn.specs.Laws.{Taken}
 use Rattle.turn.specs.declared.Outcome.{Outcome}
@@ -58,7 +55,8 @@ use Rattle.agreement.specs.Evidence.{World}
 use Rattle.agreement.specs.History.{Act, commit, move}
 use Rattle.held.specs.Held.{Message, EST, meaning}
 use Rattle.agreement.specs.Runs as runs
-use Rattle.agreement.specs.Calls.{Arguments, agreed, Bytes, SendsBytes, engine, world}
+use Rattle.agreement.specs.Calls.{Arguments, agreed, Bytes, engine, world}
+use Rattle.agreement.specs.EngineLent.{SendsPlain}
 use Rattle.agreement.specs.EngineReading.{Belongs, Sets, shownAct, Says}
 use Rattle.agreement.specs.EngineActed.{coin-same}
 
@@ -229,6 +227,13 @@ module _ (o : Arguments) (H : ℕ → Bool) (w : List ℕ) (x : Belongs o w) (se
       ap (take (lengthOf m)) (t .bytes ∙ ap (λ (y : Outcome). bytesAfter session w y lent) e)
       ∙ take-at (encode m (o .own) (o .session) xs) (drop (length (encode m (o .own) (o .session) xs)) lent) (lengthOf m) (length-encode m (o .own) (o .session) xs b)
 
+  -- the bytes of a message do not depend on what was lent
+  pub same-bytes : (lent other : List ℕ) → Taken w lent session → Taken w other session → (m : wire.Message) → turnOutcome w (length lent) ≡ outcome.Sent m → take (lengthOf m) (turnBytes w lent) ≡ take (lengthOf m) (turnBytes w other)
+  same-bytes lent other t u m e =
+      let f = sym (t .answer) ∙ e in
+      let b = act-sending (due g w) (t .told) m f .proper .held in
+      sent-bytes lent t m b f ∙ sym (sent-bytes other u m b f)
+
   encoded-says : (m : wire.Message) → Proper (o .n) (o .own) m xs → (b : Bytes) → b .list ≡ encode m (o .own) (o .session) xs → Says (agreed o) (o .own) b (meaning m (valuesOf m xs))
   encoded-says m p b e =
       let back : ReadBack (o .n) (o .session) (o .own) m xs = round-trip (o .n) (o .session) (o .own) m xs (o .session-fits) (x .own-low) (x .own-high) p in
@@ -238,7 +243,7 @@ module _ (o : Arguments) (H : ℕ → Bool) (w : List ℕ) (x : Belongs o w) (se
         means = ap (meaning m) (rw e (sym (back .all-values)));
       }
 
-  pub shown-says : (lent : List ℕ) → Taken w lent session → (b : Bytes) → SendsBytes w lent b → (a : Act) → shownAct g w (due g w) ≡ some a → Says (agreed o) (o .own) b (runs.message W a)
+  pub shown-says : (lent : List ℕ) → Taken w lent session → (b : Bytes) → SendsPlain w lent b → (a : Act) → shownAct g w (due g w) ≡ some a → Says (agreed o) (o .own) b (runs.message W a)
   shown-says lent t b h a e =
       of (act-sending (due g w) (t .told) (h .message) (sym (t .answer) ∙ h .outcome))
     where
@@ -248,7 +253,7 @@ module _ (o : Arguments) (H : ℕ → Bool) (w : List ℕ) (x : Belongs o w) (se
           rw is (encoded-says (h .message) (s .proper) b (h .bytes ∙ sent-bytes lent t (h .message) (s .proper .held) (sym (t .answer) ∙ h .outcome)))
 
   -- an act that shows nothing sends nothing
-  pub silent : (lent : List ℕ) → Taken w lent session → (b : Bytes) → SendsBytes w lent b → shownAct g w (due g w) ≡ none → ⊥
+  pub silent : (lent : List ℕ) → Taken w lent session → (b : Bytes) → SendsPlain w lent b → shownAct g w (due g w) ≡ none → ⊥
   silent lent t b h e = of (act-sending (due g w) (t .told) (h .message) (sym (t .answer) ∙ h .outcome))
     where
       of : Sending (shownAct g w (due g w)) (h .message) → ⊥

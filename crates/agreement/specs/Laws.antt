@@ -4,10 +4,13 @@
 --   delivery   refused: the words stay. Accepted: the bytes say one message, and the words hold at most that one more.
 --   turn       it does nothing that shows, or one act that was due; the bytes that it sends say the message of that act; a SEND carries
 --              the own input.
+--   restore    refused: the words stay. Accepted, of the lines of calls that were made one after another from an accepted opening on, with at
+--              most a part of one more line behind them: the words are those after these calls.
 --   report     an output has its READYs; the set named is the exits'; a set in force has its COMMITs.
 use Prim.Native.Nat.{ℕ}
 use mathlib.Core.Bool.{Bool, true, false}
-use mathlib.Core.List.{List}
+use mathlib.Core.List.{List, [], _++_}
+use mathlib.Core.Logic.{_≢_}
 use mathlib.Core.Option.{Option, none, some}
 use mathlib.Core.Path.{_≡_}
 use Rattle.settings.specs.Laws.{Ruled}
@@ -15,7 +18,19 @@ use Rattle.agreement.specs.Evidence.{World, whole}
 use Rattle.agreement.specs.History.{Act, send, Names}
 use Rattle.held.specs.Held.{Message, COMMIT}
 use Rattle.agreement.specs.Runs.{message, Seen, HeldFrom, OutputsHeld, Due, Kept, Delivered, Acted, Blank}
-use Rattle.agreement.specs.Calls.{Machine, world}
+use Rattle.agreement.specs.Calls.{Machine, Call, line, world}
+
+-- w are the words after calls that wrote the lines t, each accepted, one after another; `last` has those before the last call, and what it was
+-- lent, where it is a turn
+pub data Ran (M : Machine) : List ℕ → M .Words → Option (M .Words × M .Lent) → Type 0 where
+  by-opening : (w : M .Words) (o : M .Opening) → M .opens w o ≡ true → Ran M (M .opening-line o) (M .opened w o) none
+  by-delivery : (t : List ℕ) (w : M .Words) (last : Option (M .Words × M .Lent)) (m : ℕ) (b : M .Bytes) → Ran M t w last → M .accepts w m b ≡ true → Ran M (t ++ M .delivery-line m b) (M .delivered w m b) none
+  by-turn : (t : List ℕ) (w : M .Words) (last : Option (M .Words × M .Lent)) (l : M .Lent) → Ran M t w last → M .acts w l ≡ true → Ran M (t ++ M .turn-line) (M .turned w l) (some (w, l))
+
+-- what a cut leaves of the line that it falls into: nothing, or a part that is not the whole
+pub data Torn (M : Machine) (rest : List ℕ) : Type 0 where
+  nothing : rest ≡ [] → Torn M rest
+  part : (c : Call M) (more : List ℕ) → rest ++ more ≡ line M c → more ≢ [] → Torn M rest
 
 -- a reading of a machine's words
 pub record Reading (M : Machine) : Type 1 where
@@ -69,6 +84,10 @@ module _ (M : Machine) (R : Reading M) (H : ℕ → Bool) where
     -- turn
     pub turn-belongs : (o : M .Opening) (w : M .Words) → R .Belongs o w → (l : M .Lent) → R .Belongs o (M .turned w l)
     pub turn-told : (o : M .Opening) (w : M .Words) → R .Belongs o w → (l : M .Lent) → Turned o w l (R .act w l)
+    pub turn-idle : (o : M .Opening) (w : M .Words) → R .Belongs o w → (l : M .Lent) → M .acts w l ≡ false → M .turned w l ≡ w
+    -- restore
+    pub restore-refused : (w : M .Words) (r : M .Restore) → M .restores w r ≡ false → M .restored w r ≡ w
+    pub restore-ran : (v : M .Words) (r : M .Restore) (t rest : List ℕ) (w : M .Words) (last : Option (M .Words × M .Lent)) → Ran M t w last → Torn M rest → M .text r ≡ t ++ rest → M .restores v r ≡ true → M .restored v r ≡ w
     -- report: what is named is what the exits name, and it is reported at least where a turn acts
     pub outputs-held : (o : M .Opening) (w : M .Words) → R .Belongs o w → OutputsHeld (at o) (R .seen) w
     pub names-exits : (o : M .Opening) (w : M .Words) → R .Belongs o w → (X : List ℕ) → M .Names w X → Names (at o .settings) (R .seen .standing w) X

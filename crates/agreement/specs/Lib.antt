@@ -9,9 +9,13 @@ pub mod Runs
 pub mod Calls
 pub mod Laws
 pub mod Openings
+pub mod Journals
+pub mod Plain
+pub mod Chains
 pub mod Lists
 pub mod Demand
 pub mod EngineSeen
+pub mod EngineLent
 pub mod EngineReading
 pub mod EngineOpening
 pub mod EngineDelivery
@@ -21,4 +25,7 @@ pub mod EngineActed
 pub mod EngineSent
 pub mod EngineTurn
 pub mod EngineReport
+pub mod EngineJournal
 pub mod EngineDemand
+pub mod EngineRestores
+pub mod EnginePlain

@@ -1,111 +1,90 @@
--- A list of calls that meets the conditions makes a lawful history of the opened ones' acts, and each opened one's state holds only what
--- was said in it.
+-- A list of calls that meets the conditions makes a lawful history of the opened ones' acts, lost lines included, and each opened one's state,
+-- and every state that its journal leads back to, holds only what was said in it.
 use Prim.Native.Nat.{ℕ}
 use mathlib.Core.Bool.{Bool, true, false, _&&_, cond, false≢true}
-use mathlib.Core.List.{List, [], _∷_}
+use mathlib.Core.List.{List, [], _∷_, _++_}
 use mathlib.Core.Logic.{_⊎_, inl, inr}
 use mathlib.Core.Option.{Option, none, some}
-use mathlib.Core.Path.{_≡_, refl, sym}
+use mathlib.Core.Path.{_≡_, refl, sym, ap, _∙_}
 use native.Mathlib.Decide.{ℕ-discrete}
 use lib.Dec.{eqb}
+use lib.ListN.{length}
 use borrow.Author.Tests.{eq-eqb, ne-eqb, eqb-true}
-use Rattle.settings.specs.Laws.{Ruled}
 use Rattle.agreement.specs.Evidence.{World, Honest}
-use Rattle.agreement.specs.History.{Act, echo, aux, History, Did, by, Lawful, Single}
-use Rattle.agreement.specs.Moments.{Within, now, after, within-tail, within-trans}
-use Rattle.held.specs.Held.{Message}
-use Rattle.agreement.specs.Runs.{Said, message, said-of, said-later, Gone, Credit, Inv, due-guard, inv-blank, inv-keep, inv-fewer, inv-kept, inv-delivered, inv-acted}
-use Rattle.agreement.specs.Calls.{Machine, Call, opening, delivery, turn, report, world, place, left, words, Sent, Conditions}
-use Rattle.agreement.specs.Laws.{Reading, Turned, Laws}
-use Rattle.agreement.specs.Openings.{becomes, did, tell, status, history, Known, opened-known, known-opened}
+use Rattle.agreement.specs.History.{Act, History, Did, Lawful, Single}
+use Rattle.held.specs.Held.{Message, ECHO, AUX}
+use Rattle.agreement.specs.Moments.{Within, now, after, within-tail, within-trans, within-cases, within-none}
+use Rattle.agreement.specs.Runs.{Said, message, echo-of, aux-of, said-of, Gone, Credit, due-guard, inv-blank, inv-fewer, inv-kept, inv-delivered, inv-acted}
+use Rattle.agreement.specs.Calls.{Machine, Call, opening, delivery, turn, report, restore, Moment, Journal, world, place, left, words, wrote, bytes, complete, journal, lastTurn, Sent, FallsBack, Conditions}
+use Rattle.agreement.specs.Laws.{Reading, Turned, Laws, by-opening, by-delivery, by-turn}
+use Rattle.agreement.specs.Openings.{none-some, becomes, did, tell, status, history, Known, opened-known, known-opened}
+use Rattle.agreement.specs.Journals.{cut-at, complete-within, journal-within, opened-within, conditions-within, departed-sent}
+use Rattle.agreement.specs.Chains.{noted, Noted, noted-within, words-here, history-within, belongs, ran, keeps, live-keep, live-line, elsewhere, known-live}
+use Rattle.agreement.specs.Chains as chains
 
 -- calls: the whole list
 module _ (M : Machine) (R : Reading M) (H : ℕ → Bool) (laws : Laws M R H) (start : ℕ → M .Words) (S : M .Session) (calls : List (Call M)) where
   abbrev W : World
   W = world M S H
 
-  -- the message x of m left: here, all that m says in the whole list
-  abbrev pub Left : ℕ → Message → Type 0
-  Left m x = Said W (history M R start calls) m x
+  abbrev Left : ℕ → Message → Type 0
+  Left = chains.Left M R H start S calls
 
-  -- p was opened by o, and w are its words
-  pub record Live (o : M .Opening) (h : History) (p : ℕ) (w : M .Words) : Type 0 where
-    pub belongs : R .Belongs o w
-    pub session : M .session o ≡ S
-    pub ruled : Ruled (M .settings S)
-    pub numbered : M .own o ≡ p
-    pub inv : Inv W (R .seen) Left h (Did h p) p w
+  abbrev Keeps : History → (Act → Type 0) → ℕ → M .Words → Type 0
+  Keeps = chains.Keeps M R H start S calls
 
-  -- one that is not opened has done nothing
-  abbrev pub At : Option (M .Opening) → History → ℕ → M .Words → Type 0
-  At none h p w = (a : Act) → Did h p a → ⊥
-  At (some o) h p w = Live o h p w
+  abbrev Point : M .Opening → History → ℕ → Moment M → Journal M → Type 0
+  Point = chains.Point M R H start S calls
 
-  pub record Good (cs : List (Call M)) : Type 0 where
-    pub lawful : Lawful W (Gone W (R .seen) Left) (history M R start cs)
-    pub each : (p : ℕ) → At (status M R start cs p) (history M R start cs) p (words M start cs p)
+  abbrev Live : M .Opening → History → ℕ → M .Words → Journal M → Type 0
+  Live = chains.Live M R H start S calls
 
-  -- a call keeps what holds at its place
-  record Placed (c : Call M) (w : M .Words) (st : Option (M .Opening)) (h : History) : Type 0 where
-    lawful : Lawful W (Gone W (R .seen) Left) (tell M R (place M c) (did M R c w st) h)
-    at : At (becomes M R c w st) (tell M R (place M c) (did M R c w st) h) (place M c) (left M c w)
+  abbrev At : Option (M .Opening) → History → ℕ → M .Words → Journal M → Type 0
+  At = chains.At M R H start S calls
 
-  -- and elsewhere
-  elsewhere : (st : Option (M .Opening)) (x : Option Act) (h : History) (p q : ℕ) (w : M .Words) → (q ≡ p → ⊥) → At st h q w → At st (tell M R p x h) q w
-  elsewhere none none h p q w ne g = g
-  elsewhere none (some a) h p q w ne g = still
-    where
-      still : (b : Act) → Did (by p a ∷ h) q b → ⊥
-      still b (inl e) = ne (cc)
-      still b (inr d) = g b d
-  elsewhere (some o) none h p q w ne g = g
-  elsewhere (some o) (some a) h p q w ne g =
-      record {
-        belongs = g .belongs;
-        session = g .session;
-        ruled = g .ruled;
-        numbered = g .numbered;
-        inv = inv-fewer W (R .seen) Left (by p a ∷ h) (Did h q) (Did (by p a ∷ h) q) q w earlier (inv-keep W (R .seen) Left (by p a) h (Did h q) q w (g .inv));
-      }
-    where
-      earlier : (b : Act) → Did (by p a ∷ h) q b → Did h q b
-      earlier b (inl e) = absurd (ne (cc))
-      earlier b (inr d) = d
+  abbrev Good : List (Call M) → Type 0
+  Good = chains.Good M R H start S calls
 
-  tell-within : {k : History} (p : ℕ) (x : Option Act) (h : History) → Within k h → Within k (tell M R p x h)
-  tell-within p none h w = w
-  tell-within p (some a) h w = after (by p a) w
+  -- ---- what is credited was said
 
-  pub history-within : {ds cs : List (Call M)} → Within ds cs → Within (history M R start ds) (history M R start cs)
+  -- the act of a message that was sent
+  record SentAct (cs : List (Call M)) (m : ℕ) (x : Message) (s : Moment M) : Type 0 where
+    act : Act
+    says : x ≡ message W act
+    notes : noted M R start s ≡ some act
+    done : Did (history M R start cs) m act
+
+  sent-act : (cs : List (Call M)) → ((ds : List (Call M)) → Within ds cs → Good ds) → (m : ℕ) (b : M .Bytes) (x : Message) → R .Says S m b x → (sent : Sent M start cs m b) → SentAct cs m x (turn m (sent .lent) ∷ sent .past)
   unfolding history
-  history-within now = now
-  history-within (after {cs = cs} c w) = tell-within (place M c) (did M R c (words M start cs (place M c)) (status M R start cs (place M c))) (history M R start cs) (history-within w)
-
-  -- one that is opened is live
-  pub known-live : (cs : List (Call M)) → Good cs → (p : ℕ) (o : M .Opening) → status M R start cs p ≡ some o → Live o (history M R start cs) p (words M start cs p)
-  known-live cs g p o e = rw e at (g .each p)
-
-  -- what is credited was said
-  credit-said : (cs : List (Call M)) → ((ds : List (Call M)) → Within ds cs → Good ds) → (m : ℕ) (b : M .Bytes) (x : Message) → R .Says S m b x → Sent M start cs m b → Said W (history M R start cs) m x
-  unfolding history
-  credit-said cs past m b x says sent = of (opened-known M R start (sent .past) m (sent .opened))
+  sent-act cs past m b x says sent = of (opened-known M R start (sent .past) m (sent .opened))
     where
-      of : Known M R start (sent .past) m → Said W (history M R start cs) m x
-      of k = go (R .act w (sent .lent)) refl (laws .turn-told (k .by-opening) w (live .belongs) (sent .lent))
+      within : Within (turn m (sent .lent) ∷ sent .past) cs
+      within = journal-within M start cs m (turn m (sent .lent) ∷ sent .past) (sent .stands .older) (sent .stands .within)
+
+      of : Known M R start (sent .past) m → SentAct cs m x (turn m (sent .lent) ∷ sent .past)
+      of k = go (R .act w (sent .lent)) refl (laws .turn-told (k .by-opening) w (belongs live) (sent .lent))
         where
           w : M .Words
           w = words M start (sent .past) m
 
-          live : Live (k .by-opening) (history M R start (sent .past)) m w
-          live = known-live (sent .past) (past (sent .past) (within-tail (turn m (sent .lent)) (sent .within))) m (k .by-opening) (k .known)
+          live : Live (k .by-opening) (history M R start (sent .past)) m w (journal M start (sent .past) m)
+          live = known-live M R H start S calls (sent .past) (past (sent .past) (within-tail (turn m (sent .lent)) within)) m (k .by-opening) (k .known)
 
-          go : (y : Option Act) → R .act w (sent .lent) ≡ y → Turned M R H (k .by-opening) w (sent .lent) y → Said W (history M R start cs) m x
+          go : (y : Option Act) → R .act w (sent .lent) ≡ y → Turned M R H (k .by-opening) w (sent .lent) y → SentAct cs m x (turn m (sent .lent) ∷ sent .past)
           go none e q = absurd (q .silent b (sent .sends))
           go (some a) e q =
               let s : R .Says S m b (message W a) = rw (live .session, live .numbered) at (q .says b (sent .sends)) in
-              let same : x ≡ message W a = laws .says-one S m b x (message W a) says s in
               let d : Did (history M R start (turn m (sent .lent) ∷ sent .past)) m a = rw (k .known, e) (inl refl) in
-              rw same (said-later W m (message W a) (history-within (sent .within)) (said-of W (history M R start (turn m (sent .lent) ∷ sent .past)) m a d))
+              record { act = a; says = laws .says-one S m b x (message W a) says s; notes = e; done = did-later a (history-within M R start within) d }
+            where
+              did-later : (a : Act) {h k : History} → Within h k → Did h m a → Did k m a
+              did-later a now d = d
+              did-later a (after c v) d = inr (did-later a v d)
+
+  credit-said : (cs : List (Call M)) → ((ds : List (Call M)) → Within ds cs → Good ds) → (m : ℕ) (b : M .Bytes) (x : Message) → R .Says S m b x → Sent M start cs m b → Said W (history M R start cs) m x
+  credit-said cs past m b x says sent =
+      let y = sent-act cs past m b x says sent in
+      rw (y .says) (said-of W (history M R start cs) m (y .act) (y .done))
 
   -- ---- each call at its place
 
@@ -119,35 +98,75 @@ module _ (M : Machine) (R : Reading M) (H : ℕ → Bool) (laws : Laws M R H) (s
     abbrev now-status : ℕ → Option (M .Opening)
     now-status p = status M R start cs p
 
+    abbrev now-journal : ℕ → Journal M
+    now-journal p = journal M start cs p
+
     good-now : Good cs
     good-now = past cs now
 
-    placed-opening : (p : ℕ) (o : M .Opening) → Conditions M start S H (opening p o ∷ cs) → Placed (opening p o) (now-words p) (now-status p) h
+    -- a call keeps what holds at its place
+    record Placed (c : Call M) (st : Option (M .Opening)) : Type 0 where
+      lawful : Lawful W (Gone W (R .seen) Left) (tell M R (place M c) (did M R c (now-words (place M c)) st) h)
+      at : At (becomes M R c (now-words (place M c)) st) (tell M R (place M c) (did M R c (now-words (place M c)) st) h) (place M c) (left M c (now-words (place M c))) (wrote M c (now-words (place M c)) (c ∷ cs) (now-journal (place M c)))
+
+    placed-opening : (p : ℕ) (o : M .Opening) → Conditions M start S H (opening p o ∷ cs) → Placed (opening p o) (now-status p)
+    unfolding bytes
     placed-opening p o c = go (now-status p) refl (good-now .each p)
       where
         w : M .Words
         w = now-words p
 
-        fresh : ((a : Act) → Did h p a → ⊥) → (a : Bool) → eqb (M .own o) p ≡ a → (b : Bool) → M .opens w o ≡ b → At (cond (a && b) (some o) none) h p (M .opened w o)
-        fresh silent true e true t =
-            let same : M .session o ≡ S = c .agree p o cs now (eqb-true (M .own o) p e) t in
+        js : Journal M
+        js = now-journal p
+
+        d : Moment M
+        d = opening p o ∷ cs
+
+        first : M .own o ≡ p → M .opens w o ≡ true → Point o h p d []
+        first e t =
+            let same : M .session o ≡ S = c .agree p o cs now e t in
+            let here : words M start d p ≡ M .opened w o = words-here M R start (opening p o) cs in
             record {
-              belongs = laws .open-belongs w o t;
+              belongs = rw here (laws .open-belongs w o t);
+              ran = rw here (by-opening w o t);
+              keeps = rw here (inv-blank W (R .seen) Left h (Noted M R start (d ∷ [])) p (M .opened w o) nothing (rw same at (laws .open-blank w o t)));
+            }
+          where
+            nothing : (a : Act) → Noted M R start (d ∷ []) a → ⊥
+            nothing a (inl e) = none-some a e
+            nothing a (inr x) = x
+
+        fresh : (a : Bool) → eqb (M .own o) p ≡ a → (b : Bool) → M .opens w o ≡ b → At (cond (a && b) (some o) none) h p (M .opened w o) (cond b (d ∷ []) js)
+        fresh true e true t =
+            let num : M .own o ≡ p = eqb-true (M .own o) p e in
+            let same : M .session o ≡ S = c .agree p o cs now num t in
+            record {
               session = same;
               ruled = rw same at (laws .open-ruled w o t);
-              numbered = eqb-true (M .own o) p e;
-              inv = inv-blank W (R .seen) Left h (Did h p) p (M .opened w o) silent (rw same at (laws .open-blank w o t));
+              numbered = num;
+              last = d;
+              older = [];
+              ends = refl;
+              same = sym (words-here M R start (opening p o) cs);
+              chain = λ f ks u. at num t f ks (within-cases d [] u);
             }
-        fresh silent true e false t = silent
-        fresh silent false e b t = silent
+          where
+            at : M .own o ≡ p → M .opens w o ≡ true → (f : Moment M) (ks : Journal M) → (f ∷ ks ≡ d ∷ []) ⊎ Within (f ∷ ks) [] → Point o h p f ks
+            at e t f ks (inl q) =
+                let a : f ≡ d = cc in
+                let b : ks ≡ [] = cc in
+                rw (a, b) (first e t)
+            at e t f ks (inr u) = absurd (within-none u)
+        fresh true e false t = tt
+        fresh false e b t = tt
 
-        again : (u : M .Opening) → Live u h p w → (a b : Bool) → b ≡ false → At (cond (a && b) (some o) (some u)) h p w
+        again : (u : M .Opening) → Live u h p w js → (a b : Bool) → b ≡ false → At (cond (a && b) (some o) (some u)) h p w (cond b (d ∷ []) js)
         again u live a true f = absurd (false≢true (sym f))
         again u live true false f = live
         again u live false false f = live
 
-        go : (st : Option (M .Opening)) → now-status p ≡ st → At st h p w → Placed (opening p o) w st h
-        go none e silent = record { lawful = good-now .lawful; at = fresh silent (eqb (M .own o) p) refl (M .opens w o) refl }
+        go : (st : Option (M .Opening)) → now-status p ≡ st → At st h p w js → Placed (opening p o) st
+        go none e silent = record { lawful = good-now .lawful; at = fresh (eqb (M .own o) p) refl (M .opens w o) refl }
         go (some u) e live =
             let f : M .opens w o ≡ false = c .once p o cs now (known-opened M R start cs p u e .is-opened) in
             record {
@@ -155,114 +174,206 @@ module _ (M : Machine) (R : Reading M) (H : ℕ → Bool) (laws : Laws M R H) (s
               at = rw (laws .open-refused w o f) (again u live (eqb (M .own o) p) (M .opens w o) f);
             }
 
-    placed-delivery : (p m : ℕ) (b : M .Bytes) → Within cs calls → Conditions M start S H (delivery p m b ∷ cs) → Placed (delivery p m b) (now-words p) (now-status p) h
+    placed-delivery : (p m : ℕ) (b : M .Bytes) → Within (delivery p m b ∷ cs) calls → Conditions M start S H (delivery p m b ∷ cs) → Placed (delivery p m b) (now-status p)
+    unfolding bytes
     placed-delivery p m b inside c = go (now-status p) refl (good-now .each p)
       where
         w : M .Words
         w = now-words p
 
-        verdict : (o : M .Opening) → now-status p ≡ some o → Live o h p w → (t : Bool) → M .accepts w m b ≡ t → Live o h p (M .delivered w m b)
+        js : Journal M
+        js = now-journal p
+
+        d : Moment M
+        d = delivery p m b ∷ cs
+
+        verdict : (o : M .Opening) → now-status p ≡ some o → Live o h p w js → (t : Bool) → M .accepts w m b ≡ t → Live o h p (M .delivered w m b) (cond t (d ∷ js) js)
         verdict o e live false t = rw (laws .deliver-refused w m b t) live
         verdict o e live true t =
-            let d = laws .deliver-accepted o w (live .belongs) m b t in
-            let said : Honest W m → Said W h m (d .said) = λ hm. credit-said cs past m b (d .said) (rw (live .session) at (d .says)) (c .credited p m b cs now (known-opened M R start cs p o e .is-opened) t hm) in
-            let credit : Honest W m → Credit W (R .seen) Left h m (d .said) = λ hm. record { said = said hm; gone = said-later W m (d .said) (history-within inside) (said hm) } in
-            record {
-              belongs = d .belongs;
-              session = live .session;
-              ruled = live .ruled;
-              numbered = live .numbered;
-              inv = inv-delivered W (R .seen) Left h (Did h p) p w (M .delivered w m b) (live .inv) m (d .said) credit (rw (live .session) at (d .holds));
-            }
+            let x = laws .deliver-accepted o w (belongs live) m b t in
+            let is-opened = known-opened M R start cs p o e .is-opened in
+            let says : R .Says S m b (x .said) = rw (live .session) at (x .says) in
+            let credit : Honest W m → Credit W (R .seen) Left h m (x .said) =
+            λ hm. record {
+              said = credit-said cs past m b (x .said) says (c .credited p m b cs now is-opened t hm);
+              gone = record { bytes = b; departed = record { who = p; past = cs; within = inside; opened = is-opened; accepted = t }; honest = hm; says = says };
+            } in
+            let here : words M start d p ≡ M .delivered w m b = words-here M R start (delivery p m b) cs in
+            let kept = inv-delivered W (R .seen) Left h (Noted M R start js) p w (M .delivered w m b) (keeps live) m (x .said) credit (rw (live .session) at (x .holds)) in
+            live-line live none d (M .delivered w m b) here
+            (record {
+              belongs = rw here (x .belongs);
+              ran = rw here (by-delivery (bytes M js) w (lastTurn M start (live .last)) m b (ran live) t);
+              keeps = rw here (inv-fewer W (R .seen) Left h (Noted M R start js) (Noted M R start (d ∷ js)) p (M .delivered w m b) older kept);
+            })
+          where
+            older : (a : Act) → Noted M R start (d ∷ js) a → Noted M R start js a
+            older a (inl e) = absurd (none-some a e)
+            older a (inr x) = x
 
-        go : (st : Option (M .Opening)) → now-status p ≡ st → At st h p w → Placed (delivery p m b) w st h
-        go none e silent = record { lawful = good-now .lawful; at = silent }
+        go : (st : Option (M .Opening)) → now-status p ≡ st → At st h p w js → Placed (delivery p m b) st
+        go none e silent = record { lawful = good-now .lawful; at = tt }
         go (some o) e live = record { lawful = good-now .lawful; at = verdict o e live (M .accepts w m b) refl }
 
-    placed-turn : (p : ℕ) (l : M .Lent) → Placed (turn p l) (now-words p) (now-status p) h
+    placed-turn : (p : ℕ) (l : M .Lent) → Placed (turn p l) (now-status p)
+    unfolding bytes
     placed-turn p l = go (now-status p) (good-now .each p)
       where
         w : M .Words
         w = now-words p
 
-        took : (o : M .Opening) → Live o h p w → (x : Option Act) → Turned M R H o w l x → Lawful W (Gone W (R .seen) Left) (tell M R p x h) × Live o (tell M R p x h) p (M .turned w l)
-        took o live none q = (
+        js : Journal M
+        js = now-journal p
+
+        d : Moment M
+        d = turn p l ∷ cs
+
+        here : words M start d p ≡ M .turned w l
+        here = words-here M R start (turn p l) cs
+
+        -- one more line, or none
+        written : (o : M .Opening) → Live o h p w js → (x : Option Act) → (Keeps (tell M R p x h) (Noted M R start (d ∷ js)) p (M .turned w l)) → (t : Bool) → M .acts w l ≡ t → Live o (tell M R p x h) p (M .turned w l) (cond t (d ∷ js) js)
+        written o live x k false t = rw (laws .turn-idle o w (belongs live) l t) (live-keep live x p)
+        written o live x k true t =
+            live-line live x d (M .turned w l) here
+            (record {
+              belongs = rw here (laws .turn-belongs o w (belongs live) l);
+              ran = rw here (by-turn (bytes M js) w (lastTurn M start (live .last)) l (ran live) t);
+              keeps = rw here k;
+            })
+
+        took : (o : M .Opening) → Live o h p w js → (x : Option Act) → R .act w l ≡ x → Turned M R H o w l x → Lawful W (Gone W (R .seen) Left) (tell M R p x h) × Live o (tell M R p x h) p (M .turned w l) (cond (M .acts w l) (d ∷ js) js)
+        took o live none e q = (
           good-now .lawful,
-          record {
-            belongs = laws .turn-belongs o w (live .belongs) l;
-            session = live .session;
-            ruled = live .ruled;
-            numbered = live .numbered;
-            inv = inv-kept W (R .seen) Left h (Did h p) p w (M .turned w l) (live .inv) (rw (live .session) at (q .kept));
-          },
+          written o live none
+              (inv-fewer W (R .seen) Left h (Noted M R start js) (Noted M R start (d ∷ js)) p (M .turned w l) older
+              (inv-kept W (R .seen) Left h (Noted M R start js) p w (M .turned w l) (keeps live) (rw (live .session) at (q .kept))))
+              (M .acts w l) refl,
         )
-        took o live (some a) q =
-            let outs = rw (live .session) at (laws .outputs-held o w (live .belongs)) in (
-              (good-now .lawful, due-guard W (R .seen) Left h (Did h p) p w (live .inv) outs a (rw (live .session) at (q .due))),
-              record {
-                belongs = laws .turn-belongs o w (live .belongs) l;
-                session = live .session;
-                ruled = live .ruled;
-                numbered = live .numbered;
-                inv = inv-acted W (R .seen) Left h (Did h p) p w (M .turned w l) (live .inv) a (rw (live .session) at (q .due)) (rw (live .session) at (q .acted)) (Did (by p a ∷ h) p) only;
-              },
+          where
+            older : (a : Act) → Noted M R start (d ∷ js) a → Noted M R start js a
+            older a (inl f) = absurd (none-some a (sym e ∙ f))
+            older a (inr x) = x
+        took o live (some a) e q =
+            let outs = rw (live .session) at (laws .outputs-held o w (belongs live)) in
+            let due = rw (live .session) at (q .due) in (
+              (good-now .lawful, due-guard W (R .seen) Left h (Noted M R start js) p w (keeps live) outs a due),
+              written o live (some a)
+                  (inv-acted W (R .seen) Left h (Noted M R start js) p w (M .turned w l) (keeps live) a due (rw (live .session) at (q .acted)) (Noted M R start (d ∷ js)) only)
+                  (M .acts w l) refl,
             )
           where
-            only : (b : Act) → Did (by p a ∷ h) p b → (b ≡ a) ⊎ Did h p b
-            only b (inl e) = inl (cc)
-            only b (inr d) = inr d
+            only : (b : Act) → Noted M R start (d ∷ js) b → (b ≡ a) ⊎ Noted M R start js b
+            only b (inl f) = inl (let z : some a ≡ some b = sym e ∙ f in cc)
+            only b (inr x) = inr x
 
-        go : (st : Option (M .Opening)) → At st h p w → Placed (turn p l) w st h
-        go none silent = record { lawful = good-now .lawful; at = silent }
+        go : (st : Option (M .Opening)) → At st h p w js → Placed (turn p l) st
+        go none silent = record { lawful = good-now .lawful; at = tt }
         go (some o) live =
-            let x = took o live (R .act w l) (laws .turn-told o w (live .belongs) l) in
+            let x = took o live (R .act w l) refl (laws .turn-told o w (belongs live) l) in
             record { lawful = x .0; at = x .1 }
 
-    placed : (c : Call M) → Within cs calls → Conditions M start S H (c ∷ cs) → Placed c (now-words (place M c)) (now-status (place M c)) h
+    placed-restore : (p : ℕ) (v : M .Words) (r : M .Restore) → Conditions M start S H (restore p v r ∷ cs) → Placed (restore p v r) (now-status p)
+    placed-restore p v r c = go (now-status p) refl (good-now .each p)
+      where
+        w : M .Words
+        w = now-words p
+
+        js : Journal M
+        js = now-journal p
+
+        k : ℕ
+        k = length (M .text r)
+
+        back : (o : M .Opening) → Live o h p w js → FallsBack M start cs p v r → M .restores v r ≡ true → (is : Journal M) → complete M k js ≡ is → Live o h p (M .restored v r) is
+        back o live f t [] e = absurd (f .first e)
+        back o live f t (d ∷ ks) e =
+            let cut = cut-at M k js in
+            let inside : Within (d ∷ ks) js = rw e at (complete-within M k js) in
+            let x = live .chain d ks inside in
+            let is : M .text r ≡ bytes M (d ∷ ks) ++ cut .rest = f .cut ∙ cut .splits ∙ ap (λ (ls : Journal M). bytes M ls ++ cut .rest) e in
+            record {
+              session = live .session;
+              ruled = live .ruled;
+              numbered = live .numbered;
+              last = d;
+              older = ks;
+              ends = refl;
+              same = laws .restore-ran v r (bytes M (d ∷ ks)) (cut .rest) (words M start d p) (lastTurn M start d) (x .ran) (cut .torn) is t;
+              chain = λ g ls u. live .chain g ls (within-trans u inside);
+            }
+
+        verdict : (o : M .Opening) → now-status p ≡ some o → Live o h p w js → (t : Bool) → M .restores v r ≡ t → Live o h p (M .restored v r) (cond t (complete M k js) js)
+        verdict o e live false t = rw (laws .restore-refused v r t, c .not-lost p v r cs now (known-opened M R start cs p o e .is-opened) t) live
+        verdict o e live true t = back o live (c .falls-back p v r cs now (known-opened M R start cs p o e .is-opened) t) t (complete M k js) refl
+
+        go : (st : Option (M .Opening)) → now-status p ≡ st → At st h p w js → Placed (restore p v r) st
+        go none e silent = record { lawful = good-now .lawful; at = tt }
+        go (some o) e live = record { lawful = good-now .lawful; at = verdict o e live (M .restores v r) refl }
+
+    placed : (c : Call M) → Within (c ∷ cs) calls → Conditions M start S H (c ∷ cs) → Placed c (now-status (place M c))
     placed (opening p o) i c = placed-opening p o c
     placed (delivery p m b) i c = placed-delivery p m b i c
     placed (turn p l) i c = placed-turn p l
     placed (report p r) i c = record { lawful = good-now .lawful; at = good-now .each p }
+    placed (restore p v r) i c = placed-restore p v r c
 
-    step : (c : Call M) → Within cs calls → Conditions M start S H (c ∷ cs) → Good (c ∷ cs)
-    unfolding status history words
+    step : (c : Call M) → Within (c ∷ cs) calls → Conditions M start S H (c ∷ cs) → Good (c ∷ cs)
+    unfolding status history words journal
     step c i k = record { lawful = here .lawful; each = λ q. at q (ℕ-discrete q (place M c)) }
       where
-        here : Placed c (now-words (place M c)) (now-status (place M c)) h
+        here : Placed c (now-status (place M c))
         here = placed c i k
 
-        at : (q : ℕ) → Dec (q ≡ place M c) → At (status M R start (c ∷ cs) q) (history M R start (c ∷ cs)) q (words M start (c ∷ cs) q)
+        at : (q : ℕ) → Dec (q ≡ place M c) → At (status M R start (c ∷ cs) q) (history M R start (c ∷ cs)) q (words M start (c ∷ cs) q) (journal M start (c ∷ cs) q)
         at q (yes e) = rw (e, eq-eqb (place M c) (place M c) refl) (here .at)
-        at q (no ne) = rw (ne-eqb q (place M c) ne) (elsewhere (now-status q) (did M R c (now-words (place M c)) (now-status (place M c))) h (place M c) q (now-words q) ne (good-now .each q))
+        at q (no ne) = rw (ne-eqb q (place M c) ne) (elsewhere M R H start S calls (now-status q) (did M R c (now-words (place M c)) (now-status (place M c))) h (place M c) q (now-words q) (now-journal q) (good-now .each q))
 
   -- ---- the whole list
-
-  pub conditions-within : {ds cs : List (Call M)} → Within ds cs → Conditions M start S H cs → Conditions M start S H ds
-  conditions-within v k =
-      record {
-        honest = λ c es w. k .honest c es (within-trans w v);
-        agree = λ p o es w. k .agree p o es (within-trans w v);
-        once = λ p o es w. k .once p o es (within-trans w v);
-        credited = λ p m b es w. k .credited p m b es (within-trans w v);
-      }
 
   pub all-good : (cs : List (Call M)) → Within cs calls → Conditions M start S H cs → (ds : List (Call M)) → Within ds cs → Good ds
   unfolding status history
   all-good [] i k ds w = none-yet ds w
     where
       none-yet : (ds : List (Call M)) → Within ds [] → Good ds
-      none-yet _ now = record { lawful = tt; each = λ p a d. d }
-  all-good (c ∷ cs) i k ds w = at ds w (λ es v. all-good cs (within-tail c i) (conditions-within (after c now) k) es v)
+      none-yet _ now = record { lawful = tt; each = λ p. tt }
+  all-good (c ∷ cs) i k ds w = at ds w (λ es v. all-good cs (within-tail c i) (conditions-within M start S H (after c now) k) es v)
     where
       at : (ds : List (Call M)) → Within ds (c ∷ cs) → ((es : List (Call M)) → Within es cs → Good es) → Good ds
-      at _ now past = step cs past c (within-tail c i) k
+      at _ now past = step cs past c i k
       at ds (after d w) past = past ds w
 
-  -- ---- an ECHO is one for its sender and instance, an AUX for its sender, vote and round
+  -- ---- of what left an ECHO is one for its sender and instance, an AUX for its sender, vote and round: their lines stand in one journal
 
-  pub left-single : Conditions M start S H calls → Single (Gone W (R .seen) Left)
-  left-single k = record { echo-one = λ p i u v x y. of p (status M R start calls p) (all-good calls now k calls now .each p) .echo-one p i u v x y; aux-one = λ p i r b c x y. of p (status M R start calls p) (all-good calls now k calls now .each p) .aux-one p i r b c x y }
-    where
-      of : (p : ℕ) (st : Option (M .Opening)) → At st (history M R start calls) p (words M start calls p) → Single (λ q. Did (history M R start calls) p)
-      of p none silent = record { echo-one = λ q i u v x y. absurd (silent (echo i u) x); aux-one = λ q i r b c x y. absurd (silent (aux i r b) x) }
-      of p (some o) live = live .inv .single
+  module _ (conditions : Conditions M start S H calls) where
+    good : (ds : List (Call M)) → Within ds calls → Good ds
+    good ds w = all-good calls now conditions ds w
+
+    -- the act of what left stands in the journal at the end
+    record LeftAct (m : ℕ) (x : Message) : Type 0 where
+      act : Act
+      says : x ≡ message W act
+      stands : Noted M R start (journal M start calls m) act
+      single : Single (λ q. Noted M R start (journal M start calls m))
+
+    left-act : (m : ℕ) (x : Message) → Left m x → LeftAct m x
+    left-act m x l =
+        let s = departed-sent M start S H m (l .bytes) calls conditions (l .honest) (l .departed) in
+        let y = sent-act calls good m (l .bytes) x (l .says) s in
+        let k = opened-known M R start calls m (opened-within M start m (within-tail (turn m (s .lent)) (journal-within M start calls m (turn m (s .lent) ∷ s .past) (s .stands .older) (s .stands .within))) (s .opened)) in
+        let live = known-live M R H start S calls calls (good calls now) m (k .by-opening) (k .known) in
+        record {
+          act = y .act;
+          says = y .says;
+          stands = noted-within M R start (y .act) (s .stands .within) (y .notes);
+          single = keeps live .single;
+        }
+
+    pub left-single : Single (Gone W (R .seen) Left)
+    left-single = record { echo-one = λ p i u v x y. echo-one p i u v (left-act p (ECHO i u) x) (left-act p (ECHO i v) y); aux-one = λ p i r b c x y. aux-one p i r b c (left-act p (AUX i r b) x) (left-act p (AUX i r c) y) }
+      where
+        echo-one : (p i u v : ℕ) → LeftAct p (ECHO i u) → LeftAct p (ECHO i v) → u ≡ v
+        echo-one p i u v x y = x .single .echo-one p i u v (rw (echo-of W (x .act) i u (x .says)) at (x .stands)) (rw (echo-of W (y .act) i v (y .says)) at (y .stands))
+
+        aux-one : (p i r b c : ℕ) → LeftAct p (AUX i r b) → LeftAct p (AUX i r c) → b ≡ c
+        aux-one p i r b c x y = x .single .aux-one p i r b c (rw (aux-of W (x .act) i r b (x .says)) at (x .stands)) (rw (aux-of W (y .act) i r c (y .says)) at (y .stands))

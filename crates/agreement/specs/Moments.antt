@@ -1,5 +1,7 @@
 -- Moments of a list that grows at its front: of a history, and of a list of calls.
-use mathlib.Core.List.{List, _∷_}
+use mathlib.Core.List.{List, [], _∷_}
+use mathlib.Core.Logic.{_⊎_, inl, inr}
+use mathlib.Core.Path.{_≡_, refl}
 
 -- cs is ds, or ds with later ones in front
 pub data Within {A : Type 0} (ds : List A) : List A → Type 0 where
@@ -29,3 +31,11 @@ module _ {A : Type 0} where
 
   pub before-after : (c : A) {ds cs : List A} → Before ds cs → Before ds (c ∷ cs)
   before-after c b = record { next = b .next; within = after c (b .within) }
+
+  -- the newest moment, or an earlier one
+  pub within-cases : {ds : List A} (c : A) (cs : List A) → Within ds (c ∷ cs) → (ds ≡ c ∷ cs) ⊎ Within ds cs
+  within-cases c cs now = inl refl
+  within-cases c cs (after d w) = inr w
+
+  pub within-none : {d : A} {ds : List A} → Within (d ∷ ds) [] → ⊥
+  within-none = elim [ ]

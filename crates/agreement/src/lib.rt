@@ -1,10 +1,22 @@
 // Demand 3. The functions do nothing: their contracts state what is proved in specs/.
 ghost use Rattle.agreement.specs.Agreement.{Agree, Named, Valid};
 ghost use Rattle.agreement.specs.Calls.{EngineAgrees};
+ghost use Rattle.agreement.specs.EngineRestores.{RestoreGives};
+ghost use Rattle.agreement.specs.EnginePlain.{PlainMeets};
 
 // Demand 3 of the engine, all of it: specs/Calls.antt states it of whole lists of calls.
 pub fn demand_three()
     ensures { λ _. ⌜ EngineAgrees ⌝ }
+{}
+
+// Every cut of an honest one's journal, after its first line, gives the state after its last complete line, and that line's message.
+pub fn restore_gives()
+    ensures { λ _. ⌜ RestoreGives ⌝ }
+{}
+
+// Where nobody is restored the conditions are those of the scope paper.
+pub fn without_restores()
+    ensures { λ _. ⌜ PlainMeets ⌝ }
 {}
 
 // The theory behind it, of lawful histories.

@@ -1,28 +1,41 @@
 -- A list of calls checked by computing it: whether each call meets the conditions of demand 3 after the calls before it. The check is
--- sound (specs/Tracking.antt); it may reject a list that meets them.
+-- sound (specs/Tracking.antt); it may reject a list that meets them. A restore is taken only at an opened one whose journal allows it; whether
+-- it is accepted need not be computed (agreement, EngineRestores).
 use Prim.Native.Nat.{ℕ}
 use mathlib.Core.Bool.{Bool, true, false, _&&_, _||_, not, cond}
-use mathlib.Core.List.{List, [], _∷_}
+use mathlib.Core.List.{List, [], _∷_, _++_}
 use lib.Dec.{eqb, leb}
 use lib.ListN.{length, take}
 use Rattle.records.specs.Layout.{stateWords}
 use Rattle.wire.specs.Message.{lengthOf}
-use Rattle.opening.specs.Opening.{openAnswer, openWords}
-use Rattle.delivery.specs.Delivery.{deliverAnswer, delivered}
-use Rattle.turn.specs.Turn.{turnOutcome, turnWords, turnBytes}
 use Rattle.turn.specs.declared.Outcome.{Outcome}
 use Rattle.turn.specs.declared.Outcome.the-variants as outcome
-use Rattle.agreement.specs.Calls.{Call, opening, delivery, turn, report, engine, Arguments, weightsOf, Agreed, agreed}
+use Rattle.journal.specs.Journal.{openNumber, turnedOutcome, turnedMessage}
+use Rattle.restore.specs.Restoring.{MESSAGE-BYTES}
+use Rattle.agreement.specs.Calls.{Call, opening, delivery, turn, report, restore, engine, Arguments, Bytes, TurnLent, RestoreLent, Agreed, agreed}
+use Rattle.agreement.specs.EngineOpening.{first}
 
--- a list of a concentrator: the words of its state, or the bytes of a message that it sent
+-- a line of a journal: its bytes, the words after it, and the messages that its call sent, one or none
+pub record Line : Type 0 where
+  pub text : List ℕ
+  pub after : List ℕ
+  pub sent : List (List ℕ)
+
+-- an opened concentrator: the words of its state, and its journal, the newest line first
 pub record Entry : Type 0 where
   pub who : ℕ
   pub list : List ℕ
+  pub lines : List Line
 
--- after some calls: the words of the opened ones, the newest first; what their turns sent; whether each call met the conditions
+-- a message that left, with its sender
+pub record Gone : Type 0 where
+  pub from : ℕ
+  pub bytes : List ℕ
+
+-- after some calls: the opened ones, the newest first; what left; whether each call met the conditions
 pub record Run : Type 0 where
   pub states : List Entry
-  pub sent : List Entry
+  pub gone : List Gone
   pub right : Bool
 
 -- p is opened
@@ -35,9 +48,14 @@ unfoldable pub wordsOf : List Entry → ℕ → List ℕ
 wordsOf [] p = []
 wordsOf (x ∷ xs) p = cond (eqb p (x .who)) (x .list) (wordsOf xs p)
 
--- p, if it is opened, has the words w now
-unfoldable pub withWords : ℕ → List ℕ → List Entry → List Entry
-withWords p w xs = cond (isOpened xs p) (record { who = p; list = w } ∷ xs) xs
+-- its journal
+unfoldable pub linesOf : List Entry → ℕ → List Line
+linesOf [] p = []
+linesOf (x ∷ xs) p = cond (eqb p (x .who)) (x .lines) (linesOf xs p)
+
+-- p, if it is opened, has the words w and the journal ls now
+unfoldable pub withEntry : ℕ → List ℕ → List Line → List Entry → List Entry
+withEntry p w ls xs = cond (isOpened xs p) (record { who = p; list = w; lines = ls } ∷ xs) xs
 
 unfoldable pub sameList : List ℕ → List ℕ → Bool
 sameList [] [] = true
@@ -45,17 +63,50 @@ sameList [] (y ∷ ys) = false
 sameList (x ∷ xs) [] = false
 sameList (x ∷ xs) (y ∷ ys) = eqb x y && sameList xs ys
 
-unfoldable pub wasSent : List Entry → ℕ → List ℕ → Bool
-wasSent [] m b = false
-wasSent (x ∷ xs) m b = eqb (x .who) m && sameList (x .list) b || wasSent xs m b
+unfoldable pub among : List (List ℕ) → List ℕ → Bool
+among [] b = false
+among (x ∷ xs) b = sameList x b || among xs b
 
--- what p has sent after a turn with this outcome that left the lent bytes as b
-unfoldable pub sentBy : ℕ → Outcome → List ℕ → List Entry → List Entry
-sentBy p (outcome.Refused k) b xs = xs
-sentBy p outcome.Idle b xs = xs
-sentBy p (outcome.Sent m) b xs = record { who = p; list = take (lengthOf m) b } ∷ xs
-sentBy p outcome.MovedOut b xs = xs
-sentBy p outcome.InForce b xs = xs
+-- a line of the journal sent b
+unfoldable pub wasSent : List Line → List ℕ → Bool
+wasSent [] b = false
+wasSent (x ∷ xs) b = among (x .sent) b || wasSent xs b
+
+-- the bytes of a journal
+unfoldable pub textOf : List Line → List ℕ
+textOf [] = []
+textOf (x ∷ xs) = textOf xs ++ x .text
+
+-- the lines that stand complete in the first k bytes
+unfoldable pub completeOf : ℕ → List Line → List Line
+completeOf k [] = []
+completeOf k (x ∷ xs) = cond (leb (length (textOf (x ∷ xs))) k) (x ∷ xs) (completeOf k xs)
+
+-- there is a line
+unfoldable pub some : List Line → Bool
+some [] = false
+some (x ∷ xs) = true
+
+-- the words after the last line
+unfoldable pub lastWords : List Line → List ℕ
+lastWords [] = []
+lastWords (x ∷ xs) = x .after
+
+-- what left of p has its line in the journal
+unfoldable pub keeps : List Gone → ℕ → List Line → Bool
+keeps [] p ls = true
+keeps (g ∷ gs) p ls = (not (eqb p (g .from)) || wasSent ls (g .bytes)) && keeps gs p ls
+
+-- what a turn with this outcome sent, having left the bytes lent for a message as b
+unfoldable pub sentIn : Outcome → List ℕ → List (List ℕ)
+sentIn (outcome.Refused k) b = []
+sentIn outcome.Idle b = []
+sentIn (outcome.Sent m) b = take (lengthOf m) b ∷ []
+sentIn outcome.MovedOut b = []
+sentIn outcome.InForce b = []
+
+unfoldable pub sentBy : List ℕ → TurnLent → List (List ℕ)
+sentBy w l = sentIn (turnedOutcome w (length (l .message)) (l .line)) (turnedMessage w (l .message) (l .line))
 
 unfoldable pub sameSession : Agreed → Agreed → Bool
 sameSession a b =
@@ -69,23 +120,39 @@ sameSession a b =
 
 -- an opening of 2,048 words is accepted
 unfoldable pub opens : Arguments → Bool
-opens o = eqb (openAnswer stateWords (o .n) (o .ta) (o .ts) (weightsOf o) (o .own) (length (o .coins))) 0
+opens o = eqb (openNumber stateWords (o .n) (o .ta) (o .ts) (o .own) (o .coins) (o .weights) (o .line)) 0
 
--- the words after it
-unfoldable pub openedWords : Arguments → List ℕ
-openedWords o = openWords (o .n) (o .ta) (o .ts) (weightsOf o) (o .own) (o .session) (o .input) (o .coins)
+-- the journal after an accepted opening, and after a delivery or a turn at the words w
+unfoldable pub firstLines : Arguments → List Line
+firstLines o = record { text = engine .opening-line o; after = first o; sent = [] } ∷ []
+
+unfoldable pub deliveryLines : ℕ → Bytes → List ℕ → List Line → List Line
+deliveryLines m b w ls = cond (engine .accepts w m b) (record { text = engine .delivery-line m b; after = engine .delivered w m b; sent = [] } ∷ ls) ls
+
+unfoldable pub turnLines : TurnLent → List ℕ → List Line → List Line
+turnLines l w ls = cond (engine .acts w l) (record { text = engine .turn-line; after = engine .turned w l; sent = sentBy w l } ∷ ls) ls
 
 unfoldable pub statesAfter : Call engine → List Entry → List Entry
-statesAfter (opening p o) xs = cond (opens o) (record { who = p; list = openedWords o } ∷ xs) xs
-statesAfter (delivery p m b) xs = withWords p (delivered (wordsOf xs p) m (b .list)) xs
-statesAfter (turn p l) xs = withWords p (turnWords (wordsOf xs p) (length l)) xs
-statesAfter (report p r) xs = withWords p (wordsOf xs p) xs
+statesAfter (opening p o) xs = cond (opens o) (record { who = p; list = first o; lines = firstLines o } ∷ xs) xs
+statesAfter (delivery p m b) xs = withEntry p (engine .delivered (wordsOf xs p) m b) (deliveryLines m b (wordsOf xs p) (linesOf xs p)) xs
+statesAfter (turn p l) xs = withEntry p (engine .turned (wordsOf xs p) l) (turnLines l (wordsOf xs p) (linesOf xs p)) xs
+statesAfter (report p r) xs = withEntry p (wordsOf xs p) (linesOf xs p) xs
+statesAfter (restore p v r) xs =
+    withEntry p (lastWords (completeOf (length (r .journal)) (linesOf xs p))) (completeOf (length (r .journal)) (linesOf xs p)) xs
 
-unfoldable pub sentAfter : Call engine → List Entry → List Entry → List Entry
-sentAfter (opening p o) xs ys = ys
-sentAfter (delivery p m b) xs ys = ys
-sentAfter (turn p l) xs ys = cond (isOpened xs p) (sentBy p (turnOutcome (wordsOf xs p) (length l)) (turnBytes (wordsOf xs p) l) ys) ys
-sentAfter (report p r) xs ys = ys
+unfoldable pub goneAfter : Call engine → List Entry → List Gone → List Gone
+goneAfter (opening p o) xs gs = gs
+goneAfter (delivery p m b) xs gs = cond (isOpened xs p && engine .accepts (wordsOf xs p) m b) (record { from = m; bytes = b .list } ∷ gs) gs
+goneAfter (turn p l) xs gs = gs
+goneAfter (report p r) xs gs = gs
+goneAfter (restore p v r) xs gs = gs
+
+-- a restore reads a cut of the journal ls, and is lent enough for a message
+unfoldable pub restoreRight : RestoreLent → List Line → Bool
+restoreRight r ls =
+    leb MESSAGE-BYTES (length (r .message))
+    && (sameList (r .journal) (take (length (r .journal)) (textOf ls))
+    && some (completeOf (length (r .journal)) ls))
 
 -- in the session S, where H tells who is honest and v is put in
 module _ (S : Agreed) (H : ℕ → Bool) (v : ℕ) where
@@ -99,24 +166,26 @@ module _ (S : Agreed) (H : ℕ → Bool) (v : ℕ) where
       not (opens o) || not (isOpened xs p) && (eqb (o .own) p && (sameSession (agreed o) S && eqb (o .input) v))
 
   -- a delivery is refused, or it comes from a liar, or its bytes were sent
-  unfoldable pub deliveryRight : ℕ → ℕ → List ℕ → List Entry → List Entry → Bool
-  deliveryRight p m b xs ys =
-      not (isOpened xs p) || (not (eqb (deliverAnswer (wordsOf xs p) m b) 0) || (not (H m) || wasSent ys m b))
+  unfoldable pub deliveryRight : Bool → ℕ → List ℕ → List Line → Bool
+  deliveryRight accepted m b ls = not accepted || (not (H m) || wasSent ls b)
 
-  unfoldable pub callRight : Call engine → List Entry → List Entry → Bool
-  callRight (opening p o) xs ys = listed p && openingRight p o xs
-  callRight (delivery p m b) xs ys = listed p && deliveryRight p m (b .list) xs ys
-  callRight (turn p l) xs ys = listed p
-  callRight (report p r) xs ys = listed p
+  unfoldable pub callRight : Call engine → List Entry → List Gone → Bool
+  callRight (opening p o) xs gs = listed p && openingRight p o xs
+  callRight (delivery p m b) xs gs =
+      listed p && (not (isOpened xs p) || deliveryRight (engine .accepts (wordsOf xs p) m b) m (b .list) (linesOf xs m))
+  callRight (turn p l) xs gs = listed p
+  callRight (report p r) xs gs = listed p
+  callRight (restore p u r) xs gs =
+      listed p && (isOpened xs p && (restoreRight r (linesOf xs p) && keeps gs p (completeOf (length (r .journal)) (linesOf xs p))))
 
   unfoldable pub step : Call engine → Run → Run
   step c r =
       record {
         states = statesAfter c (r .states);
-        sent = sentAfter c (r .states) (r .sent);
-        right = r .right && callRight c (r .states) (r .sent);
+        gone = goneAfter c (r .states) (r .gone);
+        right = r .right && callRight c (r .states) (r .gone);
       }
 
   unfoldable pub run : List (Call engine) → Run
-  run [] = record { states = []; sent = []; right = true }
+  run [] = record { states = []; gone = []; right = true }
   run (c ∷ cs) = step c (run cs)

@@ -1,10 +1,13 @@
 -- Definitions of the test of a list opened together, so that a closed term computes: `unfolding checks`.
-use Rattle.agreement_example.specs.Checking.{isOpened, wordsOf, withWords, sameList, wasSent, sentBy, sameSession, opens, openedWords, statesAfter, sentAfter, listed, openingRight, deliveryRight, callRight, step, run}
+use Rattle.agreement_example.specs.Checking.{isOpened, wordsOf, linesOf, withEntry, sameList, among, wasSent, textOf, completeOf, some, lastWords, keeps, sentIn, sentBy, sameSession, opens, firstLines, deliveryLines, turnLines, statesAfter, goneAfter, restoreRight, listed, openingRight, deliveryRight, callRight, step, run}
 use Rattle.agreement_example.specs.Example.{closesWith, closes, ends, passes}
 use Rattle.agreement_example.specs.Refusals.{refusalOf, refusal, withRefusal, afterCall, refusals}
 use Rattle.opening.specs.Ones.{onesGiven}
+use Rattle.text.specs.Numbers.{decimalIn, decimalText}
+use Rattle.journal.specs.Lines.{numberText, numberTexts, tabbed, openingForms, openingText, hexBytes, deliveryText, withEnd}
+use Rattle.journal.specs.Journal.{lineAnswer, lineWords, openNumber, openedWords, deliverNumber, deliveredWords, turnRoom, turnedMessage}
 use Rattle.agreement_example.specs.Messages.{lowBytes, bytesOf, coinsOf, openingWith, openingOf, deliver, turnOf}
 
 unfoldable pub checks : Unit {0}
-unfolding isOpened wordsOf withWords sameList wasSent sentBy sameSession opens openedWords statesAfter sentAfter listed openingRight deliveryRight callRight step run closesWith closes ends passes refusalOf refusal withRefusal afterCall refusals lowBytes bytesOf coinsOf openingWith onesGiven openingOf deliver turnOf
+unfolding isOpened wordsOf linesOf withEntry sameList among wasSent textOf completeOf some lastWords keeps sentIn sentBy sameSession opens firstLines deliveryLines turnLines statesAfter goneAfter restoreRight listed openingRight deliveryRight callRight step run closesWith closes ends passes refusalOf refusal withRefusal afterCall refusals lowBytes bytesOf coinsOf openingWith onesGiven openingOf deliver turnOf lineAnswer lineWords openNumber openedWords deliverNumber deliveredWords turnRoom turnedMessage numberText numberTexts tabbed openingForms openingText hexBytes deliveryText withEnd decimalIn decimalText
 checks = tt

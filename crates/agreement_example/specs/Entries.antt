@@ -7,7 +7,7 @@ use borrow.Author.Tests.{eqb-true}
 use lib.Dec.{eqb}
 use Rattle.quorum.specs.Bools.{and-left, and-right}
 use Rattle.agreement.specs.Calls.{Agreed}
-use Rattle.agreement_example.specs.Checking.{Entry, isOpened, wordsOf, withWords, sameList, sameSession}
+use Rattle.agreement_example.specs.Checking.{Line, Entry, isOpened, wordsOf, linesOf, withEntry, sameList, sameSession}
 
 -- one of two tests passed, and the first did not
 pub or-second : (a b : Bool) → a || b ≡ true → a ≡ false → b ≡ true
@@ -47,29 +47,51 @@ same-session a b e =
     same : a .settings .n ≡ b .settings .n → a .settings .ta ≡ b .settings .ta → a .settings .ts ≡ b .settings .ts → a .settings .whole ≡ b .settings .whole → a .settings .weights ≡ b .settings .weights → a .number ≡ b .number → a .coins ≡ b .coins → a ≡ b
     same n ta ts u w k c = λ i. record { settings = record { n = n i; ta = ta i; ts = ts i; whole = u i; weights = w i }; number = k i; coins = c i }
 
-module _ (p : ℕ) (w : List ℕ) (xs : List Entry) where
+-- who is not opened has no journal
+pub lines-none : (xs : List Entry) (p : ℕ) → isOpened xs p ≡ false → linesOf xs p ≡ []
+unfolding isOpened linesOf
+lines-none [] p e = refl
+lines-none (x ∷ xs) p e = at (eqb p (x .who)) e (lines-none xs p)
+  where
+    at : (b : Bool) → cond b true (isOpened xs p) ≡ false → (isOpened xs p ≡ false → linesOf xs p ≡ []) → cond b (x .lines) (linesOf xs p) ≡ []
+    at true e rest = absurd (false≢true (sym e))
+    at false e rest = rest e
+
+module _ (p : ℕ) (w : List ℕ) (ls : List Line) (xs : List Entry) where
   -- the same ones are opened
-  pub opened-with : (q : ℕ) → isOpened (withWords p w xs) q ≡ isOpened xs q
-  unfolding withWords isOpened
+  pub opened-with : (q : ℕ) → isOpened (withEntry p w ls xs) q ≡ isOpened xs q
+  unfolding withEntry isOpened
   opened-with q = go (isOpened xs p) refl
     where
       same : (b : Bool) → isOpened xs p ≡ true → eqb q p ≡ b → cond b true (isOpened xs q) ≡ isOpened xs q
       same true h e = rw (eqb-true q p e, h)
       same false h e = refl
 
-      go : (b : Bool) → isOpened xs p ≡ b → isOpened (cond b (record { who = p; list = w } ∷ xs) xs) q ≡ isOpened xs q
+      go : (b : Bool) → isOpened xs p ≡ b → isOpened (cond b (record { who = p; list = w; lines = ls } ∷ xs) xs) q ≡ isOpened xs q
       go true h = same (eqb q p) h refl
       go false h = refl
 
-  -- p has the words w, the others those they had
-  pub words-with : (q : ℕ) → isOpened xs q ≡ true → wordsOf (withWords p w xs) q ≡ cond (eqb q p) w (wordsOf xs q)
-  unfolding withWords wordsOf
+  -- p has the words w and the journal ls, the others those they had
+  pub words-with : (q : ℕ) → isOpened xs q ≡ true → wordsOf (withEntry p w ls xs) q ≡ cond (eqb q p) w (wordsOf xs q)
+  unfolding withEntry wordsOf
   words-with q k = go (isOpened xs p) refl
     where
       other : (b : Bool) → isOpened xs p ≡ false → eqb q p ≡ b → wordsOf xs q ≡ cond b w (wordsOf xs q)
       other true h e = absurd (false≢true (sym h ∙ ap (isOpened xs) (sym (eqb-true q p e)) ∙ k))
       other false h e = refl
 
-      go : (b : Bool) → isOpened xs p ≡ b → wordsOf (cond b (record { who = p; list = w } ∷ xs) xs) q ≡ cond (eqb q p) w (wordsOf xs q)
+      go : (b : Bool) → isOpened xs p ≡ b → wordsOf (cond b (record { who = p; list = w; lines = ls } ∷ xs) xs) q ≡ cond (eqb q p) w (wordsOf xs q)
+      go true h = refl
+      go false h = other (eqb q p) h refl
+
+  pub lines-with : (q : ℕ) → isOpened xs q ≡ true → linesOf (withEntry p w ls xs) q ≡ cond (eqb q p) ls (linesOf xs q)
+  unfolding withEntry linesOf
+  lines-with q k = go (isOpened xs p) refl
+    where
+      other : (b : Bool) → isOpened xs p ≡ false → eqb q p ≡ b → linesOf xs q ≡ cond b ls (linesOf xs q)
+      other true h e = absurd (false≢true (sym h ∙ ap (isOpened xs) (sym (eqb-true q p e)) ∙ k))
+      other false h e = refl
+
+      go : (b : Bool) → isOpened xs p ≡ b → linesOf (cond b (record { who = p; list = w; lines = ls } ∷ xs) xs) q ≡ cond (eqb q p) ls (linesOf xs q)
       go true h = refl
       go false h = other (eqb q p) h refl

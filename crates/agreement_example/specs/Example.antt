@@ -19,7 +19,8 @@ use Rattle.agreement.specs.Calls.{Call, engine, Agreed, world, words, Opened, C
 use Rattle.agreement_example.specs.Lists.{conditions-met, put-in-met}
 use Rattle.agreement_example.specs.Checking.{Run, isOpened, wordsOf, sameList, run}
 use Rattle.agreement_example.specs.Entries.{or-second, not-of-true, same-list}
-use Rattle.agreement_example.specs.Tracking.{Tracks, run-tracks}
+use Rattle.agreement_example.specs.Tracks.{Tracks}
+use Rattle.agreement_example.specs.Tracking.{AllSized, run-tracks}
 
 -- p is opened, its exits name the set X, and X is in force
 pub record Shown (start : ℕ → List ℕ) (cs : List (Call engine)) (p : ℕ) (X : List ℕ) : Type 0 where
@@ -93,7 +94,7 @@ closes-closed w v = go (reportAnswer w 16 16) refl
         }
 
 module _ (start : ℕ → List ℕ) (S : Agreed) (H : ℕ → Bool) (v : ℕ) (cs : List (Call engine)) where
-  ended : Tracks start S H v cs (run S H v cs .states) (run S H v cs .sent) → every (λ p. not (H p) || isOpened (run S H v cs .states) p && closes (wordsOf (run S H v cs .states) p) v) (S .settings .n) ≡ true → (p : ℕ) → Honest (world engine S H) p → Shown start cs p (v ∷ [])
+  ended : Tracks start S H v cs (run S H v cs .states) (run S H v cs .gone) → every (λ p. not (H p) || isOpened (run S H v cs .states) p && closes (wordsOf (run S H v cs .states) p) v) (S .settings .n) ≡ true → (p : ℕ) → Honest (world engine S H) p → Shown start cs p (v ∷ [])
   ended x e p h =
       let xs = run S H v cs .states in
       let d = or-second (not (H p)) _ (every-each _ (S .settings .n) e p (h .low) (h .high)) (not-of-true (H p) (h .fair)) in
@@ -101,13 +102,13 @@ module _ (start : ℕ → List ℕ) (S : Agreed) (H : ℕ → Bool) (v : ℕ) (c
       let c = closes-closed (wordsOf xs p) v (and-right (isOpened xs p) (closes (wordsOf xs p) v) d) in
       record { opened = x .some p k; named = rw (x .equal p k) (c .named); in-force = rw (x .equal p k) (c .in-force) }
 
-  pub passes-example : ((p : ℕ) → Honest (world engine S H) p → length (start p) ≡ stateWords) → passes S H v cs ≡ true → Example start S H cs v
+  pub passes-example : ((p : ℕ) → Honest (world engine S H) p → length (start p) ≡ stateWords) → AllSized cs → passes S H v cs ≡ true → Example start S H cs v
   unfolding passes ends
-  passes-example room e =
+  passes-example room sized e =
       let few = leb (liars (world engine S H)) in
       let e1 = and-right (few (S .settings .ta)) _ e in
       let e2 = and-right (few (S .settings .ts)) _ e1 in
-      let x = run-tracks start S H v room cs (and-left (run S H v cs .right) _ e2) in
+      let x = run-tracks start S H v room cs sized (and-left (run S H v cs .right) _ e2) in
       record {
         few-ta = leb-true _ _ (and-left (few (S .settings .ta)) _ e);
         few-ts = leb-true _ _ (and-left (few (S .settings .ts)) _ e1);

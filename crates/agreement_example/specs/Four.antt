@@ -16,6 +16,7 @@ use Rattle.agreement.specs.Evidence.{Honest}
 use Rattle.agreement.specs.Calls.{Call, opening, delivery, report, engine, Agreed, world}
 use Rattle.agreement_example.specs.Example.{Example, passes, passes-example}
 use Rattle.agreement_example.specs.Refusals.{refusals}
+use Rattle.agreement_example.specs.Tracking.{AllSized}
 use Rattle.agreement_example.specs.Messages.{bytesOf, openingOf, deliver, turnOf}
 use Rattle.turn_bound.specs.Computing.{calls}
 use Rattle.agreement_example.specs.Computing.{checks}
@@ -84,8 +85,12 @@ four-pass : passes session firstThree 5 fourCalls ≡ true
 unfolding calls checks turns toAll fromAll openings untilSends honestEchoes untilEchoes untilReadies fourCalls
 four-pass = refl
 
+four-sized : AllSized fourCalls
+unfolding checks turns toAll fromAll openings untilSends honestEchoes untilEchoes untilReadies fourCalls
+four-sized = tt
+
 pub four-meet : FourMeet
-four-meet start room = passes-example start session firstThree 5 fourCalls room four-pass
+four-meet start room = passes-example start session firstThree 5 fourCalls room four-sized four-pass
 
 -- the refusals, the last first: every other delivery is recorded
 pub four-refusals : refusals session firstThree 5 fourCalls .numbers ≡ CLOSED ∷ HELD ∷ SENDER ∷ []

@@ -1,9 +1,9 @@
--- No call changes the number of words.
+-- No call changes the number of words; of a restore it is known where its words are.
 use Prim.Native.Nat.{ℕ}
 use mathlib.Core.Bool.{Bool, true, false, cond}
 use mathlib.Core.List.{List}
 use mathlib.Core.Path.{_≡_, refl, _∙_}
-use lib.Dec.{eqb}
+use lib.Dec.{eqb, ltb}
 use lib.ListN.{length, drop}
 use Rattle.records.specs.Layout.{stateWords, coinAt}
 use Rattle.records.specs.Words.{length-put}
@@ -19,7 +19,9 @@ use Rattle.turn.specs.Turn.{admits, wordsFor, turnWords}
 use Rattle.turn.specs.Frame.{length-applied}
 use Rattle.turn.specs.declared.Admitted.{Admitted}
 use Rattle.turn.specs.declared.Admitted.the-variants as admitted
-use Rattle.agreement.specs.Calls.{Call, opening, delivery, turn, report, engine, weightsOf, left}
+use Rattle.journal.specs.Journal.{LINE-BYTES, lineWords, openedWords, deliveredWords, turnRoom}
+use Rattle.agreement.specs.Plain.{NoRestore}
+use Rattle.agreement.specs.Calls.{Call, opening, delivery, turn, report, restore, engine, weightsOf, left}
 
 length-openWords : (n ta ts w own session input : ℕ) (coins : List ℕ) → length (openWords n ta ts w own session input coins) ≡ stateWords
 unfolding openWords withCoins withSettings
@@ -50,9 +52,19 @@ length-turned s room = go (admits s room)
     go (admitted.Refused k) = refl
     go (admitted.Open x) = length-applied s (due (x .settings) s)
 
+length-line : (room : ℕ) (before after : List ℕ) → length before ≡ stateWords → length after ≡ stateWords → length (lineWords room before after) ≡ stateWords
+unfolding lineWords
+length-line room before after e f = go (ltb room LINE-BYTES)
+  where
+    go : (b : Bool) → length (cond b before after) ≡ stateWords
+    go true = e
+    go false = f
+
 -- the words that a call leaves of 2,048 words are as many
-pub length-left : (c : Call engine) (w : List ℕ) → length w ≡ stateWords → length (left engine c w) ≡ stateWords
-length-left (opening p o) w e = length-opened w (o .n) (o .ta) (o .ts) (weightsOf o) (o .own) (o .session) (o .input) (o .coins) e
-length-left (delivery p m b) w e = length-delivered w m (b .list) ∙ e
-length-left (turn p l) w e = length-turned w (length l) ∙ e
-length-left (report p r) w e = e
+pub length-left : (c : Call engine) → NoRestore engine c → (w : List ℕ) → length w ≡ stateWords → length (left engine c w) ≡ stateWords
+unfolding openedWords deliveredWords
+length-left (opening p o) n w e = length-line (o .line) w _ e (length-opened w (o .n) (o .ta) (o .ts) (weightsOf o) (o .own) (o .session) (o .input) (o .coins) e)
+length-left (delivery p m b) n w e = length-line (b .line) w _ e (length-delivered w m (b .list) ∙ e)
+length-left (turn p l) n w e = length-turned w (turnRoom (length (l .message)) (l .line)) ∙ e
+length-left (report p r) n w e = e
+length-left (restore p v r) n w e = absurd n

@@ -2,6 +2,9 @@ pub mod Lists
 pub mod Checking
 pub mod Lengths
 pub mod Entries
+pub mod Journals
+pub mod Tracks
+pub mod Restores
 pub mod Tracking
 pub mod Example
 pub mod Refusals
@@ -10,3 +13,6 @@ pub mod Computing
 pub mod One
 pub mod Four
 pub mod Weighted
+pub mod Lossy
+pub mod PowerLost
+pub mod LineLost

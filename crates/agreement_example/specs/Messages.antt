@@ -1,4 +1,4 @@
--- The arguments of the calls in the examples: session 7, input 5.
+-- The arguments of the calls in the examples: session 7, input 5; each is lent 512 bytes for its line.
 use Prim.Native.Nat.{ℕ, zero, suc, _<_, _%_, _^_}
 use mathlib.Core.List.{List, [], _∷_}
 use native.Mathlib.Omega.{arith}
@@ -8,6 +8,7 @@ use Rattle.opening.specs.Ones.{onesGiven}
 use Rattle.wire.specs.Message.{encode}
 use Rattle.wire.specs.declared.Message.{Message}
 use Rattle.wire_laws.specs.Proper.{AllBytes}
+use Rattle.journal.specs.Journal.{LINE-BYTES}
 use Rattle.agreement.specs.Calls.{Call, delivery, turn, engine, Arguments, Bytes}
 
 -- each number by its low 8 bits
@@ -23,7 +24,7 @@ low-bytes (x ∷ xs) (suc i) = low-bytes xs i
 
 -- the bytes b
 unfoldable pub bytesOf : List ℕ → Bytes
-bytesOf b = record { list = lowBytes b; each = low-bytes b }
+bytesOf b = record { list = lowBytes b; line = LINE-BYTES; each = low-bytes b }
 
 -- each number by its low 32 bits
 unfoldable pub coinsOf : List ℕ → List ℕ
@@ -48,6 +49,7 @@ openingWith n ta ts coins weights p =
       input = 5;
       coins = coinsOf coins;
       weights = weights;
+      line = LINE-BYTES;
       session-fits = omega arith;
       input-fits = omega arith;
       coins-fit = coins-below coins;
@@ -61,6 +63,6 @@ openingOf n ta ts p = openingWith n ta ts (blank n) (onesGiven n) p
 unfoldable pub deliver : (q p : ℕ) → Message → List ℕ → Call engine
 deliver q p m xs = delivery q p (bytesOf (encode m p 7 xs))
 
--- a turn of p, lent 140 bytes
+-- a turn of p, lent 140 bytes for a message
 unfoldable pub turnOf : ℕ → Call engine
-turnOf p = turn p (blank 140)
+turnOf p = turn p (record { message = blank 140; line = LINE-BYTES })

@@ -21,6 +21,7 @@ use Rattle.agreement.specs.Evidence.{Honest}
 use Rattle.agreement.specs.Calls.{Call, opening, delivery, report, engine, Agreed, world}
 use Rattle.agreement_example.specs.Example.{Example, passes, passes-example}
 use Rattle.agreement_example.specs.Refusals.{refusals}
+use Rattle.agreement_example.specs.Tracking.{AllSized}
 use Rattle.agreement_example.specs.Messages.{bytesOf, openingOf, deliver, turnOf}
 use Rattle.turn_bound.specs.Computing.{calls}
 use Rattle.agreement_example.specs.Computing.{checks}
@@ -59,8 +60,12 @@ one-passes : passes session everyone 5 oneCalls ≡ true
 unfolding calls checks oneCalls
 one-passes = refl
 
+one-sized : AllSized oneCalls
+unfolding checks oneCalls
+one-sized = tt
+
 pub one-meets : OneMeets
-one-meets start room = passes-example start session everyone 5 oneCalls room one-passes
+one-meets start room = passes-example start session everyone 5 oneCalls room one-sized one-passes
 
 -- the refusals from the opening on, the last first
 pub one-refusals : refusals session everyone 5 oneCalls .numbers ≡ SETTINGS ∷ HELD ∷ []

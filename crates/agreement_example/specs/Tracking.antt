@@ -1,240 +1,290 @@
 -- The check of specs/Checking.antt is sound: a list that passes it meets the conditions of demand 3, and the words that it computes are
--- those of the concentrators, whatever 2,048 words each buffer held at the start.
+-- those of the concentrators, whatever 2,048 words each buffer held at the start, and whatever 2,048 words a restore finds.
 use Prim.Native.Nat.{ℕ}
 use mathlib.Core.Bool.{Bool, true, false, _&&_, _||_, not, cond, false≢true}
 use mathlib.Core.List.{List, [], _∷_}
 use mathlib.Core.Logic.{_⊎_, inl, inr}
-use mathlib.Core.Path.{_≡_, refl, sym, ap, _∙_}
-use borrow.Author.Tests.{eqb-true, eqb-false, leb-true, not-true}
-use lib.Dec.{eqb, leb}
+use mathlib.Core.Path.{_≡_, refl, sym, ap, subst, _∙_}
+use borrow.Author.Tests.{eqb-true, eqb-false, not-true}
+use lib.Dec.{eqb}
 use lib.ListN.{length, take}
 use Rattle.quorum.specs.Bools.{and-left, and-right}
 use Rattle.records.specs.Layout.{stateWords}
 use Rattle.wire.specs.Message.{lengthOf}
 use Rattle.wire.specs.declared.Message.{Message}
-use Rattle.opening.specs.Opening.{openAnswer, opened}
-use Rattle.delivery.specs.Delivery.{deliverAnswer}
-use Rattle.turn.specs.Turn.{turnOutcome, turnBytes}
 use Rattle.turn.specs.declared.Outcome.{Outcome}
 use Rattle.turn.specs.declared.Outcome.the-variants as outcome
+use Rattle.journal.specs.Journal.{turnedOutcome, turnedMessage}
+use Rattle.restore.specs.Restoring.{accepted}
 use Rattle.agreement.specs.Evidence.{Honest}
 use Rattle.agreement.specs.Moments.{now}
-use Rattle.agreement.specs.Calls.{weightsOf, Call, opening, delivery, turn, report, engine, Arguments, Agreed, Bytes, agreed, world, place, left, words, Opened, Sent, SendsBytes}
-use Rattle.agreement_example.specs.Lists.{not-opened, opened-later, sent-later, opened-before, opened-cases, NoOpening, DeliveryMeets, AllMeet}
-use Rattle.agreement_example.specs.Checking.{Entry, isOpened, wordsOf, withWords, wasSent, sameList, sentBy, sameSession, opens, openedWords, statesAfter, sentAfter, listed, openingRight, deliveryRight, callRight, step, run}
-use Rattle.agreement_example.specs.Lengths.{length-left}
-use Rattle.agreement_example.specs.Entries.{or-second, not-of-true, same-list, same-session, opened-with, words-with}
+use Rattle.agreement.specs.Calls.{Call, opening, delivery, turn, report, restore, engine, Arguments, Agreed, Bytes, TurnLent, agreed, world, bytes, words, journal, Opened, Sent, Departed, SendsBytes}
+use Rattle.agreement.specs.EngineOpening.{first}
+use Rattle.agreement_example.specs.Lists.{not-opened, not-departed, opened-later, opened-cases, Leaves, departed-before, departed-cases, DeliveryMeets}
+use Rattle.agreement_example.specs.Checking.{Line, Entry, Gone, isOpened, wordsOf, linesOf, sameList, among, wasSent, some, sentIn, sentBy, sameSession, opens, firstLines, deliveryLines, turnLines, statesAfter, goneAfter, restoreRight, listed, openingRight, deliveryRight, callRight, step, run}
+use Rattle.agreement_example.specs.Entries.{or-second, not-of-true, same-list, same-session, lines-none}
+use Rattle.agreement_example.specs.Tracks.{words-here, journal-here, words-else, journal-else, size-next, opens-sized, opened-sized, Tracks, listed-honest, entry-next, line-next}
+use Rattle.agreement_example.specs.Restores.{restore-next}
+use Rattle.agreement_example.specs.Journals.{SentAt, Matches, AllMatch, sent-in, sent-of, IsGone}
 
-module _ (start : ℕ → List ℕ) where
-  -- the number of words after a call
-  size-next : (c : Call engine) (cs : List (Call engine)) (p : ℕ) → length (words engine start cs p) ≡ stateWords → length (words engine start (c ∷ cs) p) ≡ stateWords
-  unfolding words
-  size-next c cs p h = go (eqb p (place engine c))
-    where
-      go : (b : Bool) → length (cond b (left engine c (words engine start cs p)) (words engine start cs p)) ≡ stateWords
-      go true = length-left c (words engine start cs p) h
-      go false = h
+-- each restore of a list finds 2,048 words
+abbrev pub AllSized : List (Call engine) → Type 0
+AllSized [] = Unit {0}
+AllSized (opening p o ∷ cs) = AllSized cs
+AllSized (delivery p m b ∷ cs) = AllSized cs
+AllSized (turn p l ∷ cs) = AllSized cs
+AllSized (report p r ∷ cs) = AllSized cs
+AllSized (restore p v r ∷ cs) = (length v ≡ stateWords) × AllSized cs
 
-  -- a call that is no opening, at one whose words are known
-  equal-next : (c : Call engine) (cs : List (Call engine)) (xs : List Entry) → ((q : ℕ) → isOpened xs q ≡ true → words engine start cs q ≡ wordsOf xs q) → (q : ℕ) → isOpened xs q ≡ true → words engine start (c ∷ cs) q ≡ wordsOf (withWords (place engine c) (left engine c (wordsOf xs (place engine c))) xs) q
-  unfolding words
-  equal-next c cs xs h q k =
-      go (eqb q (place engine c)) refl ∙ sym (words-with (place engine c) (left engine c (wordsOf xs (place engine c))) xs q k)
-    where
-      go : (b : Bool) → eqb q (place engine c) ≡ b → cond b (left engine c (words engine start cs q)) (words engine start cs q) ≡ cond b (left engine c (wordsOf xs (place engine c))) (wordsOf xs q)
-      go true e = ap (left engine c) (h q k ∙ ap (wordsOf xs) (eqb-true q (place engine c) e))
-      go false e = h q k
+module _ (start : ℕ → List ℕ) (S : Agreed) (H : ℕ → Bool) (v : ℕ) {cs : List (Call engine)} {xs : List Entry} {gs : List Gone} (x : Tracks start S H v cs xs gs) where
+  -- ---- delivery
 
-  -- an opening of 2,048 words
-  opens-sized : (s : List ℕ) (o : Arguments) → length s ≡ stateWords → eqb (openAnswer (length s) (o .n) (o .ta) (o .ts) (weightsOf o) (o .own) (length (o .coins))) 0 ≡ opens o
-  unfolding opens
-  opens-sized s o e = rw e
+  module _ (p m : ℕ) (b : Bytes) (honest : Honest (world engine S H) p) where
+    abbrev there : List ℕ
+    there = wordsOf xs p
 
-  opened-sized : (s : List ℕ) (o : Arguments) → length s ≡ stateWords → left engine (opening 0 o) s ≡ cond (opens o) (openedWords o) s
-  unfolding opened openedWords
-  opened-sized s o e = rw (opens-sized s o e)
+    credited : not (isOpened xs p) || deliveryRight S H v (engine .accepts there m b) m (b .list) (linesOf xs m) ≡ true → DeliveryMeets engine start S H v p m b cs
+    unfolding deliveryRight wasSent
+    credited e = record { credited = λ o a h. go (isOpened xs p) refl o a h }
+      where
+        no-line : wasSent [] (b .list) ≡ true → ⊥
+        no-line f = false≢true f
 
-  module _ (S : Agreed) (H : ℕ → Bool) (v : ℕ) where
-    -- what is known after the calls cs: xs are the words of those that are opened, ys what they have sent
-    pub record Tracks (cs : List (Call engine)) (xs ys : List Entry) : Type 0 where
-      pub size : (p : ℕ) → Honest (world engine S H) p → length (words engine start cs p) ≡ stateWords
-      pub none : (p : ℕ) → isOpened xs p ≡ false → Opened engine start cs p → ⊥
-      pub some : (p : ℕ) → isOpened xs p ≡ true → Opened engine start cs p
-      pub equal : (p : ℕ) → isOpened xs p ≡ true → words engine start cs p ≡ wordsOf xs p
-      pub sent : (m : ℕ) (b : Bytes) → wasSent ys m (b .list) ≡ true → Sent engine start cs m b
-      pub meet : AllMeet engine start S H v cs
+        sent : (k : Bool) → isOpened xs m ≡ k → wasSent (linesOf xs m) (b .list) ≡ true → Sent engine start cs m b
+        sent true k f = sent-of start m cs b (sent-in start m b (linesOf xs m) (journal engine start cs m) (x .lines m k) f)
+        sent false k f = absurd (no-line (subst (λ (ls : List Line). wasSent ls (b .list) ≡ true) (lines-none xs m k) f))
 
-    listed-honest : (p : ℕ) → listed S H v p ≡ true → Honest (world engine S H) p
-    unfolding listed
-    listed-honest p e =
-        let r = and-right (leb 1 p) (leb p (S .settings .n) && H p) e in
+        go : (k : Bool) → isOpened xs p ≡ k → Opened engine start cs p → engine .accepts (words engine start cs p) m b ≡ true → Honest (world engine S H) m → Sent engine start cs m b
+        go false k o a h = absurd (x .none p k o)
+        go true k o a h =
+            let taken : engine .accepts there m b ≡ true = rw (x .equal p k) at a in
+            let e1 = or-second (not (isOpened xs p)) _ e (not-of-true (isOpened xs p) k) in
+            let e2 = or-second (not (engine .accepts there m b)) _ e1 (not-of-true _ taken) in
+            sent (isOpened xs m) refl (or-second (not (H m)) (wasSent (linesOf xs m) (b .list)) e2 (not-of-true (H m) (h .fair)))
+
+    after-delivery : isOpened xs p ≡ true → engine .accepts there m b ≡ true → Matches start p (record { text = engine .delivery-line m b; after = engine .delivered there m b; sent = [] }) (delivery p m b ∷ cs)
+    unfolding among
+    after-delivery k t =
         record {
-          low = leb-true 1 p (and-left (leb 1 p) (leb p (S .settings .n) && H p) e);
-          high = leb-true p (S .settings .n) (and-left (leb p (S .settings .n)) (H p) r);
-          fair = and-right (leb p (S .settings .n)) (H p) r;
+          text = refl;
+          leaves = words-here start (delivery p m b) cs ∙ ap (λ (w : List ℕ). engine .delivered w m b) (x .equal p k);
+          size = size-next start (delivery p m b) cs tt p (x .size p honest);
+          sent = λ a f. absurd (false≢true f);
         }
 
-    module _ {cs : List (Call engine)} {xs ys : List Entry} (x : Tracks cs xs ys) where
-      delivery-credited : (p m : ℕ) (b : Bytes) → deliveryRight S H v p m (b .list) xs ys ≡ true → DeliveryMeets engine start S H v p m b cs
-      unfolding deliveryRight
-      delivery-credited p m b e = record { credited = λ o a h. go (isOpened xs p) refl o a h }
-        where
-          go : (k : Bool) → isOpened xs p ≡ k → Opened engine start cs p → eqb (deliverAnswer (words engine start cs p) m (b .list)) 0 ≡ true → Honest (world engine S H) m → Sent engine start cs m b
-          go false k o a h = absurd (x .none p k o)
-          go true k o a h =
-              let taken : eqb (deliverAnswer (wordsOf xs p) m (b .list)) 0 ≡ true = rw (x .equal p k) at a in
-              let e1 = or-second (not (isOpened xs p)) _ e (not-of-true (isOpened xs p) k) in
-              let e2 = or-second (not (eqb (deliverAnswer (wordsOf xs p) m (b .list)) 0)) _ e1 (not-of-true _ taken) in
-              x .sent m b (or-second (not (H m)) (wasSent ys m (b .list)) e2 (not-of-true (H m) (h .fair)))
+    delivery-gone : (k : ℕ) (a : Bytes) → Departed engine start (delivery p m b ∷ cs) k a → IsGone (goneAfter (delivery p m b) xs gs) k (a .list)
+    unfolding goneAfter
+    delivery-gone k a d = at (departed-cases engine start d)
+      where
+        older : (t : Bool) → IsGone gs k (a .list) → IsGone (cond t (record { from = m; bytes = b .list } ∷ gs) gs) k (a .list)
+        older true h = inr h
+        older false h = h
 
-      -- a call that is no opening, after which zs are sent
-      words-next : (c : Call engine) (zs : List Entry) → NoOpening engine start c → ((m : ℕ) (b : Bytes) → wasSent zs m (b .list) ≡ true → Sent engine start (c ∷ cs) m b) → AllMeet engine start S H v (c ∷ cs) → Tracks (c ∷ cs) (withWords (place engine c) (left engine c (wordsOf xs (place engine c))) xs) zs
-      words-next c zs n s a =
-          record {
-            size = λ p h. size-next c cs p (x .size p h);
-            none = λ q k o. x .none q (sym (same q) ∙ k) (opened-before engine start n o);
-            some = λ q k. opened-later engine start c (x .some q (sym (same q) ∙ k));
-            equal = λ q k. equal-next c cs xs (x .equal) q (sym (same q) ∙ k);
-            sent = s;
-            meet = a;
-          }
-        where
-          same : (q : ℕ) → isOpened (withWords (place engine c) (left engine c (wordsOf xs (place engine c))) xs) q ≡ isOpened xs q
-          same q = opened-with (place engine c) (left engine c (wordsOf xs (place engine c))) xs q
+        newest : (t : Bool) → isOpened xs p ≡ t → Leaves engine start cs p m b k a → IsGone (cond (t && engine .accepts there m b) (record { from = m; bytes = b .list } ∷ gs) gs) k (a .list)
+        newest false e y = absurd (x .none p e (y .opened))
+        newest true e y =
+            let t : engine .accepts there m b ≡ true = rw (x .equal p e) at (y .accepted) in
+            rw t (inl (y .from, ap (λ (z : Bytes). z .list) (y .bytes)))
 
-      -- what was sent after a turn
-      sent-next : (p : ℕ) (l : List ℕ) (m : ℕ) (b : Bytes) → wasSent (sentAfter (turn p l) xs ys) m (b .list) ≡ true → Sent engine start (turn p l ∷ cs) m b
-      unfolding sentAfter sentBy wasSent
-      sent-next p l m b = go (isOpened xs p) refl
-        where
-          before : wasSent ys m (b .list) ≡ true → Sent engine start (turn p l ∷ cs) m b
-          before e = sent-later engine start (turn p l) (x .sent m b e)
+        at : Leaves engine start cs p m b k a ⊎ Departed engine start cs k a → IsGone (cond (isOpened xs p && engine .accepts there m b) (record { from = m; bytes = b .list } ∷ gs) gs) k (a .list)
+        at (inl y) = newest (isOpened xs p) refl y
+        at (inr y) = older (isOpened xs p && engine .accepts there m b) (x .gone k a y)
 
-          new : (k : Message) → isOpened xs p ≡ true → turnOutcome (wordsOf xs p) (length l) ≡ outcome.Sent k → p ≡ m → take (lengthOf k) (turnBytes (wordsOf xs p) l) ≡ b .list → Sent engine start (turn p l ∷ cs) m b
-          new k h f g d =
-              let sends : SendsBytes (wordsOf xs p) l b = record { message = k; outcome = f; bytes = sym d } in
-              rw (← g) (record { lent = l; past = cs; within = now; opened = x .some p h; sends = rw (x .equal p h) sends })
+    delivery-next : DeliveryMeets engine start S H v p m b cs → Tracks start S H v (delivery p m b ∷ cs) (statesAfter (delivery p m b) xs) (goneAfter (delivery p m b) xs gs)
+    unfolding statesAfter deliveryLines
+    delivery-next meets =
+        entry-next start S H v x (delivery p m b) (engine .delivered there m b) (deliveryLines m b there (linesOf xs p)) (goneAfter (delivery p m b) xs gs) tt
+        (λ q h. size-next start (delivery p m b) cs tt q (x .size q h))
+        (λ k. words-here start (delivery p m b) cs ∙ ap (λ (w : List ℕ). engine .delivered w m b) (x .equal p k))
+        (λ k. rw (journal-here start (delivery p m b) cs, x .equal p k) (line-next start S H v x p (delivery p m b ∷ cs) _ (linesOf xs p) (journal engine start cs p) (engine .accepts there m b) (after-delivery k) (x .lines p k)))
+        delivery-gone (honest, meets, x .meet)
 
-          first : (k : Message) (t : Bool) → isOpened xs p ≡ true → turnOutcome (wordsOf xs p) (length l) ≡ outcome.Sent k → eqb p m && sameList (take (lengthOf k) (turnBytes (wordsOf xs p) l)) (b .list) ≡ t → t || wasSent ys m (b .list) ≡ true → Sent engine start (turn p l ∷ cs) m b
-          first k true h f d e =
-              new k h f (eqb-true p m (and-left (eqb p m) _ d)) (same-list _ (b .list) (and-right (eqb p m) _ d))
-          first k false h f d e = before e
+  -- ---- turn
 
-          by : (u : Outcome) → isOpened xs p ≡ true → turnOutcome (wordsOf xs p) (length l) ≡ u → wasSent (sentBy p u (turnBytes (wordsOf xs p) l) ys) m (b .list) ≡ true → Sent engine start (turn p l ∷ cs) m b
-          by (outcome.Refused k) h f e = before e
-          by outcome.Idle h f e = before e
-          by (outcome.Sent k) h f e = first k (eqb p m && sameList (take (lengthOf k) (turnBytes (wordsOf xs p) l)) (b .list)) h f refl e
-          by outcome.MovedOut h f e = before e
-          by outcome.InForce h f e = before e
+  module _ (p : ℕ) (l : TurnLent) (honest : Honest (world engine S H) p) where
+    abbrev before : List ℕ
+    before = wordsOf xs p
 
-          go : (t : Bool) → isOpened xs p ≡ t → wasSent (cond t (sentBy p (turnOutcome (wordsOf xs p) (length l)) (turnBytes (wordsOf xs p) l) ys) ys) m (b .list) ≡ true → Sent engine start (turn p l ∷ cs) m b
-          go true h e = by (turnOutcome (wordsOf xs p) (length l)) h refl e
-          go false h e = before e
+    after-turn : isOpened xs p ≡ true → engine .acts before l ≡ true → Matches start p (record { text = engine .turn-line; after = engine .turned before l; sent = sentBy before l }) (turn p l ∷ cs)
+    unfolding sentBy sentIn among
+    after-turn k t =
+        record {
+          text = refl;
+          leaves = words-here start (turn p l) cs ∙ ap (λ (w : List ℕ). engine .turned w l) (x .equal p k);
+          size = size-next start (turn p l) cs tt p (x .size p honest);
+          sent = λ b f. by b (turnedOutcome before (length (l .message)) (l .line)) refl f;
+        }
+      where
+        out : List ℕ
+        out = turnedMessage before (l .message) (l .line)
 
-      module _ (p : ℕ) (o : Arguments) (honest : Honest (world engine S H) p) where
-        -- whether the opening is accepted depends on its arguments alone
-        answered : eqb (openAnswer (length (words engine start cs p)) (o .n) (o .ta) (o .ts) (weightsOf o) (o .own) (length (o .coins))) 0 ≡ opens o
-        answered = opens-sized (words engine start cs p) o (x .size p honest)
+        one : (b : Bytes) (m : Message) → turnedOutcome before (length (l .message)) (l .line) ≡ outcome.Sent m → (t : Bool) → sameList (take (lengthOf m) out) (b .list) ≡ t → t || false ≡ true → SentAt start p (turn p l ∷ cs) b
+        one b m e true f g =
+            let sends : SendsBytes before l b = record { message = m; outcome = e; bytes = sym (same-list _ (b .list) f) } in
+            record { lent = l; past = cs; is = refl; opened = x .some p k; sends = rw (x .equal p k) sends }
+        one b m e false f g = absurd (false≢true g)
 
-        -- the words of p after it
-        leaves : (q : ℕ) → eqb q p ≡ true → left engine (opening p o) (words engine start cs q) ≡ cond (opens o) (openedWords o) (words engine start cs q)
-        leaves q e = opened-sized (words engine start cs q) o (rw (eqb-true q p e) (x .size p honest))
+        by : (b : Bytes) (u : Outcome) → turnedOutcome before (length (l .message)) (l .line) ≡ u → among (sentIn u out) (b .list) ≡ true → SentAt start p (turn p l ∷ cs) b
+        by b (outcome.Refused j) e f = absurd (false≢true f)
+        by b outcome.Idle e f = absurd (false≢true f)
+        by b (outcome.Sent m) e f = one b m e (sameList (take (lengthOf m) out) (b .list)) refl f
+        by b outcome.MovedOut e f = absurd (false≢true f)
+        by b outcome.InForce e f = absurd (false≢true f)
 
-        -- refused: nothing changes
-        refused-next : opens o ≡ false → Tracks (opening p o ∷ cs) xs ys
-        unfolding words
-        refused-next f =
-            record {
-              size = λ q h. size-next (opening p o) cs q (x .size q h);
-              none = λ q k u. not-new q k (opened-cases engine start u);
-              some = λ q k. opened-later engine start (opening p o) (x .some q k);
-              equal = λ q k. same q (eqb q p) refl ∙ x .equal q k;
-              sent = λ m b e. sent-later engine start (opening p o) (x .sent m b e);
-              meet = (honest, record { agree = λ e t. absurd (no-opening t); once = λ u. answered ∙ f; put-in = λ e t. absurd (no-opening t) }, x .meet);
-            }
-          where
-            no-opening : eqb (openAnswer (length (words engine start cs p)) (o .n) (o .ta) (o .ts) (weightsOf o) (o .own) (length (o .coins))) 0 ≡ true → ⊥
-            no-opening t = false≢true (sym f ∙ sym answered ∙ t)
+    turn-next : Tracks start S H v (turn p l ∷ cs) (statesAfter (turn p l) xs) gs
+    unfolding statesAfter turnLines
+    turn-next =
+        entry-next start S H v x (turn p l) (engine .turned before l) (turnLines l before (linesOf xs p)) gs tt
+        (λ q h. size-next start (turn p l) cs tt q (x .size q h))
+        (λ k. words-here start (turn p l) cs ∙ ap (λ (w : List ℕ). engine .turned w l) (x .equal p k))
+        (λ k. rw (journal-here start (turn p l) cs, x .equal p k) (line-next start S H v x p (turn p l ∷ cs) _ (linesOf xs p) (journal engine start cs p) (engine .acts before l) (after-turn k) (x .lines p k)))
+        (λ m b d. x .gone m b (departed-before engine start tt d)) (honest, tt, x .meet)
 
-            not-new : (q : ℕ) → isOpened xs q ≡ false → ((q ≡ p) × (eqb (openAnswer (length (words engine start cs p)) (o .n) (o .ta) (o .ts) (weightsOf o) (o .own) (length (o .coins))) 0 ≡ true)) ⊎ Opened engine start cs q → ⊥
-            not-new q k (inl u) = no-opening (u .1)
-            not-new q k (inr u) = x .none q k u
+  -- ---- opening
 
-            same : (q : ℕ) (b : Bool) → eqb q p ≡ b → cond b (left engine (opening p o) (words engine start cs q)) (words engine start cs q) ≡ words engine start cs q
-            same q true e = leaves q e ∙ ap (λ (t : Bool). cond t (openedWords o) (words engine start cs q)) f
-            same q false e = refl
+  module _ (p : ℕ) (o : Arguments) (honest : Honest (world engine S H) p) where
+    -- whether the opening is accepted depends on its arguments alone
+    answered : engine .opens (words engine start cs p) o ≡ opens o
+    answered = opens-sized start (words engine start cs p) o (x .size p honest)
 
-        -- the first one there, under the own number
-        first-next : opens o ≡ true → isOpened xs p ≡ false → o .own ≡ p → agreed o ≡ S → o .input ≡ v → Tracks (opening p o ∷ cs) (record { who = p; list = openedWords o } ∷ xs) ys
-        unfolding words isOpened wordsOf
-        first-next f none own agree put-in =
-            record {
-              size = λ q h. size-next (opening p o) cs q (x .size q h);
-              none = λ q k u. not-other q (eqb q p) refl k (opened-cases engine start u);
-              some = λ q k. opened-there q (eqb q p) refl k;
-              equal = λ q k. words-there q (eqb q p) refl k;
-              sent = λ m b e. sent-later engine start (opening p o) (x .sent m b e);
-              meet = (honest, record { agree = λ e t. agree; once = λ u. absurd (x .none p none u); put-in = λ e t. put-in }, x .meet);
-            }
-          where
-            not-other : (q : ℕ) (b : Bool) → eqb q p ≡ b → cond b true (isOpened xs q) ≡ false → ((q ≡ p) × (eqb (openAnswer (length (words engine start cs p)) (o .n) (o .ta) (o .ts) (weightsOf o) (o .own) (length (o .coins))) 0 ≡ true)) ⊎ Opened engine start cs q → ⊥
-            not-other q true e k u = false≢true (sym k)
-            not-other q false e k (inl u) = eqb-false q p e (u .0)
-            not-other q false e k (inr u) = x .none q k u
+    -- the words of p after it
+    leaves : words engine start (opening p o ∷ cs) p ≡ cond (opens o) (first o) (words engine start cs p)
+    leaves = words-here start (opening p o) cs ∙ opened-sized start (words engine start cs p) o (x .size p honest)
 
-            here : Opened engine start (opening p o ∷ cs) p
-            here = record { given = o; past = cs; within = now; numbered = own; accepted = answered ∙ f }
+    -- its journal
+    written : journal engine start (opening p o ∷ cs) p ≡ cond (opens o) ((opening p o ∷ cs) ∷ []) (journal engine start cs p)
+    written = journal-here start (opening p o) cs ∙ ap (λ (b : Bool). cond b ((opening p o ∷ cs) ∷ []) (journal engine start cs p)) answered
 
-            opened-there : (q : ℕ) (b : Bool) → eqb q p ≡ b → cond b true (isOpened xs q) ≡ true → Opened engine start (opening p o ∷ cs) q
-            opened-there q true e k = rw (eqb-true q p e) here
-            opened-there q false e k = opened-later engine start (opening p o) (x .some q k)
+    -- refused: nothing changes
+    refused-next : opens o ≡ false → Tracks start S H v (opening p o ∷ cs) xs gs
+    refused-next f =
+        record {
+          size = λ q h. size-next start (opening p o) cs tt q (x .size q h);
+          none = λ q k u. not-new q k (opened-cases engine start u);
+          some = λ q k. opened-later engine start (opening p o) (x .some q k);
+          equal = λ q k. same q (eqb q p) refl ∙ x .equal q k;
+          lines = λ q k. rw (same-lines q (eqb q p) refl) (x .lines q k);
+          gone = λ m b d. x .gone m b (departed-before engine start tt d);
+          meet = (honest, record { agree = λ e t. absurd (no-opening t); once = λ u. answered ∙ f; put-in = λ e t. absurd (no-opening t) }, x .meet);
+        }
+      where
+        no-opening : engine .opens (words engine start cs p) o ≡ true → ⊥
+        no-opening t = false≢true (sym f ∙ sym answered ∙ t)
 
-            words-there : (q : ℕ) (b : Bool) → eqb q p ≡ b → cond b true (isOpened xs q) ≡ true → cond b (left engine (opening p o) (words engine start cs q)) (words engine start cs q) ≡ cond b (openedWords o) (wordsOf xs q)
-            words-there q true e k = leaves q e ∙ ap (λ (t : Bool). cond t (openedWords o) (words engine start cs q)) f
-            words-there q false e k = x .equal q k
+        not-new : (q : ℕ) → isOpened xs q ≡ false → ((q ≡ p) × (engine .opens (words engine start cs p) o ≡ true)) ⊎ Opened engine start cs q → ⊥
+        not-new q k (inl u) = no-opening (u .1)
+        not-new q k (inr u) = x .none q k u
 
-        opening-next : openingRight S H v p o xs ≡ true → Tracks (opening p o ∷ cs) (statesAfter (opening p o) xs) ys
-        unfolding openingRight statesAfter
-        opening-next e = go (opens o) refl e
-          where
-            go : (b : Bool) → opens o ≡ b → not b || not (isOpened xs p) && (eqb (o .own) p && (sameSession (agreed o) S && eqb (o .input) v)) ≡ true → Tracks (opening p o ∷ cs) (cond b (record { who = p; list = openedWords o } ∷ xs) xs) ys
-            go false f d = refused-next f
-            go true f d =
-                let d1 = and-right (not (isOpened xs p)) _ d in
-                let d2 = and-right (eqb (o .own) p) _ d1 in
-                first-next f
-                (not-true (isOpened xs p) (and-left (not (isOpened xs p)) _ d))
-                (eqb-true (o .own) p (and-left (eqb (o .own) p) _ d1))
-                (same-session (agreed o) S (and-left (sameSession (agreed o) S) _ d2))
-                (eqb-true (o .input) v (and-right (sameSession (agreed o) S) _ d2))
+        same : (q : ℕ) (b : Bool) → eqb q p ≡ b → words engine start (opening p o ∷ cs) q ≡ words engine start cs q
+        same q true e = rw (eqb-true q p e) (leaves ∙ ap (λ (t : Bool). cond t (first o) (words engine start cs p)) f)
+        same q false e = words-else start (opening p o) cs q e
 
-      next : (c : Call engine) → callRight S H v c xs ys ≡ true → Tracks (c ∷ cs) (statesAfter c xs) (sentAfter c xs ys)
-      unfolding callRight statesAfter sentAfter
-      next (opening p o) e =
-          opening-next p o (listed-honest p (and-left (listed S H v p) _ e)) (and-right (listed S H v p) _ e)
-      next (delivery p m b) e =
-          words-next (delivery p m b) ys tt (λ k d f. sent-later engine start (delivery p m b) (x .sent k d f))
-          (listed-honest p (and-left (listed S H v p) _ e), delivery-credited p m b (and-right (listed S H v p) _ e), x .meet)
-      next (turn p l) e =
-          words-next (turn p l) (sentAfter (turn p l) xs ys) tt (λ k d f. sent-next p l k d f) (listed-honest p e, tt, x .meet)
-      next (report p r) e =
-          words-next (report p r) ys tt (λ k d f. sent-later engine start (report p r) (x .sent k d f)) (listed-honest p e, tt, x .meet)
+        same-lines : (q : ℕ) (b : Bool) → eqb q p ≡ b → journal engine start (opening p o ∷ cs) q ≡ journal engine start cs q
+        same-lines q true e = rw (eqb-true q p e) (written ∙ ap (λ (t : Bool). cond t ((opening p o ∷ cs) ∷ []) (journal engine start cs p)) f)
+        same-lines q false e = journal-else start (opening p o) cs q e
 
-    module _ (room : (p : ℕ) → Honest (world engine S H) p → length (start p) ≡ stateWords) where
-      nothing-yet : Tracks [] [] []
-      unfolding words isOpened wasSent
-      nothing-yet =
-          record {
-            size = room;
-            none = λ p k o. not-opened engine start o;
-            some = λ p k. absurd (false≢true k);
-            equal = λ p k. absurd (false≢true k);
-            sent = λ m b k. absurd (false≢true k);
-            meet = tt;
-          }
+    -- the first one there, under the own number
+    first-next : opens o ≡ true → isOpened xs p ≡ false → o .own ≡ p → agreed o ≡ S → o .input ≡ v → Tracks start S H v (opening p o ∷ cs) (record { who = p; list = first o; lines = firstLines o } ∷ xs) gs
+    unfolding isOpened wordsOf linesOf firstLines among
+    first-next f none own agree put-in =
+        record {
+          size = λ q h. size-next start (opening p o) cs tt q (x .size q h);
+          none = λ q k u. not-other q (eqb q p) refl k (opened-cases engine start u);
+          some = λ q k. opened-there q (eqb q p) refl k;
+          equal = λ q k. words-there q (eqb q p) refl k;
+          lines = λ q k. lines-there q (eqb q p) refl k;
+          gone = λ m b d. x .gone m b (departed-before engine start tt d);
+          meet = (honest, record { agree = λ e t. agree; once = λ u. absurd (x .none p none u); put-in = λ e t. put-in }, x .meet);
+        }
+      where
+        not-other : (q : ℕ) (b : Bool) → eqb q p ≡ b → cond b true (isOpened xs q) ≡ false → ((q ≡ p) × (engine .opens (words engine start cs p) o ≡ true)) ⊎ Opened engine start cs q → ⊥
+        not-other q true e k u = false≢true (sym k)
+        not-other q false e k (inl u) = eqb-false q p e (u .0)
+        not-other q false e k (inr u) = x .none q k u
 
-      pub run-tracks : (cs : List (Call engine)) → run S H v cs .right ≡ true → Tracks cs (run S H v cs .states) (run S H v cs .sent)
-      unfolding run step
-      run-tracks [] e = nothing-yet
-      run-tracks (c ∷ cs) e =
-          next (run-tracks cs (and-left (run S H v cs .right) _ e)) c (and-right (run S H v cs .right) _ e)
+        here : Opened engine start (opening p o ∷ cs) p
+        here = record { given = o; past = cs; within = now; numbered = own; accepted = answered ∙ f }
+
+        opened-there : (q : ℕ) (b : Bool) → eqb q p ≡ b → cond b true (isOpened xs q) ≡ true → Opened engine start (opening p o ∷ cs) q
+        opened-there q true e k = rw (eqb-true q p e) here
+        opened-there q false e k = opened-later engine start (opening p o) (x .some q k)
+
+        first-words : words engine start (opening p o ∷ cs) p ≡ first o
+        first-words = leaves ∙ ap (λ (t : Bool). cond t (first o) (words engine start cs p)) f
+
+        first-journal : journal engine start (opening p o ∷ cs) p ≡ (opening p o ∷ cs) ∷ []
+        first-journal = written ∙ ap (λ (t : Bool). cond t ((opening p o ∷ cs) ∷ []) (journal engine start cs p)) f
+
+        first-matches : AllMatch start p (record { text = engine .opening-line o; after = first o; sent = [] } ∷ []) ((opening p o ∷ cs) ∷ [])
+        first-matches = (record { text = refl; leaves = first-words; size = size-next start (opening p o) cs tt p (x .size p honest); sent = λ b e. absurd (false≢true e) }, tt)
+
+        words-there : (q : ℕ) (b : Bool) → eqb q p ≡ b → cond b true (isOpened xs q) ≡ true → words engine start (opening p o ∷ cs) q ≡ cond b (first o) (wordsOf xs q)
+        words-there q true e k = rw (eqb-true q p e) first-words
+        words-there q false e k = words-else start (opening p o) cs q e ∙ x .equal q k
+
+        lines-there : (q : ℕ) (b : Bool) → eqb q p ≡ b → cond b true (isOpened xs q) ≡ true → AllMatch start q (cond b (record { text = engine .opening-line o; after = first o; sent = [] } ∷ []) (linesOf xs q)) (journal engine start (opening p o ∷ cs) q)
+        lines-there q true e k = rw (eqb-true q p e, first-journal) first-matches
+        lines-there q false e k = rw (journal-else start (opening p o) cs q e) (x .lines q k)
+
+    opening-next : openingRight S H v p o xs ≡ true → Tracks start S H v (opening p o ∷ cs) (statesAfter (opening p o) xs) gs
+    unfolding openingRight statesAfter
+    opening-next e = go (opens o) refl e
+      where
+        go : (b : Bool) → opens o ≡ b → not b || not (isOpened xs p) && (eqb (o .own) p && (sameSession (agreed o) S && eqb (o .input) v)) ≡ true → Tracks start S H v (opening p o ∷ cs) (cond b (record { who = p; list = first o; lines = firstLines o } ∷ xs) xs) gs
+        go false f d = refused-next f
+        go true f d =
+            let d1 = and-right (not (isOpened xs p)) _ d in
+            let d2 = and-right (eqb (o .own) p) _ d1 in
+            first-next f
+            (not-true (isOpened xs p) (and-left (not (isOpened xs p)) _ d))
+            (eqb-true (o .own) p (and-left (eqb (o .own) p) _ d1))
+            (same-session (agreed o) S (and-left (sameSession (agreed o) S) _ d2))
+            (eqb-true (o .input) v (and-right (sameSession (agreed o) S) _ d2))
+
+  -- ---- a call
+
+  next : (c : Call engine) → AllSized (c ∷ cs) → callRight S H v c xs gs ≡ true → Tracks start S H v (c ∷ cs) (statesAfter c xs) (goneAfter c xs gs)
+  unfolding callRight goneAfter statesAfter
+  next (opening p o) s e =
+      opening-next p o (listed-honest start S H v p (and-left (listed S H v p) _ e)) (and-right (listed S H v p) _ e)
+  next (delivery p m b) s e =
+      let h = listed-honest start S H v p (and-left (listed S H v p) _ e) in
+      delivery-next p m b h (credited p m b h (and-right (listed S H v p) _ e))
+  next (turn p l) s e = turn-next p l (listed-honest start S H v p e)
+  next (report p r) s e =
+      entry-next start S H v x (report p r) (wordsOf xs p) (linesOf xs p) gs tt (λ q h. size-next start (report p r) cs tt q (x .size q h))
+      (λ k. words-here start (report p r) cs ∙ x .equal p k) (λ k. rw (journal-here start (report p r) cs) (x .lines p k))
+      (λ m b d. x .gone m b (departed-before engine start tt d)) (listed-honest start S H v p e, tt, x .meet)
+  next (restore p u r) s e =
+      let f = and-right (listed S H v p) _ e in
+      let g = and-right (isOpened xs p) _ f in
+      let right = restoreRight r (linesOf xs p) in
+      restore-next start S H v x p u r (s .0) (and-left (isOpened xs p) _ f) (and-left right _ g)
+      (listed-honest start S H v p (and-left (listed S H v p) _ e)) (and-right right _ g)
+
+sized-tail : (c : Call engine) (cs : List (Call engine)) → AllSized (c ∷ cs) → AllSized cs
+sized-tail (opening p o) cs s = s
+sized-tail (delivery p m b) cs s = s
+sized-tail (turn p l) cs s = s
+sized-tail (report p r) cs s = s
+sized-tail (restore p u r) cs s = s .1
+
+module _ (start : ℕ → List ℕ) (S : Agreed) (H : ℕ → Bool) (v : ℕ) (room : (p : ℕ) → Honest (world engine S H) p → length (start p) ≡ stateWords) where
+  nothing-yet : Tracks start S H v [] [] []
+  unfolding words isOpened
+  nothing-yet =
+      record {
+        size = room;
+        none = λ p k o. not-opened engine start o;
+        some = λ p k. absurd (false≢true k);
+        equal = λ p k. absurd (false≢true k);
+        lines = λ p k. absurd (false≢true k);
+        gone = λ m b d. absurd (not-departed engine start d);
+        meet = tt;
+      }
+
+  pub run-tracks : (cs : List (Call engine)) → AllSized cs → run S H v cs .right ≡ true → Tracks start S H v cs (run S H v cs .states) (run S H v cs .gone)
+  unfolding run step
+  run-tracks [] s e = nothing-yet
+  run-tracks (c ∷ cs) s e =
+      next start S H v (run-tracks cs (sized-tail c cs s) (and-left (run S H v cs .right) _ e)) c s (and-right (run S H v cs .right) _ e)

@@ -21,6 +21,7 @@ use Rattle.agreement.specs.Calls.{Call, opening, report, engine, Agreed, world}
 use Rattle.agreement_example.specs.Checking.{wordsOf, run}
 use Rattle.agreement_example.specs.Example.{Example, passes, passes-example}
 use Rattle.agreement_example.specs.Refusals.{refusals}
+use Rattle.agreement_example.specs.Tracking.{AllSized}
 use Rattle.agreement_example.specs.Messages.{openingWith, deliver, turnOf}
 use Rattle.turn_bound.specs.Computing.{calls}
 use Rattle.agreement_example.specs.Computing.{checks}
@@ -94,8 +95,12 @@ weighted-pass : passes session firstTwo 5 weightedCalls ≡ true
 unfolding calls checks openings turns toBoth fromBoth twice untilReadies untilDecided weightedCalls
 weighted-pass = refl
 
+weighted-sized : AllSized weightedCalls
+unfolding checks openings turns toBoth fromBoth twice untilReadies untilDecided weightedCalls
+weighted-sized = tt
+
 weighted-meet : WeightedMeet
-weighted-meet start room = passes-example start session firstTwo 5 weightedCalls room weighted-pass
+weighted-meet start room = passes-example start session firstTwo 5 weightedCalls room weighted-sized weighted-pass
 
 -- no call is refused
 pub weighted-refusals : refusals session firstTwo 5 weightedCalls .numbers ≡ []

@@ -3,6 +3,8 @@
 ghost use Rattle.agreement_example.specs.One.{OneMeets};
 ghost use Rattle.agreement_example.specs.Four.{FourMeet};
 ghost use Rattle.agreement_example.specs.Weighted.{HeavyDecides};
+ghost use Rattle.agreement_example.specs.PowerLost.{LostMeets};
+ghost use Rattle.agreement_example.specs.LineLost.{LineMissed};
 
 // One concentrator closes with the set of its own input.
 pub fn one_concentrator()
@@ -17,4 +19,14 @@ pub fn four_concentrators()
 // A heavy and a light honest concentrator close by Exit 2, whose majority is the heavy one's weight.
 pub fn weighted_concentrators()
     ensures { λ _. ⌜ HeavyDecides ⌝ }
+{}
+
+// One concentrator loses power twice, falls back both times to a cut of its journal, and closes.
+pub fn restored_concentrator()
+    ensures { λ _. ⌜ LostMeets ⌝ }
+{}
+
+// A list that restores one without the line of a message that left does not meet the conditions, so that one counts as a liar.
+pub fn lost_line()
+    ensures { λ _. ⌜ LineMissed ⌝ }
 {}

@@ -2,9 +2,12 @@
 use Prim.Native.Nat.{ℕ, _+_, _*_, _/_, _%_, _^_, _≤_, _<_}
 use mathlib.Core.Bool.{Bool, true, false, cond}
 use mathlib.Core.List.{List}
+use mathlib.Core.Option.{Option, none, some}
 use mathlib.Core.Path.{_≡_, refl, sym, ap, _∙_}
 use native.Mathlib.Omega.{arith}
-use lib.Dec.{ltb}
+use lib.Dec.{eqb, ltb}
+use lib.ListN.{length}
+use borrow.Author.Tests.{eqb-true, lt-ltb, le-ltb}
 use mir.Val.{Fits}
 use mir.Syntax.{w64}
 use Rattle.settings.specs.declared.Settings.{Settings}
@@ -29,7 +32,26 @@ use Rattle.report.specs.Laws.{reported, turns-few}
 use Rattle.report.specs.declared.Figures.{Figures}
 use Rattle.report.specs.declared.Answer.{Answer}
 use Rattle.report.specs.declared.Answer.the-variants as report
-use Rattle.cabi.specs.Answers.{outcomeNumber, figuresNumber, reportNumber}
+use Rattle.journal.specs.Laws.{line-taken}
+use Rattle.journal.specs.Journal.{lineEntry, openNumber, openEntry, deliverNumber, deliverEntry}
+use Rattle.journal.specs.Fitting.{opening-fits, delivery-fits}
+use Rattle.journal.specs.declared.Entry.{Entry}
+use Rattle.journal.specs.declared.Entry.the-variants as journal
+use Rattle.restore.specs.Complete.{linesOf, joined}
+use Rattle.restore.specs.Restoring.{Replay, wrong, right, replay, lengthAgain, replayAnswer, lentAnswer, restoreAnswer}
+use Rattle.restore.specs.declared.Restored.{Restored}
+use Rattle.restore.specs.declared.Restored.the-variants as restore
+use Rattle.cabi.specs.Answers.{entryNumber, outcomeNumber, figuresNumber, reportNumber, restoredNumber}
+
+-- the length of a line that is written, and of a message that is given again
+abbrev pub lineLength : Entry → ℕ
+lineLength (journal.Refused k) = 0
+lineLength (journal.Line l) = l
+
+abbrev pub messageLength : Restored → ℕ
+messageLength (restore.Refused k) = 0
+messageLength (restore.Journal k) = 0
+messageLength (restore.Given m bytes) = m
 
 -- a message that is sent has at most 16 values
 act-few : (own : ℕ) (g : Settings) (s : List ℕ) (a : Act) → ActTold g s a → sentLength (outcomeOf own s a) ≤ 140
@@ -80,6 +102,109 @@ module _ (s : List ℕ) (room : ℕ) (o : Outcome) (e : o ≡ turnOutcome s room
   turn-number r f = f ∙ ap outcomeNumber e
 
 pub ruleset turn-cases = (turn-few, turn-number)
+
+module _ (e : Entry) (h : lineLength e ≤ 512) (l : ℕ) (f : e ≡ journal.Line l) where
+  pub line-fits : Fits w64 (65536 * l)
+  line-fits = let q : l ≤ 512 = rw f at h in record { fits = omega arith }
+
+  pub line-number : 65536 * l ≡ entryNumber e
+  line-number = rw f
+
+pub ruleset entry-cases = (line-fits, line-number)
+
+entry-few : (k : ℕ) (line : List ℕ) → (k ≡ 0 → length line ≤ 512) → lineLength (lineEntry k line) ≤ 512
+unfolding lineEntry
+entry-few k line h = go (eqb k 0) refl
+  where
+    go : (b : Bool) → eqb k 0 ≡ b → lineLength (cond b (journal.Line (length line)) (journal.Refused k)) ≤ 512
+    go true f = h (eqb-true k 0 f)
+    go false f = omega arith
+
+module _ (words n ta ts own session input : ℕ) (coins weights : List ℕ) (room : ℕ) (e : Entry) (f : e ≡ openEntry words n ta ts own session input coins weights room) where
+  pub open-few : lineLength e ≤ 512
+  unfolding openEntry openNumber
+  open-few = rw f (entry-few _ _ (λ z. opening-fits words n ta ts own session input coins weights (line-taken _ room z .0)))
+
+  pub open-number : (r : ℕ) → r ≡ entryNumber e → r ≡ entryNumber (openEntry words n ta ts own session input coins weights room)
+  open-number r g = g ∙ ap entryNumber f
+
+module _ (s : List ℕ) (link : ℕ) (b : List ℕ) (room : ℕ) (e : Entry) (f : e ≡ deliverEntry s link b room) where
+  pub deliver-few : lineLength e ≤ 512
+  unfolding deliverEntry deliverNumber
+  deliver-few = rw f (entry-few _ _ (λ z. delivery-fits s link b (line-taken _ room z .0)))
+
+  pub deliver-number : (r : ℕ) → r ≡ entryNumber e → r ≡ entryNumber (deliverEntry s link b room)
+  deliver-number r g = g ∙ ap entryNumber f
+
+pub ruleset line-cases = (open-few, open-number, deliver-few, deliver-number)
+
+again-few : (x : Option (List ℕ)) → lengthAgain x ≤ 140
+unfolding lengthAgain
+again-few none = omega arith
+again-few (some w) = sent-few w 140
+
+replay-few : (x : Replay) (bytes : ℕ) → messageLength (replayAnswer x bytes) ≤ 140
+unfolding replayAnswer
+replay-few (wrong k) bytes = omega arith
+replay-few (right x) bytes = again-few (x .turned)
+
+restore-answer-few : (v j : List ℕ) (room : ℕ) → messageLength (restoreAnswer v j room) ≤ 140
+unfolding restoreAnswer
+restore-answer-few v j room = go (eqb (lentAnswer (length v) room) 0)
+  where
+    go : (b : Bool) → messageLength (cond b (replayAnswer (replay (linesOf j)) (length (joined (linesOf j)))) (restore.Refused (lentAnswer (length v) room))) ≤ 140
+    go true = replay-few (replay (linesOf j)) _
+    go false = omega arith
+
+pub again-some : (m : ℕ) → 0 < m → _≡_ {A = ℕ} 1 (cond (ltb 0 m) 1 0)
+again-some m h = rw (lt-ltb 0 m h)
+
+pub again-none : (m : ℕ) → m ≤ 0 → _≡_ {A = ℕ} 0 (cond (ltb 0 m) 1 0)
+again-none m h = rw (le-ltb 0 m h)
+
+pub ruleset again-cases = (again-some, again-none)
+
+-- each part stays within its bits
+again-bit : (b : Bool) → cond b 1 0 ≤ 1
+again-bit true = omega arith
+again-bit false = omega arith
+
+module _ (a : Restored) (h : messageLength a ≤ 140) where
+  pub journal-number : (line : ℕ) → a ≡ restore.Journal line → 15 + 256 * (line % 72057594037927936) ≡ restoredNumber a
+  journal-number line f = rw f
+
+  module _ (m bytes : ℕ) (f : a ≡ restore.Given m bytes) (g : ℕ) (q : g ≡ cond (ltb 0 m) 1 0) where
+    few-again : m ≤ 140
+    few-again = rw f at h
+
+    one-again : g ≤ 1
+    one-again = rw q (again-bit (ltb 0 m))
+
+    pub flag-fits : Fits w64 (256 * g)
+    flag-fits = record { fits = omega (arith, one-again) }
+
+    pub message-fits : Fits w64 (65536 * m)
+    message-fits = record { fits = omega (arith, few-again) }
+
+    pub both-fit : Fits w64 (256 * g + 65536 * m)
+    both-fit = record { fits = omega (arith, few-again, one-again) }
+
+    pub all-fit : Fits w64 (256 * g + 65536 * m + 4294967296 * (bytes % 4294967296))
+    all-fit = record { fits = omega (arith, few-again, one-again) }
+
+    pub given-number : 256 * g + 65536 * m + 4294967296 * (bytes % 4294967296) ≡ restoredNumber a
+    given-number = rw (f, q)
+
+pub ruleset restored-cases = (journal-number, flag-fits, message-fits, both-fit, all-fit, given-number)
+
+module _ (v j : List ℕ) (room : ℕ) (a : Restored) (f : a ≡ restoreAnswer v j room) where
+  pub restore-few : messageLength a ≤ 140
+  restore-few = rw f (restore-answer-few v j room)
+
+  pub restore-number : (r : ℕ) → r ≡ restoredNumber a → r ≡ restoredNumber (restoreAnswer v j room)
+  restore-number r g = g ∙ ap restoredNumber f
+
+pub ruleset restore-cases = (restore-few, restore-number)
 
 module _ (s : List ℕ) (x y : ℕ) (a : Answer) (e : a ≡ reportAnswer s x y) where
   pub report-refused : (k : ℕ) → a ≡ report.Refused k → k ≡ reportNumber (reportAnswer s x y)

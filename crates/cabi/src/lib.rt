@@ -1,18 +1,33 @@
-// The four calls of a concentrator's own program, which is written in C. Each answers one number: specs/Answers.antt has its bits.
+// The five calls of a concentrator's own program, which is written in C. Each answers one number: specs/Answers.antt has its bits.
+use journal::Entry;
 use report::Answer;
 use report::Figures;
+use restore::Restored;
+use settings::refusal;
 use turn::Outcome;
 ghost use mathlib.Core.Path.{_≡_};
 ghost use Prim.Native.Nat.{_<_, _≤_};
 ghost use lib.ListN.{length};
-ghost use Rattle.opening.specs.Given.{weightsWord};
-ghost use Rattle.opening.specs.Opening.{openAnswer, opened};
-ghost use Rattle.delivery.specs.Delivery.{deliverAnswer, delivered};
+ghost use lib.Dec.{ltb};
+ghost use mathlib.Core.Bool.{cond};
+ghost use Rattle.journal.specs.Journal.{openEntry, openedWords, openedBytes, deliverEntry, deliveredWords, deliveredBytes, turnRoom, turnedMessage, turnedLine};
 ghost use Rattle.report.specs.Report.{reportAnswer, reportNamed, reportInForce};
-ghost use Rattle.turn.specs.Turn.{sentLength, turnOutcome, turnWords, turnBytes};
-ghost use Rattle.cabi.specs.Answers.{outcomeNumber, figuresNumber, reportNumber};
+ghost use Rattle.restore.specs.Restoring.{restoreAnswer, restoredWords, restoredBytes};
+ghost use Rattle.turn.specs.Turn.{sentLength, turnOutcome, turnWords};
+ghost use Rattle.cabi.specs.Answers.{entryNumber, outcomeNumber, figuresNumber, reportNumber, restoredNumber};
+ghost use Rattle.cabi.specs.Cases.{lineLength, messageLength};
 
-// Opens a session in the lent words.
+fn entry_number(e: Entry) -> u64
+    requires { ⌜ lineLength e ≤ 512 ⌝ }
+    ensures { λ r. ⌜ r ≡ entryNumber e ⌝ }
+{
+    match e {
+        Entry::Refused(k) => k,
+        Entry::Line(l) => 65536 * l,
+    }
+}
+
+// Opens a session in the lent words; its line of the journal stands at the front of the last lent bytes.
 #[no_mangle]
 pub extern "C" fn pack_open(
     state: &mut [u64],
@@ -24,20 +39,23 @@ pub extern "C" fn pack_open(
     input: u64,
     coins: &[u32],
     weights: &[u8],
+    line: &mut [u8],
 ) -> u64
-    ensures answer { λ r. ⌜ r ≡ openAnswer (length (now (state .entry))) n ta ts (weightsWord n (now (weights .entry))) own (length (now (coins .entry))) ⌝ }
-    ensures words { λ _. ⌜ now (state .exit) ≡ opened (now (state .entry)) n ta ts (weightsWord n (now (weights .entry))) own session input (now (coins .entry)) ⌝ }
+    ensures answer { λ r. ⌜ r ≡ entryNumber (openEntry (length (now (state .entry))) n ta ts own session input (now (coins .entry)) (now (weights .entry)) (length (now (line .entry)))) ⌝ }
+    ensures words { λ _. ⌜ now (state .exit) ≡ openedWords (now (state .entry)) n ta ts own session input (now (coins .entry)) (now (weights .entry)) (length (now (line .entry))) ⌝ }
+    ensures bytes { λ _. ⌜ now (line .exit) ≡ openedBytes (length (now (state .entry))) n ta ts own session input (now (coins .entry)) (now (weights .entry)) (now (line .entry)) ⌝ }
 {
-    opening::open(state, n, ta, ts, own, session, input, coins, weights)
+    entry_number(journal::open(state, n, ta, ts, own, session, input, coins, weights, line))
 }
 
-// Delivers a message that came over the link of a concentrator.
+// Delivers a message that came over the link of a concentrator; its line stands at the front of the last lent bytes.
 #[no_mangle]
-pub extern "C" fn pack_deliver(state: &mut [u64], link: u64, message: &[u8]) -> u64
-    ensures answer { λ r. ⌜ r ≡ deliverAnswer (now (state .entry)) link (now (message .entry)) ⌝ }
-    ensures words { λ _. ⌜ now (state .exit) ≡ delivered (now (state .entry)) link (now (message .entry)) ⌝ }
+pub extern "C" fn pack_deliver(state: &mut [u64], link: u64, message: &[u8], line: &mut [u8]) -> u64
+    ensures answer { λ r. ⌜ r ≡ entryNumber (deliverEntry (now (state .entry)) link (now (message .entry)) (length (now (line .entry)))) ⌝ }
+    ensures words { λ _. ⌜ now (state .exit) ≡ deliveredWords (now (state .entry)) link (now (message .entry)) (length (now (line .entry))) ⌝ }
+    ensures bytes { λ _. ⌜ now (line .exit) ≡ deliveredBytes (now (state .entry)) link (now (message .entry)) (now (line .entry)) ⌝ }
 {
-    delivery::deliver(state, link, message)
+    entry_number(journal::deliver(state, link, message, line))
 }
 
 fn outcome_number(o: Outcome) -> u64
@@ -53,14 +71,15 @@ fn outcome_number(o: Outcome) -> u64
     }
 }
 
-// Takes a turn: a message that is sent stands at the front of the lent bytes.
+// Takes a turn: a message that is sent stands at the front of the lent bytes, its line at the front of the last ones.
 #[no_mangle]
-pub extern "C" fn pack_turn(state: &mut [u64], message: &mut [u8]) -> u64
-    ensures answer { λ r. ⌜ r ≡ outcomeNumber (turnOutcome (now (state .entry)) (length (now (message .entry)))) ⌝ }
-    ensures words { λ _. ⌜ now (state .exit) ≡ turnWords (now (state .entry)) (length (now (message .entry))) ⌝ }
-    ensures bytes { λ _. ⌜ now (message .exit) ≡ turnBytes (now (state .entry)) (now (message .entry)) ⌝ }
+pub extern "C" fn pack_turn(state: &mut [u64], message: &mut [u8], line: &mut [u8]) -> u64
+    ensures answer { λ r. ⌜ r ≡ outcomeNumber (turnOutcome (now (state .entry)) (turnRoom (length (now (message .entry))) (length (now (line .entry))))) ⌝ }
+    ensures words { λ _. ⌜ now (state .exit) ≡ turnWords (now (state .entry)) (turnRoom (length (now (message .entry))) (length (now (line .entry)))) ⌝ }
+    ensures bytes { λ _. ⌜ now (message .exit) ≡ turnedMessage (now (state .entry)) (now (message .entry)) (length (now (line .entry))) ⌝ }
+    ensures line_bytes { λ _. ⌜ now (line .exit) ≡ turnedLine (now (state .entry)) (length (now (message .entry))) (now (line .entry)) ⌝ }
 {
-    outcome_number(turn::turn(state, message))
+    outcome_number(journal::turn(state, message, line))
 }
 
 fn figures_number(f: Figures) -> u64
@@ -85,4 +104,34 @@ pub extern "C" fn pack_report(state: &[u64], named: &mut [u64], in_force: &mut [
         Answer::Refused(k) => k,
         Answer::Given(f) => figures_number(f),
     }
+}
+
+// 1 where a message is given again.
+fn given_again(length: u64) -> u64
+    ensures { λ r. ⌜ r ≡ cond (ltb 0 length) 1 0 ⌝ }
+{
+    if 0 < length { 1 } else { 0 }
+}
+
+fn restored_number(a: Restored) -> u64
+    requires { ⌜ messageLength a ≤ 140 ⌝ }
+    ensures { λ r. ⌜ r ≡ restoredNumber a ⌝ }
+{
+    match a {
+        Restored::Refused(k) => k,
+        Restored::Journal(line) => refusal::JOURNAL + 256 * (line % 72057594037927936),
+        Restored::Given(m, bytes) => {
+            256 * given_again(m) + 65536 * m + 4294967296 * (bytes % 4294967296)
+        }
+    }
+}
+
+// Restores a state from its journal; the message of the last line, if it sent one, stands at the front of the lent bytes.
+#[no_mangle]
+pub extern "C" fn pack_restore(state: &mut [u64], journal: &[u8], message: &mut [u8]) -> u64
+    ensures answer { λ r. ⌜ r ≡ restoredNumber (restoreAnswer (now (state .entry)) (now (journal .entry)) (length (now (message .entry)))) ⌝ }
+    ensures words { λ _. ⌜ now (state .exit) ≡ restoredWords (now (state .entry)) (now (journal .entry)) (length (now (message .entry))) ⌝ }
+    ensures bytes { λ _. ⌜ now (message .exit) ≡ restoredBytes (length (now (state .entry))) (now (journal .entry)) (now (message .entry)) ⌝ }
+{
+    restored_number(restore::restore(state, journal, message))
 }

@@ -38,7 +38,8 @@ use Rattle.turn_bound.specs.Count.{turn-count}
 use Rattle.held.specs.Held.{Message, SEND, ECHO, READY, EST, AUX, COMMIT, Numbered, holds}
 use Rattle.opening.specs.Ones.{ones-word}
 use Rattle.costliest.specs.Calls.{coinWords, opens, packs, each, say, turns, commit, heard, acted, costly, costliestCalls}
-use Rattle.costliest.specs.Statement.{Costliest}
+use Rattle.costliest.specs.Statement.{Costliest, wholeSession}
+use Rattle.turn_bound.specs.Lined.{lined-opened, lined-turns}
 use Rattle.costliest.specs.Saying.{settings, Allowed, Good, ruled}
 use Rattle.costliest.specs.Hearing.{Brings, Prepared, heard-ready, commits-bringing}
 use Rattle.costliest.specs.Idle.{idle-count}
@@ -211,9 +212,10 @@ module _ (n : ℕ) (two : 2 ≤ n) (low : 1 ≤ n) (few : n ≤ 16) (s : List �
       omega (arith, counts (costly n), counts last, counts (acted n), enough, final, most, turn-bound-sum (settings n))
 
 pub costliest : Costliest
-unfolding Costliest costliestCalls
+unfolding Costliest wholeSession costliestCalls
 costliest n two few s size =
+    let taken = accepted n two (omega arith) few s size in
     record {
-      is-opened = accepted n two (omega arith) few s size;
-      exactly = rw (ne-eqb n 1 (λ e. omega arith)) (exactly n two (omega arith) few s size);
+      is-opened = lined-opened s (opens n) taken;
+      exactly = rw (ne-eqb n 1 (λ e. omega arith)) (lined-turns s (opens n) taken (costly n) ∙ exactly n two (omega arith) few s size);
     }

@@ -13,7 +13,8 @@ use Rattle.turn_bound.specs.TurnBound.{answer, openedBy, after, TurnCount}
 use Rattle.turn_bound.specs.Count.{turn-count}
 use Rattle.turn_bound.specs.Computing.{calls}
 use Rattle.costliest.specs.Calls.{coinWords, opens, each, say, turns, commit, packs, five, costliestCalls}
-use Rattle.costliest.specs.Statement.{FiveTurns}
+use Rattle.costliest.specs.Statement.{FiveTurns, wholeSession}
+use Rattle.turn_bound.specs.Lined.{lined-opened, lined-turns}
 
 computed : word (after (openWords 1 0 0 1 1 7 5 (0 ∷ [])) five) turnsAt ≡ 5
 unfolding calls five turns each commit say packs after
@@ -35,9 +36,9 @@ unfolding opened opens coinWords
 first-is s e = ap (λ (w : ℕ). opened s 1 0 0 w 1 7 5 (0 ∷ [])) word-one ∙ rw (accepted-word s e)
 
 pub five-turns : FiveTurns
-unfolding FiveTurns TurnCount costliestCalls
+unfolding FiveTurns wholeSession TurnCount costliestCalls
 five-turns s e =
     record {
-      is-opened = accepted s e;
-      exactly = sym (turn-count s (opens 1) (accepted s e) five .stored) ∙ ap (λ (w : List ℕ). word (after w five) turnsAt) (first-is s e) ∙ computed;
+      is-opened = lined-opened s (opens 1) (accepted s e);
+      exactly = lined-turns s (opens 1) (accepted s e) five ∙ sym (turn-count s (opens 1) (accepted s e) five .stored) ∙ ap (λ (w : List ℕ). word (after w five) turnsAt) (first-is s e) ∙ computed;
     }

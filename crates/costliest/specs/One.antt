@@ -49,6 +49,7 @@ use Rattle.turn_bound.specs.Sound.{Sound}
 use Rattle.turn_bound.specs.Delivering.{Delivered, delivery-sound}
 use Rattle.turn_bound.specs.Opened.{opened-ruled}
 use Rattle.turn_bound.specs.Count.{going, opening-going, refused-words}
+use Rattle.turn_bound.specs.CallCount.{calls-stepped}
 use Rattle.costliest.specs.Statement.{AtMostFive}
 
 -- the vote has not begun
@@ -232,4 +233,8 @@ module _ (s : List ℕ) (o : Arguments) (e : answer s o ≡ 0) where
 
 pub at-most-five : AtMostFive
 unfolding AtMostFive
-at-most-five s o e cs one lit = few-turns s o e cs one lit
+at-most-five s cs e one lit =
+    let x = calls-stepped s cs e in
+    let n : current (settingsBy (x .arguments)) (openedBy (x .first) (x .arguments)) (x .steps) .n ≡ 1 = ap (λ (g : Settings). g .n) (x .settings) ∙ one in
+    let w : current (settingsBy (x .arguments)) (openedBy (x .first) (x .arguments)) (x .steps) .weights ≡ 1 = ap (λ (g : Settings). g .weights) (x .settings) ∙ lit in
+    rw (x .count) at (few-turns (x .first) (x .arguments) (x .opens) (x .steps) n w)

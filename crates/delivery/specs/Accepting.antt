@@ -9,14 +9,16 @@ use lib.Seq.{take-all}
 use mir.Val.{Fits}
 use mir.Syntax.{w8}
 use Rattle.records.specs.Records.{closed}
-use Rattle.session.specs.Session.{stored, settingsOf, sessionWith, sessionOf}
+use Rattle.session.specs.Session.{stored, sessionWith, sessionOf}
 use Rattle.session.specs.Laws.{State, Read, held-read}
 use Rattle.session.specs.declared.Session.{Session}
 use Rattle.session.specs.declared.Stored.{Stored}
 use Rattle.session.specs.declared.Stored.the-variants.{NoState, Held}
 use Rattle.wire.specs.Reading.{readMessage}
-use Rattle.wire_laws.proofs.Converse.{Passed, taken-passed}
+use Rattle.wire_laws.specs.Laws.{Form}
+use Rattle.wire_laws.proofs.Converse.{Passed, taken-passed, taken-form}
 use Rattle.wire.specs.declared.Message.{Message}
+use Rattle.wire.specs.declared.Message.the-variants.{Send, Echo, Ready, Est, Aux, Commit}
 use Rattle.wire.specs.declared.Parsed.{Parsed}
 use Rattle.wire.specs.declared.Parsed.the-variants as parsed
 use Rattle.delivery.specs.Delivery.{placeHeld, judged, verdictIn, verdictFor, verdict, recorded, answerOf, wordsAfter, deliverAnswer, delivered}
@@ -84,6 +86,17 @@ module _ (s : List ℕ) (link : ℕ) (b : List ℕ) (v : Verdict) (e : v ≡ ver
 
     pub accepted-long : 12 ≤ length b
     accepted-long = told .long
+
+    pub accepted-short : length b ≤ 140
+    accepted-short = of m (taken-form _ _ link b m (accepting s link b m (sym e ∙ t) .taken))
+      where
+        of : (k : Message) → Form (sessionOf s .settings .n) (sessionOf s .number) link b k → length b ≤ 140
+        of (Send i v) f = omega (arith, f .size)
+        of (Echo i v) f = omega (arith, f .size)
+        of (Ready i v) f = omega (arith, f .size)
+        of (Est i r v) f = omega (arith, f .size)
+        of (Aux i r v) f = omega (arith, f .size)
+        of (Commit c) f = omega (arith, f .size, f .layout .1, few)
 
     pub accepted-answer : 0 ≡ deliverAnswer s link b
     unfolding deliverAnswer answerOf

@@ -5,7 +5,7 @@ use mathlib.Core.List.{List}
 use mathlib.Core.Path.{_≡_, refl, sym, ap, _∙_}
 use native.Mathlib.Omega.{arith}
 use lib.Dec.{eqb}
-use lib.ListN.{drop}
+use lib.ListN.{length, drop}
 use Rattle.records.specs.Records.{closed}
 use Rattle.settings.specs.Refusals.{LENGTH, KIND, SESSION, SENDER, FIELD, VALUE, CLOSED, HELD}
 use Rattle.session.specs.Session.{stored}
@@ -18,6 +18,7 @@ use Rattle.wire.specs.declared.Message.{Message}
 use Rattle.wire.specs.declared.Parsed.{Parsed}
 use Rattle.wire.specs.declared.Parsed.the-variants as parsed
 use Rattle.delivery.specs.Delivery.{placeHeld, judged, verdictIn, verdictFor, verdict, recorded, answerOf, wordsAfter, deliverAnswer, delivered}
+use Rattle.delivery.specs.Accepting.{accepted-short}
 use Rattle.delivery.specs.declared.Verdict.{Verdict}
 use Rattle.delivery.specs.declared.Verdict.the-variants.{Refused, Accepted}
 
@@ -103,6 +104,10 @@ answer-accepted s link b e = of (verdict s link b) refl (verdict-numbered s link
     of : (v : Verdict) → verdict s link b ≡ v → NumberedVerdict v → Taking s link b
     of (Refused k) f h = absurd (let z : k ≡ 0 = sym (ap answerOf f) ∙ e in omega arith)
     of (Accepted m) f h = record { message = m; accepted = f; words = ap (λ (v : Verdict). wordsAfter v s link b) f }
+
+-- nothing longer than the longest message is accepted
+pub answer-short : (s : List ℕ) (link : ℕ) (b : List ℕ) → deliverAnswer s link b ≡ 0 → length b ≤ 140
+answer-short s link b e = let t = answer-accepted s link b e in accepted-short s link b (verdict s link b) refl (t .message) (t .accepted)
 
 pub answer-refused : (s : List ℕ) (link : ℕ) (b : List ℕ) → (deliverAnswer s link b ≡ 0 → ⊥) → delivered s link b ≡ s
 unfolding deliverAnswer delivered answerOf wordsAfter

@@ -5,7 +5,7 @@ use mathlib.Core.List.{List, [], _∷_}
 use lib.Dec.{eqb}
 use Rattle.records.specs.Fill.{blank}
 use Rattle.drill_lines.specs.Automaton as lines
-use Rattle.drill_lines.specs.Text.{LF}
+use Rattle.text.specs.Fields.{LF}
 use Rattle.drill_core.specs.Judging.{isBad}
 use Rattle.drill_core.specs.Preparing.{noneGiven}
 use Rattle.drill_core.specs.Acting.{begun, World, world, taken}

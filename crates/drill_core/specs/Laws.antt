@@ -7,7 +7,7 @@ use native.Mathlib.Decide.{decLe}
 use lib.ListN.{length, take}
 use lib.Seq.{length-take-le}
 use borrow.Author.Tests.{lt-ltb, le-ltb}
-use Rattle.drill_lines.specs.Paste.{next, ended, Wrote, length-pasted}
+use Rattle.text.specs.Paste.{next, ended, Wrote, length-pasted}
 use Rattle.drill_core.specs.Feeding.{Drilling, fedBytes, startDrilling, atEnd}
 use Rattle.drill_core.specs.FeedingCases.{fed-parts}
 use Rattle.drill_core.specs.Output.{printed, drillOutput}

@@ -14,7 +14,7 @@ use Rattle.report.specs.declared.Answer.{Answer}
 use Rattle.report.specs.declared.Answer.the-variants.{Refused, Given}
 use Rattle.report.specs.declared.Figures.{Figures}
 use Rattle.drill_lines.specs.Text.{resultLine, sentLine, badLine}
-use Rattle.drill_lines.specs.Paste.{Wrote, ended, pasted, wrote-both}
+use Rattle.text.specs.Paste.{Wrote, ended, pasted, wrote-both}
 use Rattle.drill_feeder.specs.Parts.{stateOf}
 use Rattle.drill_feeder.specs.declared.Members.{Members}
 use Rattle.drill_core.specs.Judging.{afterSettings}

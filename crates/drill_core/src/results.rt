@@ -6,7 +6,7 @@ use drill_feeder::Members;
 use report::Answer;
 ghost use mathlib.Core.Path.{_≡_};
 ghost use mathlib.Core.Bool.{cond};
-ghost use Rattle.drill_lines.specs.Paste.{Wrote};
+ghost use Rattle.text.specs.Paste.{Wrote};
 ghost use Rattle.drill_feeder.specs.Parts.{stateOf};
 ghost use Rattle.drill_core.specs.Feeding.{drilling, atEnd, wordsOf, storeOf};
 ghost use Rattle.drill_core.specs.Output.{answerText, resultText, resultIf, results, summary, drillText, printed};

@@ -4,3 +4,4 @@ pub mod Steps
 pub mod Lines
 pub mod Cases
 pub mod RunCases
+pub mod Lined

@@ -6,10 +6,58 @@ use turn::Outcome;
 ghost use mathlib.Core.Path.{_≡_};
 ghost use lib.ListN.{length};
 ghost use Rattle.records.specs.Records.{closed};
+ghost use Rattle.opening.specs.Given.{weightsWord};
+ghost use Rattle.opening.specs.Opening.{opened};
+ghost use Rattle.delivery.specs.Delivery.{delivered};
 ghost use Rattle.turn.specs.Turn.{turnOutcome, turnWords, turnBytes};
 ghost use Rattle.report.specs.Report.{reportAnswer, reportNamed, reportInForce};
 ghost use Rattle.drill_feeder.specs.Parts.{stateOf, withState, roomFor, withRoom};
 ghost use Rattle.drill_feeder.specs.Lines.{openedAt, deliveredTo};
+
+// A turn, an opening and a delivery, lent bytes for a line that a drill does not keep.
+fn take_turn(state: &mut [u64], out: &mut [u8]) -> Outcome
+    ensures answer { λ r. ⌜ r ≡ turnOutcome (now (state .entry)) (length (now (out .entry))) ⌝ }
+    ensures words { λ _. ⌜ now (state .exit) ≡ turnWords (now (state .entry)) (length (now (out .entry))) ⌝ }
+    ensures bytes { λ _. ⌜ now (out .exit) ≡ turnBytes (now (state .entry)) (now (out .entry)) ⌝ }
+{
+    let mut line = [0u8; 512];
+    journal::turn(state, out, &mut line)
+}
+
+fn deliver(state: &mut [u64], link: u64, bytes: &[u8])
+    ensures { λ _. ⌜ now (state .exit) ≡ delivered (now (state .entry)) link (now (bytes .entry)) ⌝ }
+{
+    let mut line = [0u8; 512];
+    journal::deliver(state, link, bytes, &mut line);
+}
+
+fn open(
+    state: &mut [u64],
+    n: u64,
+    ta: u64,
+    ts: u64,
+    own: u64,
+    session: u32,
+    input: u64,
+    coins: &[u32],
+    weights: &[u8],
+)
+    ensures { λ _. ⌜ now (state .exit) ≡ opened (now (state .entry)) n ta ts (weightsWord n (now (weights .entry))) own session input (now (coins .entry)) ⌝ }
+{
+    let mut line = [0u8; 512];
+    journal::open(
+        state,
+        n,
+        ta,
+        ts,
+        own,
+        session,
+        input,
+        coins,
+        weights,
+        &mut line,
+    );
+}
 
 // A turn of session p, lent the room of message sent + 1.
 pub fn turn_of(words: &mut [u64], store: &mut [u8], p: u8, sent: u16) -> Outcome
@@ -23,7 +71,7 @@ pub fn turn_of(words: &mut [u64], store: &mut [u8], p: u8, sent: u16) -> Outcome
     let to = a.end;
     let first = b.start;
     let last = b.end;
-    turn::turn(&mut words[from..to], &mut store[first..last])
+    take_turn(&mut words[from..to], &mut store[first..last])
 }
 
 // Delivers bytes to session q over the link of a concentrator.
@@ -33,7 +81,7 @@ pub fn deliver_to(words: &mut [u64], q: u8, link: u64, bytes: &[u8])
     let a = parts::part_of(words.len(), parts::state_at(q), layout::STATE_WORDS);
     let from = a.start;
     let to = a.end;
-    delivery::deliver(&mut words[from..to], link, bytes);
+    deliver(&mut words[from..to], link, bytes);
 }
 
 // Opens session p, with weights of 1.
@@ -56,7 +104,7 @@ pub fn open_at(
     let b = parts::part_of(16, 0, n as usize);
     let first = b.start;
     let last = b.end;
-    opening::open(
+    open(
         &mut words[from..to],
         n,
         ta,

@@ -7,7 +7,8 @@ use lib.Dec.{eqb}
 use Rattle.records.specs.Fill.{blank}
 use Rattle.drill_lines.specs.Grammar.{lineOf}
 use Rattle.drill_lines.specs.Automaton as lines
-use Rattle.drill_lines.specs.Text.{LF, badLine}
+use Rattle.text.specs.Fields.{LF}
+use Rattle.drill_lines.specs.Text.{badLine}
 use Rattle.drill_lines.specs.Theorem.{reads-lines}
 use Rattle.drill_lines.specs.declared.Reader.{Reader}
 use Rattle.drill_core.specs.Judging.{isBad, afterSettings}

@@ -1,11 +1,10 @@
 -- The output of a drill has at most 2,048 bytes, so that as many lent bytes hold all of it.
-use Prim.Native.Nat.{ℕ, zero, suc, _+_, _*_, _/_, _%_, _≤_}
+use Prim.Native.Nat.{ℕ, zero, suc, _+_, _*_, _≤_}
 use mathlib.Core.List.{List, [], _∷_}
 use mathlib.Core.Path.{_≡_, refl, ap, _∙_}
 use native.Mathlib.Omega.{arith}
 use lib.ListN.{length, take, length-append, length-take}
-use lib.Dec.{eqb, ltb}
-use Rattle.io.specs.Digits.{digits, glyph}
+use lib.Dec.{eqb}
 use Rattle.settings.specs.Settings.{quorum}
 use Rattle.settings.specs.declared.Settings.{Settings}
 use Rattle.quorum.specs.Marks.{mark}
@@ -18,8 +17,11 @@ use Rattle.report.specs.Laws.{Reported, reported}
 use Rattle.report.specs.declared.Figures.{Figures}
 use Rattle.report.specs.declared.Answer.{Answer}
 use Rattle.report.specs.declared.Answer.the-variants.{Refused, Given}
-use Rattle.drill_lines.specs.Text.{decimalIn, decimalText, hexText, commaTexts, valuesText, fieldText, resultLine, endText, sentLine, badLine}
-use Rattle.drill_lines.specs.Paste.{Wrote, wrote-whole}
+use Rattle.text.specs.Numbers.{hexText}
+use Rattle.text.specs.Each.{eachText}
+use Rattle.text.specs.Lengths.{decimal-length, hex-length}
+use Rattle.drill_lines.specs.Text.{commaText, valuesText, fieldText, resultLine, endText, sentLine, badLine}
+use Rattle.text.specs.Paste.{Wrote, wrote-whole}
 use Rattle.drill_feeder.specs.Parts.{stateOf}
 use Rattle.drill_core.specs.Judging.{afterSettings}
 use Rattle.drill_core.specs.Feeding.{Drilling, drilling, fedBytes, startDrilling, atEnd}
@@ -27,27 +29,10 @@ use Rattle.drill_core.specs.Output.{answerText, resultText, resultIf, results, 
 use Rattle.drill_laws.specs.Runs.{if-keep}
 use Rattle.drill_laws.specs.Whole.{SoundDrill, input-sound, end-sound}
 
-decimal-in : (k n : ℕ) → length (decimalIn k n) ≤ k
-unfolding decimalIn
-decimal-in zero n = omega arith
-decimal-in (suc k) n = if-keep (λ (t : List ℕ). length t ≤ suc k) (ltb n 10) _ _ (omega arith) (rw length-append (omega (arith, decimal-in k (n / 10))))
-
-decimal-length : (n : ℕ) → length (decimalText n) ≤ 20
-unfolding decimalText
-decimal-length n = decimal-in 20 n
-
-digits-length : (b k n : ℕ) → length (digits b k n) ≡ k
-digits-length b zero n = refl
-digits-length b (suc k) n = length-append (digits b k (n / b)) (glyph (n % b) ∷ []) ∙ omega (arith, digits-length b k (n / b))
-
-hex-length : (n : ℕ) → length (hexText n) ≡ 16
-unfolding hexText
-hex-length n = digits-length 16 16 n
-
-commas-length : (xs : List ℕ) → length (commaTexts xs) ≡ 17 * length xs
-unfolding commaTexts
+commas-length : (xs : List ℕ) → length (eachText commaText xs) ≡ 17 * length xs
+unfolding eachText commaText
 commas-length [] = refl
-commas-length (x ∷ xs) = ap suc (length-append (hexText x) (commaTexts xs)) ∙ omega (arith, hex-length x, commas-length xs)
+commas-length (x ∷ xs) = ap suc (length-append (hexText x) (eachText commaText xs)) ∙ omega (arith, hex-length x, commas-length xs)
 
 values-length : (xs : List ℕ) → length (valuesText xs) ≤ 17 * length xs + 1
 unfolding valuesText

@@ -3,7 +3,9 @@ use Prim.Native.Nat.{ℕ, _+_, _*_, _^_}
 use mathlib.Core.Bool.{Bool, true, false, cond, _&&_, _||_}
 use mathlib.Core.List.{List, [], _∷_}
 use lib.Dec.{eqb, ltb}
-use Rattle.drill_lines.specs.Grammar.{TAB, LETTER-C, LETTER-P, byKind, DECIMAL, WORD, PACK, digitOf, baseOf, complete}
+use Rattle.text.specs.Fields.{TAB}
+use Rattle.text.specs.Numbers.{DECIMAL, WORD, PACK, digitOf, baseOf, complete}
+use Rattle.drill_lines.specs.Grammar.{LETTER-C, LETTER-P, byKind}
 use Rattle.drill_lines.specs.declared.Line.{Line}
 use Rattle.drill_lines.specs.declared.Line.the-variants.{Bad, N, C, P, T, D, L, R}
 use Rattle.drill_lines.specs.declared.Numbers.{Numbers}

@@ -2,8 +2,12 @@
 use Prim.Native.Nat.{ℕ}
 use mathlib.Core.List.{List, [], _∷_}
 use mathlib.Core.Path.{_≡_, refl}
-use Rattle.drill_lines.specs.Grammar.{inFront, fields, digitOf, baseOf, allDigits, valueFrom, valueOf, complete, right, allRight, valuesOf, lineOr, lineN, lineC, lineP, lineT, lineD, lineL, lineR, letter, byKind, byLetter, lineOfFields, lineOf}
-use Rattle.drill_lines.specs.Text.{decimalIn, decimalText, hexText, commaTexts, valuesText, fieldText, resultLine, endText, sentLine, badLine}
+use Rattle.text.specs.Fields.{inFront, fields, letter}
+use Rattle.text.specs.Numbers.{digitOf, baseOf, allDigits, valueFrom, valueOf, complete, right, allRight, valuesOf}
+use Rattle.drill_lines.specs.Grammar.{lineOr, lineN, lineC, lineP, lineT, lineD, lineL, lineR, byKind, byLetter, lineOfFields, lineOf}
+use Rattle.text.specs.Numbers.{decimalIn, decimalText, hexText}
+use Rattle.text.specs.Each.{eachText}
+use Rattle.drill_lines.specs.Text.{commaText, valuesText, fieldText, resultLine, endText, sentLine, badLine}
 use Rattle.drill_lines.specs.declared.Line.{Line}
 use Rattle.drill_lines.specs.declared.Line.the-variants.{Bad, N, C, P, T, D, L, R}
 
@@ -92,5 +96,5 @@ texts :
     ∷ (98 ∷ 97 ∷ 100 ∷ 9 ∷ 49 ∷ 56 ∷ 52 ∷ 52 ∷ 54 ∷ 55 ∷ 52 ∷ 52 ∷ 48 ∷ 55 ∷ 51 ∷ 55 ∷ 48 ∷ 57 ∷ 53 ∷ 53 ∷ 49 ∷ 54 ∷ 49 ∷ 53 ∷ 10 ∷ [])
     ∷ []
     )
-unfolding decimalIn decimalText hexText commaTexts valuesText fieldText resultLine endText sentLine badLine
+unfolding decimalIn decimalText hexText commaText eachText valuesText fieldText resultLine endText sentLine badLine
 texts = refl

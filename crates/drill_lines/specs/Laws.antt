@@ -2,13 +2,13 @@
 use Prim.Native.Nat.{ℕ, suc, _+_, _*_, _^_, _≤_, _<_}
 use mathlib.Core.Bool.{Bool, true, false, _&&_, false≢true}
 use mathlib.Core.List.{List, [], _∷_, _++_}
-use mathlib.Core.Path.{_≡_, refl, ap}
+use mathlib.Core.Path.{_≡_, refl}
 use native.Mathlib.Omega.{arith}
 use native.Mathlib.Nat.{pow-suc, pow-le-pow-right}
 use lib.Dec.{eqb, ltb}
 use lib.ListN.{length}
 use borrow.Author.Tests.{lt-ltb, ne-eqb, ltb-true, eqb-true}
-use Rattle.drill_lines.specs.Grammar.{digitOf, baseOf, allDigits, valueFrom, valueOf, complete, right}
+use Rattle.text.specs.Numbers.{digitOf, baseOf, allDigits, valueFrom, valueOf, complete, right}
 use Rattle.drill_lines.specs.Automaton.{fed, fedAll}
 use Rattle.drill_lines.specs.declared.Reader.{Reader}
 

@@ -4,7 +4,5 @@ pub mod Cases
 pub mod Theorem
 pub mod Examples
 pub mod Text
-pub mod Paste
-pub mod Digits
 pub mod Printing
 pub mod Laws

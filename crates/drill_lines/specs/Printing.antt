@@ -1,16 +1,18 @@
 -- The cases of the code that prints.
-use Prim.Native.Nat.{ℕ, suc, _+_, _-_, _≤_, _<_}
-use mathlib.Core.List.{List, [], _∷_, _++_, append-nil, append-assoc}
-use mathlib.Core.Path.{_≡_, refl, sym, ap, subst, _∙_}
+use Prim.Native.Nat.{ℕ, suc, _-_, _≤_, _<_}
+use mathlib.Core.List.{List, [], _∷_}
+use mathlib.Core.Path.{_≡_, refl, sym, subst}
 use native.Mathlib.Omega.{arith}
-use native.Mathlib.Numerals.{add-one}
 use lib.ListN.{length, getD, take, drop}
-use lib.Seq.{take-suc, take-all, length-take-le}
-use Rattle.drill_lines.specs.Text.{decimalText, hexText, commaTexts, valuesText, fieldText, resultLine, endText, sentLine, badLine}
-use Rattle.drill_lines.specs.Paste.{Wrote, wrote-both, length-pasted, ended, pasted}
+use lib.Seq.{take-all, length-take-le}
+use Rattle.text.specs.Numbers.{decimalText, hexText}
+use Rattle.drill_lines.specs.Text.{commaText, valuesText, fieldText, resultLine, endText, sentLine, badLine}
+use Rattle.text.specs.Paste.{Wrote, wrote-both}
+use Rattle.text.specs.Each.{eachText}
 
 module _ (s s' s'' : List ℕ) (a r q : ℕ) where
-  pub wrote-comma : (n : ℕ) → Wrote (44 ∷ []) s a r s' → Wrote (hexText n) s' r q s'' → Wrote (44 ∷ hexText n) s a q s''
+  pub wrote-comma : (n : ℕ) → Wrote (44 ∷ []) s a r s' → Wrote (hexText n) s' r q s'' → Wrote (commaText n) s a q s''
+  unfolding commaText
   wrote-comma n h l = wrote-both (44 ∷ []) (hexText n) s s' s'' a r q h l
 
   pub wrote-field : (n : ℕ) → Wrote (decimalText n) s a r s' → Wrote (9 ∷ []) s' r q s'' → Wrote (fieldText n) s a q s''
@@ -31,41 +33,6 @@ module _ (s s' s'' : List ℕ) (a r q : ℕ) where
 
 pub ruleset two-texts = (wrote-comma, wrote-field, wrote-end, wrote-sent, wrote-bad)
 
-commas-append : (xs ys : List ℕ) → commaTexts (xs ++ ys) ≡ commaTexts xs ++ commaTexts ys
-unfolding commaTexts
-commas-append [] ys = refl
-commas-append (x ∷ xs) ys = ap (λ (t : List ℕ). 44 ∷ t) (rw (commas-append xs ys) (sym (append-assoc (hexText x) (commaTexts xs) (commaTexts ys))))
-
--- one value more
-commas-more : (xs : List ℕ) (k : ℕ) → k < length xs → commaTexts (take (k + 1) xs) ≡ commaTexts (take k xs) ++ (44 ∷ hexText (getD xs k 0))
-unfolding commaTexts
-commas-more xs k h =
-    rw (add-one, take-suc xs k 0 h) (commas-append (take k xs) (getD xs k 0 ∷ []) ∙ ap (λ (t : List ℕ). commaTexts (take k xs) ++ (44 ∷ t)) (append-nil (hexText (getD xs k 0))))
-
--- a loop that has written the first k values
-pub record Commas (xs s : List ℕ) (a k r : ℕ) (after : List ℕ) : Type 0 where
-  pub within : k ≤ length xs
-  pub front : Wrote (commaTexts (take k xs)) s a r after
-
-pub commas-start : (xs s : List ℕ) (a : ℕ) → Commas xs s a 0 a s
-unfolding ended pasted commaTexts
-commas-start xs s a = record { within = omega arith; front = record { answer = refl; bytes = refl } }
-
-pub commas-next : (xs s s' s'' : List ℕ) (a k r q : ℕ) → Commas xs s a k r s' → k < length xs → Wrote (44 ∷ hexText (getD xs k 0)) s' r q s'' → Commas xs s a (k + 1) q s''
-commas-next xs s s' s'' a k r q h l w =
-    record {
-      within = omega arith;
-      front = rw (commas-more xs k l) (wrote-both (commaTexts (take k xs)) (44 ∷ hexText (getD xs k 0)) s s' s'' a r q (h .front) w);
-    }
-
-pub commas-done : (xs s after : List ℕ) (a k r : ℕ) → Commas xs s a k r after → length xs ≤ k → Wrote (commaTexts xs) s a r after
-commas-done xs s after a k r h l = subst (λ (u : List ℕ). Wrote (commaTexts u) s a r after) (take-all k xs l) (h .front)
-
-pub commas-length : (xs s after : List ℕ) (a k r : ℕ) → Commas xs s a k r after → length after ≡ length s
-commas-length xs s after a k r h = ap length (h .front .bytes) ∙ length-pasted (commaTexts (take k xs)) s a
-
-pub ruleset commas = (commas-start, commas-next, commas-done, commas-length)
-
 -- no value, and one or more
 pub values-none : (xs s after : List ℕ) (a r : ℕ) → length xs ≡ 0 → Wrote (45 ∷ []) s a r after → Wrote (valuesText xs) s a r after
 unfolding valuesText
@@ -73,11 +40,11 @@ values-none [] s after a r e w = w
 values-none (x ∷ xs) s after a r e w = absurd (omega arith)
 
 pub values-some : (xs s s' s'' : List ℕ) (a r q : ℕ) → (length xs ≡ 0 → ⊥) → Wrote (hexText (getD xs 0 0)) s a r s' →
-    Wrote (commaTexts (take (length xs - 1) (drop 1 xs))) s' r q s'' → Wrote (valuesText xs) s a q s''
+    Wrote (eachText commaText (take (length xs - 1) (drop 1 xs))) s' r q s'' → Wrote (valuesText xs) s a q s''
 unfolding valuesText
 values-some [] s s' s'' a r q e w v = absurd (e refl)
 values-some (x ∷ xs) s s' s'' a r q e w v =
-    wrote-both (hexText x) (commaTexts xs) s s' s'' a r q w (subst (λ (u : List ℕ). Wrote (commaTexts u) s' r q s'') (take-all (suc (length xs) - 1) xs (omega arith)) v)
+    wrote-both (hexText x) (eachText commaText xs) s s' s'' a r q w (subst (λ (u : List ℕ). Wrote (eachText commaText u) s' r q s'') (take-all (suc (length xs) - 1) xs (omega arith)) v)
 
 pub ruleset values-cases = (values-none, values-some)
 

@@ -1,13 +1,9 @@
 -- The bytes that the drill prints.
-use Prim.Native.Nat.{ℕ, zero, suc, _+_, _/_, _%_}
-use mathlib.Core.Bool.{cond}
+use Prim.Native.Nat.{ℕ}
 use mathlib.Core.List.{List, [], _∷_, _++_}
-use lib.Dec.{ltb}
-use Rattle.io.specs.Digits.{digits}
-use Rattle.drill_lines.specs.Grammar.{TAB}
-
-abbrev pub LF : ℕ
-LF = 10
+use Rattle.text.specs.Fields.{TAB, LF}
+use Rattle.text.specs.Numbers.{decimalText, hexText}
+use Rattle.text.specs.Each.{eachText}
 
 abbrev pub COMMA : ℕ
 COMMA = 44
@@ -15,28 +11,14 @@ COMMA = 44
 abbrev pub DASH : ℕ
 DASH = 45
 
--- a number in decimal digits without leading zeros, `0` being 48; at most k of them
-unfoldable pub decimalIn : ℕ → ℕ → List ℕ
-decimalIn zero n = []
-decimalIn (suc k) n = cond (ltb n 10) ((48 + n) ∷ []) (decimalIn k (n / 10) ++ ((48 + n % 10) ∷ []))
-
--- a number below 2^64 has at most 20 digits
-unfoldable pub decimalText : ℕ → List ℕ
-decimalText n = decimalIn 20 n
-
--- "16 lower-case hexadecimal digits"
-unfoldable pub hexText : ℕ → List ℕ
-hexText n = digits 16 16 n
-
--- a comma before each value
-unfoldable pub commaTexts : List ℕ → List ℕ
-commaTexts [] = []
-commaTexts (x ∷ xs) = COMMA ∷ (hexText x ++ commaTexts xs)
+-- a further value, after a comma
+unfoldable pub commaText : ℕ → List ℕ
+commaText x = COMMA ∷ hexText x
 
 -- "values in force in 16 lower-case hexadecimal digits parted by commas or "-""
 unfoldable pub valuesText : List ℕ → List ℕ
 valuesText [] = DASH ∷ []
-valuesText (x ∷ xs) = hexText x ++ commaTexts xs
+valuesText (x ∷ xs) = hexText x ++ eachText commaText xs
 
 -- a decimal and the tab after it
 unfoldable pub fieldText : ℕ → List ℕ

@@ -8,7 +8,9 @@ use native.Mathlib.Decide.{ℕ-discrete}
 use lib.Dec.{eqb, ltb}
 use lib.ListN.{length}
 use borrow.Author.Tests.{lt-ltb, le-ltb, eq-eqb, ne-eqb, ltb-true, ltb-false, eqb-true}
-use Rattle.drill_lines.specs.Grammar.{TAB, byKind, inFront, fields, digitOf, baseOf, allDigits, valueFrom, valueOf, complete, right, allRight, valuesOf, lineOr, lineN, lineC, lineP, lineT, lineD, lineL, lineR, letter, byLetter, lineOfFields, lineOf}
+use Rattle.text.specs.Fields.{TAB, inFront, fields, letter}
+use Rattle.text.specs.Numbers.{digitOf, baseOf, allDigits, valueFrom, valueOf, complete, right, allRight, valuesOf}
+use Rattle.drill_lines.specs.Grammar.{byKind, lineOr, lineN, lineC, lineP, lineT, lineD, lineL, lineR, byLetter, lineOfFields, lineOf}
 use Rattle.drill_lines.specs.Automaton.{countOf, formOf, room, counted, pushed, noNumbers, reading, start, wrong, lettered, parted, extendedAs, extended, fed, lineWith, finished, fedAll}
 use Rattle.drill_lines.specs.Cases.{by-other}
 use Rattle.drill_lines.specs.declared.Line.{Line}

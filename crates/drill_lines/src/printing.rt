@@ -1,9 +1,9 @@
 // The bytes that the drill prints. Each function writes a text into the lent bytes from a place on, as far as they go,
 // and answers the place after it.
-ghost use mathlib.Core.List.{[], _∷_};
 ghost use lib.ListN.{take};
-ghost use Rattle.drill_lines.specs.Text.{decimalText, hexText, commaTexts, valuesText, fieldText, resultLine, endText, sentLine, badLine};
-ghost use Rattle.drill_lines.specs.Paste.{Wrote};
+ghost use Rattle.drill_lines.specs.Text.{commaText, valuesText, fieldText, resultLine, endText, sentLine, badLine};
+ghost use Rattle.text.specs.Paste.{Wrote};
+ghost use Rattle.text.specs.Each.{eachText};
 
 const TAB: u8 = 9;
 
@@ -13,54 +13,16 @@ const COMMA: u8 = 44;
 
 const DASH: u8 = 45;
 
-fn put_byte(out: &mut [u8], at: usize, byte: u8) -> usize
-    ensures { λ r. ⌜ Wrote (byte ∷ []) (now (out .entry)) at r (now (out .exit)) ⌝ }
-{
-    if out.len() <= at {
-        return at;
-    }
-    out[at] = byte;
-    at + 1
-}
-
-fn put_text(out: &mut [u8], at: usize, text: &[u8]) -> usize
-    ensures { λ r. ⌜ Wrote (now (text .entry)) (now (out .entry)) at r (now (out .exit)) ⌝ }
-{
-    let mut place = at;
-    let mut k: usize = 0;
-    while k < text.len() {
-        place = put_byte(out, place, text[k]);
-        k += 1;
-    }
-    place
-}
-
-fn put_decimal(out: &mut [u8], at: usize, n: u64) -> usize
-    ensures { λ r. ⌜ Wrote (decimalText n) (now (out .entry)) at r (now (out .exit)) ⌝ }
-{
-    let mut text = [0u8; 20];
-    let k = io::decimal(n, &mut text);
-    put_text(out, at, &text[..k])
-}
-
-fn put_hex(out: &mut [u8], at: usize, n: u64) -> usize
-    ensures { λ r. ⌜ Wrote (hexText n) (now (out .entry)) at r (now (out .exit)) ⌝ }
-{
-    let mut text = [0u8; 16];
-    let k = io::hex(n, 16, &mut text);
-    put_text(out, at, &text[..k])
-}
-
 fn put_comma_hex(out: &mut [u8], at: usize, n: u64) -> usize
-    ensures { λ r. ⌜ Wrote (44 ∷ hexText n) (now (out .entry)) at r (now (out .exit)) ⌝ }
+    ensures { λ r. ⌜ Wrote (commaText n) (now (out .entry)) at r (now (out .exit)) ⌝ }
 {
-    let place = put_byte(out, at, COMMA);
-    put_hex(out, place, n)
+    let place = text::put_byte(out, at, COMMA);
+    text::put_hex(out, place, n)
 }
 
 // A comma before each value.
 fn put_comma_values(out: &mut [u8], at: usize, values: &[u64]) -> usize
-    ensures { λ r. ⌜ Wrote (commaTexts (now (values .entry))) (now (out .entry)) at r (now (out .exit)) ⌝ }
+    ensures { λ r. ⌜ Wrote (eachText commaText (now (values .entry))) (now (out .entry)) at r (now (out .exit)) ⌝ }
 {
     let mut place = at;
     let mut k: usize = 0;
@@ -75,9 +37,9 @@ fn put_values(out: &mut [u8], at: usize, values: &[u64]) -> usize
     ensures { λ r. ⌜ Wrote (valuesText (now (values .entry))) (now (out .entry)) at r (now (out .exit)) ⌝ }
 {
     if values.len() == 0 {
-        return put_byte(out, at, DASH);
+        return text::put_byte(out, at, DASH);
     }
-    let place = put_hex(out, at, values[0]);
+    let place = text::put_hex(out, at, values[0]);
     put_comma_values(out, place, &values[1..])
 }
 
@@ -95,16 +57,16 @@ fn put_counted(out: &mut [u8], at: usize, values: &[u64], count: usize) -> usize
 fn put_field(out: &mut [u8], at: usize, n: u64) -> usize
     ensures { λ r. ⌜ Wrote (fieldText n) (now (out .entry)) at r (now (out .exit)) ⌝ }
 {
-    let place = put_decimal(out, at, n);
-    put_byte(out, place, TAB)
+    let place = text::put_decimal(out, at, n);
+    text::put_byte(out, place, TAB)
 }
 
 // A decimal and the end of the line.
 fn put_end(out: &mut [u8], at: usize, n: u64) -> usize
     ensures { λ r. ⌜ Wrote (endText n) (now (out .entry)) at r (now (out .exit)) ⌝ }
 {
-    let place = put_decimal(out, at, n);
-    put_byte(out, place, LF)
+    let place = text::put_decimal(out, at, n);
+    text::put_byte(out, place, LF)
 }
 
 // The line of an honest concentrator; its values in force are the first count of values.
@@ -125,14 +87,14 @@ pub fn put_result(
     let fourth = put_field(out, third, closed);
     let fifth = put_field(out, fourth, turns);
     let end = put_counted(out, fifth, values, count);
-    put_byte(out, end, LF)
+    text::put_byte(out, end, LF)
 }
 
 // The line of the message count.
 pub fn put_sent(out: &mut [u8], at: usize, count: u64) -> usize
     ensures { λ r. ⌜ Wrote (sentLine count) (now (out .entry)) at r (now (out .exit)) ⌝ }
 {
-    let place = put_text(out, at, b"sent\t");
+    let place = text::put_text(out, at, b"sent\t");
     put_end(out, place, count)
 }
 
@@ -140,6 +102,6 @@ pub fn put_sent(out: &mut [u8], at: usize, count: u64) -> usize
 pub fn put_bad(out: &mut [u8], at: usize, number: u64) -> usize
     ensures { λ r. ⌜ Wrote (badLine number) (now (out .entry)) at r (now (out .exit)) ⌝ }
 {
-    let place = put_text(out, at, b"bad\t");
+    let place = text::put_text(out, at, b"bad\t");
     put_end(out, place, number)
 }

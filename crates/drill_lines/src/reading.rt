@@ -3,9 +3,6 @@ use crate::Line;
 use crate::Numbers;
 use crate::Reader;
 ghost use mathlib.Core.Path.{_≡_};
-ghost use lib.Dec.{ltb};
-ghost use Prim.Native.Nat.{_+_, _*_, _^_, _<_};
-ghost use Rattle.drill_lines.specs.Grammar.{digitOf, baseOf, complete};
 ghost use Rattle.drill_lines.specs.Automaton.{countOf, formOf, room, counted, pushed, noNumbers, reading, start, wrong, lettered, parted, extendedAs, fed, laterLine, lineWith, finished};
 
 const TAB: u8 = 9;
@@ -24,35 +21,9 @@ const LETTER_L: u8 = 76;
 
 const LETTER_R: u8 = 82;
 
-// The form of a field is this, or the number of its hexadecimal digits.
-const DECIMAL: u8 = 10;
-
 const WORD: u8 = 8;
 
 const PACK: u8 = 16;
-
-const NO_DIGIT: u8 = 16;
-
-const LARGEST: u64 = 18446744073709551615;
-
-// The value of a digit, and 16 for any other byte.
-fn digit(byte: u8) -> u8
-    ensures { λ r. ⌜ r ≡ digitOf byte ⌝ }
-{
-    if byte < 48 {
-        return NO_DIGIT;
-    }
-    if byte <= 57 {
-        return byte - 48;
-    }
-    if byte < 97 {
-        return NO_DIGIT;
-    }
-    if byte <= 102 {
-        return byte - 87;
-    }
-    NO_DIGIT
-}
 
 // How many fields a line has, its letter's too, and 0 for a byte that is no letter of a line.
 fn count(kind: u8) -> u8
@@ -95,59 +66,27 @@ fn form(kind: u8, field: u8) -> u8
     if (kind == LETTER_P) & (field == 2) {
         return PACK;
     }
-    DECIMAL
-}
-
-fn base(form: u8) -> u8
-    ensures { λ r. ⌜ (r ≡ baseOf form) × (0 < r) ⌝ }
-{
-    if form == DECIMAL { 10 } else { 16 }
-}
-
-// Whether a field with so many digits is a number of its form.
-fn complete(form: u8, digits: u8) -> bool
-    ensures { λ r. ⌜ r ≡ complete form digits ⌝ }
-{
-    if form == DECIMAL {
-        return 0 < digits;
-    }
-    digits == form
+    text::DECIMAL
 }
 
 // Whether a field with so many digits may have one more.
 fn room(form: u8, digits: u8) -> bool
     ensures { λ r. ⌜ r ≡ room form digits ⌝ }
 {
-    (form == DECIMAL) | (digits < form)
+    (form == text::DECIMAL) | (digits < form)
 }
 
 // The digits with one more.
 fn counted(form: u8, digits: u8) -> u8
     ensures { λ r. ⌜ r ≡ counted form digits ⌝ }
 {
-    if form == DECIMAL {
+    if form == text::DECIMAL {
         return 1;
     }
     if digits < form {
         return digits + 1;
     }
     digits
-}
-
-// Whether the number with one digit more is below 2^64.
-fn fits(value: u64, base: u8, digit: u8) -> bool
-    requires { ⌜ 0 < base ⌝ }
-    ensures { λ r. ⌜ r ≡ ltb (value * base + digit) (2 ^ 64) ⌝ }
-{
-    value <= (LARGEST - digit as u64) / base as u64
-}
-
-// The number with one digit more.
-fn appended(value: u64, base: u8, digit: u8) -> u64
-    requires { ⌜ value * base + digit < 2 ^ 64 ⌝ }
-    ensures { λ r. ⌜ r ≡ value * base + digit ⌝ }
-{
-    value * base as u64 + digit as u64
 }
 
 // The last six numbers with one more.
@@ -227,7 +166,7 @@ fn lettered(byte: u8) -> Reader
 fn parted(r: Reader) -> Reader
     ensures { λ s. ⌜ s ≡ parted r ⌝ }
 {
-    if !complete(form(r.kind, r.field), r.digits) {
+    if !text::complete(form(r.kind, r.field), r.digits as usize) {
         return wrong();
     }
     if count(r.kind) as u64 <= r.field as u64 + 1 {
@@ -240,18 +179,18 @@ fn parted(r: Reader) -> Reader
 fn extended_as(form: u8, r: Reader, byte: u8) -> Reader
     ensures { λ s. ⌜ s ≡ extendedAs form r byte ⌝ }
 {
-    let d = digit(byte);
-    let b = base(form);
+    let d = text::digit(byte);
+    let b = text::base(form);
     if !room(form, r.digits) {
         return wrong();
     }
     if b <= d {
         return wrong();
     }
-    if !fits(r.value, b, d) {
+    if !text::fits(r.value, b, d) {
         return wrong();
     }
-    let value = appended(r.value, b, d);
+    let value = text::appended(r.value, b, d);
     let digits = counted(form, r.digits);
     reading(r.kind, r.field, digits, value, r.numbers)
 }
@@ -335,7 +274,7 @@ pub fn finish(r: Reader) -> Line
     if r.bad {
         return Line::Bad;
     }
-    if !complete(form(r.kind, r.field), r.digits) {
+    if !text::complete(form(r.kind, r.field), r.digits as usize) {
         return Line::Bad;
     }
     if r.field as u64 + 1 != count(r.kind) as u64 {

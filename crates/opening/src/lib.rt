@@ -6,7 +6,6 @@ use settings::Checked;
 use settings::Settings;
 use settings::refusal;
 ghost use mathlib.Core.Path.{_≡_};
-ghost use Prim.Native.Nat.{_≤_};
 ghost use lib.ListN.{length};
 ghost use Rattle.settings.specs.Settings.{validSettings, namedTa};
 ghost use Rattle.records.specs.Fill.{blank};
@@ -41,6 +40,21 @@ fn open_answer(words: usize, n: u64, ta: u64, ts: u64, weights: u64, own: u64, c
         return refusal::SETTINGS;
     }
     0
+}
+
+// The answer of an opening with a list of weights.
+pub fn answer(words: usize, n: u64, ta: u64, ts: u64, own: u64, coins: usize, weights: &[u8]) -> u64
+    ensures { λ r. ⌜ r ≡ openAnswer words n ta ts (weightsWord n (now (weights .entry))) own coins ⌝ }
+{
+    open_answer(
+        words,
+        n,
+        ta,
+        ts,
+        weights::weights_word(n, weights),
+        own,
+        coins,
+    )
 }
 
 // Sets every word to 0.

@@ -29,7 +29,8 @@ FIELD = 6
 abbrev pub VALUE : ℕ
 VALUE = 7
 
--- "8 SHORT: a turn lent under 140 bytes, a report lent under 16 words for either set."
+-- "8 SHORT: a turn lent under 140 bytes, a report lent under 16 words for either set."; request N10: an opening, delivery or turn lent under 512
+-- bytes for its line, a restore lent under 140 for the message
 abbrev pub SHORT : ℕ
 SHORT = 8
 
@@ -45,3 +46,7 @@ CLOSED = 10
 -- "11 HELD: that place already holds a message."
 abbrev pub HELD : ℕ
 HELD = 11
+
+-- request N10: no complete opening line, or a complete line that cannot be applied; it has the line's number beside it
+abbrev pub JOURNAL : ℕ
+JOURNAL = 15

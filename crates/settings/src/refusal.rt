@@ -14,7 +14,8 @@ pub const SENDER: u64 = 5;
 pub const FIELD: u64 = 6;
 // EST or AUX above 1, or COMMIT not rising.
 pub const VALUE: u64 = 7;
-// A turn lent under 140 bytes, a report lent under 16 words for either set.
+// A turn or a restore lent under 140 bytes for the message, an opening, delivery or turn lent under 512 for its line, a report
+// lent under 16 words for either set.
 pub const SHORT: u64 = 8;
 // Wrong word count, or stored numbers that the rules refuse.
 pub const NO_STATE: u64 = 9;
@@ -22,3 +23,5 @@ pub const NO_STATE: u64 = 9;
 pub const CLOSED: u64 = 10;
 // That place already holds a message.
 pub const HELD: u64 = 11;
+// No complete opening line, or a complete line of the journal that cannot be applied.
+pub const JOURNAL: u64 = 15;

@@ -14,9 +14,10 @@ use Rattle.records.specs.Words.{word}
 use Rattle.session.specs.Session.{settingsOf, isState}
 use Rattle.opening.specs.Opening.{opened}
 use Rattle.turn.specs.Turn.{turnOutcome}
+use Rattle.journal.specs.Journal.{acts}
 use Rattle.report.specs.Report.{figuresOf}
 use Rattle.report.specs.Laws.{report-gives}
-use Rattle.turn_bound.specs.TurnBound.{weightsBy, Arguments, answer, openedBy, settingsBy, Step, opening, delivery, turn, report, after, acts, acting, current, Reports, Counted, TurnCount}
+use Rattle.turn_bound.specs.TurnBound.{weightsBy, Arguments, answer, openedBy, settingsBy, Step, opening, delivery, turn, report, after, acting, current, Reports, Counted, TurnCount}
 use Rattle.turn_bound.specs.Sound.{Sound, sound-bound, sound-state}
 use Rattle.turn_bound.specs.Delivering.{delivery-sound}
 use Rattle.turn_bound.specs.Turning.{turn-sound}

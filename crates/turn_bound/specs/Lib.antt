@@ -10,3 +10,7 @@ pub mod Delivering
 pub mod Turning
 pub mod Opened
 pub mod Count
+pub mod Calls
+pub mod Stepped
+pub mod CallCount
+pub mod Lined

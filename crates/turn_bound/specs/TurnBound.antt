@@ -1,6 +1,6 @@
 -- The count of turns after an opening, and its bound, as a claim about a whole list of calls at one concentrator.
 use Prim.Native.Nat.{ℕ, _+_, _≤_}
-use mathlib.Core.Bool.{Bool, true, false, cond}
+use mathlib.Core.Bool.{true, cond}
 use mathlib.Core.List.{List, [], _∷_}
 use mathlib.Core.Path.{_≡_}
 use lib.Dec.{eqb}
@@ -14,11 +14,10 @@ use Rattle.opening.specs.Given.{weightsWord}
 use Rattle.opening.specs.Opening.{openAnswer, opened}
 use Rattle.delivery.specs.Delivery.{delivered}
 use Rattle.turn.specs.Turn.{turnOutcome, turnWords}
-use Rattle.turn.specs.declared.Outcome.{Outcome}
 use Rattle.report.specs.Report.{reportAnswer}
 use Rattle.report.specs.declared.Figures.{Figures}
 use Rattle.report.specs.declared.Answer.the-variants.{Given}
-use Rattle.turn.specs.declared.Outcome.the-variants.{Refused, Idle, Sent, MovedOut, InForce}
+use Rattle.journal.specs.Journal.{acts}
 
 -- the arguments of an opening
 pub record Arguments : Type 0 where
@@ -60,14 +59,6 @@ after s (opening o ∷ cs) = openedBy (after s cs) o
 after s (delivery link b ∷ cs) = delivered (after s cs) link b
 after s (turn out ∷ cs) = turnWords (after s cs) (length out)
 after s (report ∷ cs) = after s cs
-
--- a turn "that did not answer idle"; one that is refused took no turn
-unfoldable pub acts : Outcome → Bool
-acts (Refused k) = false
-acts Idle = false
-acts (Sent m) = true
-acts MovedOut = true
-acts InForce = true
 
 -- "the number of turns since opening that did not answer idle": an accepted opening starts anew
 unfoldable pub acting : List ℕ → List Step → ℕ

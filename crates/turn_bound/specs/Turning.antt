@@ -26,14 +26,14 @@ use Rattle.turn.specs.Frame.{Placed, told-placed, setting, held, beyond, length
 use Rattle.turn.specs.Admitting.{admitted-settings}
 use Rattle.turn.specs.Laws.{Taken, Way, refused, taken, way}
 use Rattle.turn.specs.declared.Outcome.the-variants as outcome
-use Rattle.turn_bound.specs.TurnBound.{acts}
+use Rattle.journal.specs.Journal.{acts}
 use Rattle.turn_bound.specs.Raising.{act-raises, act-orderly}
 use Rattle.turn_bound.specs.ByOne.{act-by-one}
 use Rattle.turn_bound.specs.Sound.{Sound}
 
 -- an outcome acts where an act was due
 outcome-acts : (own : ℕ) (s : List ℕ) (a : Act) → acts (outcomeOf own s a) ≡ isDue a
-unfolding acts outcomeOf moveOutcome
+unfolding outcomeOf moveOutcome
 outcome-acts own s Idle = refl
 outcome-acts own s InForce = refl
 outcome-acts own s (Commit k) = refl
@@ -105,7 +105,6 @@ module _ (g : Settings) (ruled : Ruled g) (s : List ℕ) (h : Sound g s) where
             }
 
     pub turn-sound : Turned out
-    unfolding acts
     turn-sound = of (way s out)
       where
         of : Way s out → Turned out

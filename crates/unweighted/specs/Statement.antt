@@ -1,5 +1,7 @@
 -- Request N11: "With all weights 1 every answer equals the unweighted one.", as a claim about the calls.
 -- The unweighted rules are those of this crate's files Settings to Report: they count, and no weight is among what they read.
+-- The calls stand without their lines of the journal: the bytes for a line are asked for after all else, and with enough of them a call is
+-- the one without (journal/Journal).
 use Prim.Native.Nat.{ℕ, _-_, _^_, _≤_}
 use mathlib.Core.List.{List, [], _∷_}
 use mathlib.Core.Logic.{_≢_}

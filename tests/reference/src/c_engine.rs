@@ -1,16 +1,18 @@
-//! The four C functions of another engine, as an [`Engine`].
+//! The five C functions of another engine, as an [`Engine`].
 
 use std::ops::{Deref, DerefMut};
 
+use crate::attack::random::Random;
 use crate::engine::Engine;
+use crate::journal::LINE_BYTES;
 use crate::session::Opening;
 
-use calls::{pack_deliver, pack_open, pack_report, pack_turn};
+use calls::{pack_deliver, pack_open, pack_report, pack_restore, pack_turn};
 
 /// "The state is a lent buffer of exactly 2,048 words of 64 bits."
 pub const STATE_WORDS: usize = 2_048;
 
-/// The four functions of `include/pack_agreement.h`.
+/// The five functions of `include/pack_agreement.h`.
 pub mod calls {
     extern "C" {
         pub fn pack_open(
@@ -26,6 +28,8 @@ pub mod calls {
             coin_words: usize,
             weights: *const u8,
             weight_count: usize,
+            line: *mut u8,
+            line_bytes: usize,
         ) -> u64;
         pub fn pack_deliver(
             state: *mut u64,
@@ -33,8 +37,17 @@ pub mod calls {
             link: u64,
             message: *const u8,
             length: usize,
+            line: *mut u8,
+            line_bytes: usize,
         ) -> u64;
-        pub fn pack_turn(state: *mut u64, words: usize, message: *mut u8, capacity: usize) -> u64;
+        pub fn pack_turn(
+            state: *mut u64,
+            words: usize,
+            message: *mut u8,
+            capacity: usize,
+            line: *mut u8,
+            line_bytes: usize,
+        ) -> u64;
         pub fn pack_report(
             state: *const u64,
             words: usize,
@@ -42,6 +55,14 @@ pub mod calls {
             named_words: usize,
             in_force: *mut u64,
             in_force_words: usize,
+        ) -> u64;
+        pub fn pack_restore(
+            state: *mut u64,
+            words: usize,
+            journal: *const u8,
+            journal_bytes: usize,
+            message: *mut u8,
+            capacity: usize,
         ) -> u64;
     }
 }
@@ -104,16 +125,25 @@ pub fn words(own: &[u64]) -> Words {
 #[derive(Clone, Copy, Debug, Default)]
 pub struct CEngine;
 
-/// Panics unless all four calls answer 9 to states of other lengths and leave them; each holds the front of an open one.
+/// Panics unless all five calls answer 9 to states of other lengths and leave them, whatever else is wrong; each holds the
+/// front of an open one.
 pub fn check_word_counts(opening: &Opening) {
     let mut opened = CEngine.blank();
-    assert_eq!(CEngine.open(&mut opened, opening), 0, "good settings");
+    let mut line = [0; LINE_BYTES];
+    let answer = CEngine.open(&mut opened, opening, &mut line);
+    assert_eq!(answer & 0xff, 0, "good settings");
+    let journal = &line[..(answer >> 16) as usize];
     for count in [0, 1, 8, 1_536, STATE_WORDS - 1, STATE_WORDS + 1, 2 * STATE_WORDS] {
         let own: Vec<u64> = opened.iter().copied().chain([0; STATE_WORDS]).take(count).collect();
         let state = &mut words(&own);
-        assert_eq!(CEngine.open(state, opening), 9, "opening with {count} words");
-        assert_eq!(CEngine.deliver(state, 1, &[]), 9, "delivery with {count} words");
-        assert_eq!(CEngine.turn(state, &mut []), 9, "turn with {count} words");
+        for lent in [0, LINE_BYTES] {
+            let line = &mut vec![0; lent];
+            assert_eq!(CEngine.open(state, opening, line), 9, "opening with {count} words");
+            assert_eq!(CEngine.deliver(state, 1, &[], line), 9, "delivery with {count} words");
+            assert_eq!(CEngine.turn(state, &mut [], line), 9, "turn with {count} words");
+            assert_eq!(CEngine.restore(state, &[], line), 9, "restore with {count} words");
+            assert_eq!(CEngine.restore(state, journal, line), 9, "restore with {count} words");
+        }
         assert_eq!(CEngine.report(state, &mut [], &mut []), 9, "report with {count} words");
     }
 }
@@ -165,42 +195,60 @@ impl Engine for CEngine {
         words(&[0; STATE_WORDS])
     }
 
-    fn open(&self, state: &mut Words, opening: &Opening) -> u64 {
+    fn littered(&self, seed: u64) -> Words {
+        let mut random = Random::new(seed);
+        words(&std::array::from_fn::<u64, STATE_WORDS, _>(|_| random.word()))
+    }
+
+    fn open(&self, state: &mut Words, opening: &Opening, line: &mut [u8]) -> u64 {
         let Opening { n, ta, ts, own, session, input, coins, weights } = *opening;
+        let call = |state, words, coins, coin_words, weights, weight_count, line, line_bytes| unsafe {
+            pack_open(
+                state,
+                words,
+                n,
+                ta,
+                ts,
+                own,
+                session,
+                input,
+                coins,
+                coin_words,
+                weights,
+                weight_count,
+                line,
+                line_bytes,
+            )
+        };
         checked(state, |state, words| {
             show(coins, 0x5a5a_5a5a, |coins, coin_words| {
                 // Guards that would pass for weights.
-                show(weights, 3, |weights, weight_count| unsafe {
-                    pack_open(
-                        state,
-                        words,
-                        n,
-                        ta,
-                        ts,
-                        own,
-                        session,
-                        input,
-                        coins,
-                        coin_words,
-                        weights,
-                        weight_count,
-                    )
+                show(weights, 3, |weights, weight_count| {
+                    lend(line, 0x5a, |line, bytes| {
+                        call(state, words, coins, coin_words, weights, weight_count, line, bytes)
+                    })
                 })
             })
         })
     }
 
-    fn deliver(&self, state: &mut Words, link: u64, message: &[u8]) -> u64 {
+    fn deliver(&self, state: &mut Words, link: u64, message: &[u8], line: &mut [u8]) -> u64 {
         checked(state, |words, count| {
-            show(message, 0x5a, |bytes, length| unsafe {
-                pack_deliver(words, count, link, bytes, length)
+            show(message, 0x5a, |bytes, length| {
+                lend(line, 0x5a, |line, line_bytes| unsafe {
+                    pack_deliver(words, count, link, bytes, length, line, line_bytes)
+                })
             })
         })
     }
 
-    fn turn(&self, state: &mut Words, message: &mut [u8]) -> u64 {
+    fn turn(&self, state: &mut Words, message: &mut [u8], line: &mut [u8]) -> u64 {
         checked(state, |words, count| {
-            lend(message, 0x5a, |bytes, length| unsafe { pack_turn(words, count, bytes, length) })
+            lend(message, 0x5a, |bytes, length| {
+                lend(line, 0x5a, |line, line_bytes| unsafe {
+                    pack_turn(words, count, bytes, length, line, line_bytes)
+                })
+            })
         })
     }
 
@@ -214,5 +262,16 @@ impl Engine for CEngine {
         });
         assert!(*state == before, "a report changed the state");
         answer
+    }
+
+    fn restore(&self, state: &mut Words, journal: &[u8], message: &mut [u8]) -> u64 {
+        checked(state, |words, count| {
+            // Guards that would end a line.
+            show(journal, b'\n', |journal, journal_bytes| {
+                lend(message, 0x5a, |bytes, capacity| unsafe {
+                    pack_restore(words, count, journal, journal_bytes, bytes, capacity)
+                })
+            })
+        })
     }
 }

@@ -1,5 +1,5 @@
-//! A second, independent implementation of the pack agreement engine (document 01, with N11 of document 02), as a check on
-//! the proved one. Each module follows one section of document 01.
+//! A second, independent implementation of the pack agreement engine (document 01, with N8, N10 and N11 of document 02), as a
+//! check on the proved one. Each module follows one section of document 01, or one request of 02.
 
 pub mod attack;
 mod broadcasts;
@@ -11,6 +11,7 @@ pub mod drill;
 pub mod engine;
 pub mod exits;
 mod fault;
+pub mod journal;
 pub mod message;
 pub mod packing;
 pub mod records;

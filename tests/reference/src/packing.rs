@@ -2,15 +2,16 @@
 //! Bits 0-7 hold the refusal, and 0 if the call was accepted.
 
 use crate::exits::Exit;
+use crate::journal::{NotRestored, Restored};
 use crate::message::{Message, HEAD};
 use crate::refusal::Refusal;
 use crate::report::Report;
 use crate::session::Outcome;
 
-/// An opening or a delivery.
-pub fn pack_plain(answer: &Result<(), Refusal>) -> u64 {
+/// An opening or a delivery: bits 16-31 the length of its line.
+pub fn pack_line(answer: &Result<usize, Refusal>) -> u64 {
     match answer {
-        Ok(()) => 0,
+        Ok(length) => (*length as u64) << 16,
         Err(refusal) => u64::from(refusal.number()),
     }
 }
@@ -39,6 +40,22 @@ pub fn pack_report(answer: &Result<Report, Refusal>) -> u64 {
             u64::from(report.exit.number()) << 8 | named << 16 | in_force << 24 | report.turns << 32
         }
         Err(refusal) => u64::from(refusal.number()),
+    }
+}
+
+/// Bits 8-15 are 1 where a message is given again, bits 16-31 its length, 32-63 the bytes of the complete lines. With
+/// JOURNAL, bits 8-63 the line's number.
+pub fn pack_restore(answer: &Result<Restored, NotRestored>) -> u64 {
+    match answer {
+        Ok(restored) => {
+            let message = match &restored.message {
+                Some(bytes) => 1 << 8 | (bytes.len() as u64) << 16,
+                None => 0,
+            };
+            message | (restored.complete as u64) << 32
+        }
+        Err(NotRestored::Short) => u64::from(Refusal::Short.number()),
+        Err(NotRestored::Journal { line }) => u64::from(Refusal::Journal.number()) | line << 8,
     }
 }
 
@@ -73,6 +90,37 @@ pub fn unpack_turn(answer: u64) -> Option<TurnAnswer> {
         (0, 2, 0) => Some(TurnAnswer::MovedOut),
         (0, 3, 0) => Some(TurnAnswer::InForce),
         (number, 0, 0) => Refusal::from_number(number).map(TurnAnswer::Refused),
+        _ => None,
+    }
+}
+
+/// A restore's answer, read back.
+#[derive(Clone, Copy, Debug, PartialEq, Eq)]
+pub enum RestoreAnswer {
+    /// The length of the message that is given again, if one is, and the bytes of the complete lines.
+    Restored {
+        message: Option<usize>,
+        complete: usize,
+    },
+    /// The line that cannot be applied.
+    Journal {
+        line: u64,
+    },
+    Refused(Refusal),
+}
+
+/// Reads a restore's answer; `None` if no restore answers so.
+pub fn unpack_restore(answer: u64) -> Option<RestoreAnswer> {
+    let complete = (answer >> 32) as usize;
+    match (answer & 0xff, answer >> 8 & 0xff, answer >> 16 & 0xffff) {
+        (0, 0, 0) => Some(RestoreAnswer::Restored { message: None, complete }),
+        (0, 1, length @ 20..=140) => {
+            Some(RestoreAnswer::Restored { message: Some(length as usize), complete })
+        }
+        (15, ..) => Some(RestoreAnswer::Journal { line: answer >> 8 }),
+        (number @ 8..=9, 0, 0) if complete == 0 => {
+            Refusal::from_number(number).map(RestoreAnswer::Refused)
+        }
         _ => None,
     }
 }

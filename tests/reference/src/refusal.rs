@@ -17,10 +17,12 @@ pub enum Refusal {
     NoState = 9,
     Closed = 10,
     Held = 11,
+    /// 02, N10.
+    Journal = 15,
 }
 
 impl Refusal {
-    pub const ALL: [Refusal; 11] = [
+    pub const ALL: [Refusal; 12] = [
         Refusal::Settings,
         Refusal::Length,
         Refusal::Kind,
@@ -32,9 +34,10 @@ impl Refusal {
         Refusal::NoState,
         Refusal::Closed,
         Refusal::Held,
+        Refusal::Journal,
     ];
 
-    /// The published number, 1 to 11.
+    /// The published number.
     pub fn number(self) -> u8 {
         self as u8
     }
@@ -57,6 +60,7 @@ impl Refusal {
             Refusal::NoState => "NO STATE",
             Refusal::Closed => "CLOSED",
             Refusal::Held => "HELD",
+            Refusal::Journal => "JOURNAL",
         }
     }
 }

@@ -9,7 +9,8 @@
 //!
 //! A list that is empty is `-`. Calls before an accepted opening are not taken.
 
-use crate::packing::{pack_plain, pack_turn};
+use crate::packing::pack_turn;
+use crate::refusal::Refusal;
 use crate::session::{Opening, Session};
 use crate::settings::Settings;
 
@@ -72,17 +73,16 @@ fn open(
         coins: &coins,
         weights: Settings::ones(n?),
     };
-    let answer = Session::open(&opening);
-    let number = pack_plain(&answer.as_ref().map(|_| ()).map_err(|refusal| *refusal));
-    if let Ok(opened) = answer {
-        *session = Some(opened);
-    }
-    Some(number.to_string())
+    Some(refusal_of(Session::open(&opening).map(|opened| *session = Some(opened))))
 }
 
 fn deliver(session: Option<&mut Session>, link: &str, bytes: &str) -> Option<String> {
-    let answer = session?.deliver(link.parse().ok()?, &bytes_of(bytes)?);
-    Some(pack_plain(&answer).to_string())
+    Some(refusal_of(session?.deliver(link.parse().ok()?, &bytes_of(bytes)?)))
+}
+
+/// The number of the refusal, 0 for accepted.
+fn refusal_of(answer: Result<(), Refusal>) -> String {
+    answer.err().map_or(0, Refusal::number).to_string()
 }
 
 fn turn(session: Option<&mut Session>, lent: &str) -> Option<String> {

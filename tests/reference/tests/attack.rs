@@ -1,28 +1,36 @@
 //! The attack holds against the sound engine and finds each fault.
 
-use pack_reference::attack::{attack, run_feeder};
+use pack_reference::attack::{attack, run_feeder, Journals, Violation};
 use pack_reference::compare::random_calls;
 use pack_reference::engine::{Lockstep, Reference};
-use pack_reference::Fault;
+use pack_reference::{Fault, Refusal};
 
 const SEED: u64 = 6;
 const FEEDERS: u64 = 60;
 
 #[test]
 fn sound_engine_holds() {
-    let (statistics, finding) = attack(&Reference::default(), SEED, FEEDERS);
+    let (statistics, finding) = attack(&Reference::default(), Journals::Kept, SEED, FEEDERS);
     assert!(finding.is_none(), "{}", finding.unwrap());
     assert!(statistics.exits.iter().all(|&seen| seen > 0), "{statistics}");
     assert!(statistics.closed > 0);
+    assert!(statistics.restores > 0 && statistics.lost_lines > 0, "{statistics}");
+}
+
+#[test]
+fn lost_lines_of_messages_that_left_are_found() {
+    let (_, finding) = attack(&Reference::default(), Journals::Lost, SEED, FEEDERS);
+    let violation = finding.map(|finding| finding.violation);
+    assert!(matches!(violation, Some(Violation::TwoSets { .. })), "{violation:?}");
 }
 
 #[test]
 fn each_fault_is_found_and_repeats() {
     for fault in Fault::ALL.into_iter().filter(|&fault| fault != Fault::None) {
         let engine = Reference { fault };
-        let (_, finding) = attack(&engine, SEED, FEEDERS);
+        let (_, finding) = attack(&engine, Journals::Kept, SEED, FEEDERS);
         let finding = finding.unwrap_or_else(|| panic!("{} was not found", fault.name()));
-        let (_, again) = run_feeder(&engine, finding.seed);
+        let (_, again) = run_feeder(&engine, Journals::Kept, finding.seed);
         assert_eq!(again, Err(finding.violation));
     }
 }
@@ -31,14 +39,16 @@ fn each_fault_is_found_and_repeats() {
 fn random_calls_meet_every_refusal() {
     let engine = Lockstep { first: Reference::default(), second: Reference::default() };
     let answers = random_calls(&engine, SEED, 200_000);
-    assert!(answers.refusals.iter().all(|&count| count > 0), "{answers:?}");
+    let given = |refusal: &Refusal| answers.refusals[usize::from(refusal.number())] > 0;
+    assert!(answers.refusals[0] > 0 && Refusal::ALL.iter().all(given), "{answers:?}");
 }
 
 #[test]
 fn lockstep_notices_each_fault() {
     for fault in Fault::ALL.into_iter().filter(|&fault| fault != Fault::None) {
         let engine = Lockstep { first: Reference::default(), second: Reference { fault } };
-        let noticed = std::panic::catch_unwind(|| attack(&engine, SEED, FEEDERS)).is_err();
+        let noticed =
+            std::panic::catch_unwind(|| attack(&engine, Journals::Kept, SEED, FEEDERS)).is_err();
         assert!(noticed, "{}", fault.name());
     }
 }

@@ -16,9 +16,12 @@ same-length c = search needs
 same-length-2 : tie.Need-same-length-2
 same-length-2 c = search needs
 
+same-length-3 : tie.Need-same-length-3
+same-length-3 c = search needs
+
 returns : tie.Need-returns
-returns c = search turn-cases
+returns c = (search turn-cases, (search turn-cases, (search turn-cases, search turn-cases)))
 
 pub pack-turn-spec : {M : Type 1} → statement M
 pack-turn-spec =
-    tie.close (tie.spec turn-requires outcome-number-requires same-length same-length-2 returns)
+    tie.close (tie.spec turn-requires outcome-number-requires same-length same-length-2 same-length-3 returns)

@@ -1,10 +1,10 @@
--- `turn_count` states the theorem of specs/Count.antt.
-use Rattle.turn_bound.specs.Count.{turn-count}
+-- `turn_count` states the theorem of specs/CallCount.antt.
+use Rattle.turn_bound.specs.CallCount.{call-count}
 use Rattle.turn_bound.proofs.turn_count.Statement.{statement}
 use Rattle.turn_bound.proofs.turn_count.Tie as tie
 
 returns : tie.Need-returns
-returns c = turn-count
+returns c = call-count
 
 pub turn-count-spec : {M : Type 1} → statement M
 turn-count-spec = tie.close (tie.spec returns)

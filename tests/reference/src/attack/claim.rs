@@ -69,6 +69,11 @@ impl Claim {
         Claim { agreement, pack, agreed: None, named: BTreeSet::new() }
     }
 
+    /// A set was named or in force.
+    pub fn is_agreed(&self) -> bool {
+        self.agreed.is_some()
+    }
+
     /// Checks what a report would show at `at` after a call.
     pub fn check(&mut self, at: Number, shown: &Shown) -> Result<(), Violation> {
         if self.agreement {

@@ -5,10 +5,12 @@ use std::rc::Rc;
 
 use super::claim::{Claim, Shown, Violation};
 use super::face::Face;
+use super::journal::{Journal, Journals, Noted, Sent};
 use super::plan::{Opened, Plan};
 use super::random::Random;
 use super::Statistics;
 use crate::engine::Engine;
+use crate::journal::{LINE_BYTES, TURN_LINE};
 use crate::message::{PackSet, LONGEST};
 use crate::packing::{refusal, unpack_report, unpack_turn, TurnAnswer};
 use crate::refusal::Refusal;
@@ -19,50 +21,55 @@ use crate::settings::Number;
 /// Lent words hold this before a report.
 const UNWRITTEN: u64 = 0xa5a5_a5a5_a5a5_a5a5;
 
-struct Honest<S> {
-    state: S,
-    opened: bool,
-    closed: bool,
+pub(super) struct Honest<S> {
+    pub state: S,
+    pub opened: bool,
+    pub closed: bool,
     /// Turns that did not answer idle.
-    taken: u64,
+    pub taken: u64,
+    pub journal: Journal,
 }
 
 #[derive(Clone, Copy)]
-enum Receiver {
+pub(super) enum Receiver {
     Honest(Number),
     Face(usize),
 }
 
 #[derive(Clone)]
-struct Parcel {
-    to: Receiver,
-    link: Number,
-    message: Rc<[u8]>,
+pub(super) struct Parcel {
+    pub to: Receiver,
+    pub sent: Sent,
 }
 
 pub struct Feeder<'a, E: Engine> {
-    engine: &'a E,
-    plan: &'a Plan,
-    random: Random,
-    honest: BTreeMap<Number, Honest<E::State>>,
+    pub(super) engine: &'a E,
+    pub(super) plan: &'a Plan,
+    pub(super) journals: Journals,
+    pub(super) random: Random,
+    pub(super) honest: BTreeMap<Number, Honest<E::State>>,
     faces: Vec<Face>,
     /// By the step at which they are due, then in order of sending.
-    parcels: BTreeMap<(u64, u64), Parcel>,
+    pub(super) parcels: BTreeMap<(u64, u64), Parcel>,
     parcel_count: u64,
     now: u64,
-    claim: Claim,
+    pub(super) claim: Claim,
+    /// Whose messages are lost on their way.
+    pub(super) muted: Option<Number>,
     pub statistics: Statistics,
 }
 
 impl<'a, E: Engine> Feeder<'a, E> {
-    pub fn new(engine: &'a E, plan: &'a Plan, seed: u64) -> Self {
+    pub fn new(engine: &'a E, plan: &'a Plan, journals: Journals, seed: u64) -> Self {
         let blank = |&number: &Number| {
-            let honest = Honest { state: engine.blank(), opened: false, closed: false, taken: 0 };
-            (number, honest)
+            let (opened, closed, taken) = (false, false, 0);
+            let journal = Journal::default();
+            (number, Honest { state: engine.blank(), opened, closed, taken, journal })
         };
         Feeder {
             engine,
             plan,
+            journals,
             random: Random::new(seed),
             honest: plan.inputs.keys().map(blank).collect(),
             faces: Face::all(plan),
@@ -70,6 +77,7 @@ impl<'a, E: Engine> Feeder<'a, E> {
             parcel_count: 0,
             now: 0,
             claim: Claim::new(plan.owes_agreement(), plan.owed_pack()),
+            muted: None,
             statistics: Statistics::default(),
         }
     }
@@ -83,6 +91,9 @@ impl<'a, E: Engine> Feeder<'a, E> {
             self.open_due()?;
             if self.random.once_in(self.plan.pace.refused_calls) {
                 self.make_refused_call()?;
+            }
+            if self.plan.pace.power_losses.is_some_and(|times| self.random.once_in(times)) {
+                self.lose_power()?;
             }
             if let Some(((due, _), parcel)) = self.parcels.pop_first() {
                 self.now = self.now.max(due) + 1;
@@ -116,10 +127,11 @@ impl<'a, E: Engine> Feeder<'a, E> {
         }
         let opening = plan.opening(number, plan.inputs[&number]);
         let honest = self.honest.get_mut(&number).expect("an honest number");
-        let answer = self.engine.open(&mut honest.state, &opening);
-        if answer != 0 {
-            return Err(Violation::Answer { at: number, call: "opening", answer });
-        }
+        let mut line = [0; LINE_BYTES];
+        let answer = self.engine.open(&mut honest.state, &opening, &mut line);
+        let written = written_line(answer, &line);
+        let wrong = Violation::Answer { at: number, call: "opening", answer };
+        honest.journal.add(Noted::Opening, written.ok_or(wrong)?);
         honest.opened = true;
         self.check(number)?;
         self.act(number).map(drop)
@@ -129,12 +141,13 @@ impl<'a, E: Engine> Feeder<'a, E> {
     fn use_before_opening(&mut self, number: Number) {
         let other = number % self.plan.settings.n() + 1;
         let state = &mut self.honest.get_mut(&number).expect("an honest number").state;
-        self.engine.open(state, &self.plan.opening(other, UNWRITTEN));
+        let line = &mut [0; LINE_BYTES];
+        self.engine.open(state, &self.plan.opening(other, UNWRITTEN), line);
         for _ in 0..2 * self.plan.settings.n() {
             let mut lent = [0; LONGEST];
-            let answer = self.engine.turn(state, &mut lent);
+            let answer = self.engine.turn(state, &mut lent, line);
             if let Some(TurnAnswer::Sent { length }) = unpack_turn(answer) {
-                self.engine.deliver(state, u64::from(other), &lent[..length]);
+                self.engine.deliver(state, u64::from(other), &lent[..length], line);
             }
         }
     }
@@ -155,7 +168,7 @@ impl<'a, E: Engine> Feeder<'a, E> {
     }
 
     /// Turns until idle or closed. Answers whether a turn was not idle.
-    fn act(&mut self, number: Number) -> Result<bool, Violation> {
+    pub(super) fn act(&mut self, number: Number) -> Result<bool, Violation> {
         let before = self.honest[&number].taken;
         while self.turn(number)? {}
         Ok(self.honest[&number].taken > before)
@@ -163,9 +176,9 @@ impl<'a, E: Engine> Feeder<'a, E> {
 
     /// One turn. Answers whether another can follow.
     fn turn(&mut self, number: Number) -> Result<bool, Violation> {
-        let mut lent = [0; LONGEST];
+        let (mut lent, mut line) = ([0; LONGEST], [0; LINE_BYTES]);
         let honest = self.honest.get_mut(&number).expect("an honest number");
-        let answer = self.engine.turn(&mut honest.state, &mut lent);
+        let answer = self.engine.turn(&mut honest.state, &mut lent, &mut line);
         let wrong = Err(Violation::Answer { at: number, call: "turn", answer });
         let read = match unpack_turn(answer) {
             Some(TurnAnswer::Refused(Refusal::Closed)) if honest.closed => return Ok(false),
@@ -174,39 +187,48 @@ impl<'a, E: Engine> Feeder<'a, E> {
             Some(read) if honest.opened && !honest.closed => read,
             Some(_) => return wrong,
         };
-        honest.taken += u64::from(read != TurnAnswer::Idle);
+        let length = if let TurnAnswer::Sent { length } = read { length } else { 0 };
+        let message: Rc<[u8]> = lent[..length].into();
+        if read != TurnAnswer::Idle {
+            honest.taken += 1;
+            let noted = Noted::Turn { answer: read, message: Rc::clone(&message) };
+            honest.journal.add(noted, &line[..TURN_LINE.len()]);
+        }
         honest.closed = read == TurnAnswer::InForce;
+        let line = Some(honest.journal.len());
         self.check(number)?;
-        if let TurnAnswer::Sent { length } = read {
-            self.send_to_all(number, &lent[..length]);
+        if length != 0 {
+            self.send_to_all(&Sent { link: number, message, line });
         }
         Ok(matches!(read, TurnAnswer::Sent { .. } | TurnAnswer::MovedOut))
     }
 
     /// An honest one's message goes to all honest ones and to all faces.
-    fn send_to_all(&mut self, sender: Number, message: &[u8]) {
-        let message: Rc<[u8]> = message.into();
+    pub(super) fn send_to_all(&mut self, sent: &Sent) {
         let numbers: Vec<Number> = self.honest.keys().copied().collect();
         for number in numbers {
-            let delay = self.plan.delay(&mut self.random, &message, number);
-            self.send(Receiver::Honest(number), sender, &message, delay);
+            let delay = self.plan.delay(&mut self.random, &sent.message, number);
+            self.send(Receiver::Honest(number), sent.clone(), delay);
         }
         for face in 0..self.faces.len() {
             let delay = self.random.below(self.plan.pace.jitter);
-            self.send(Receiver::Face(face), sender, &message, delay);
+            self.send(Receiver::Face(face), sent.clone(), delay);
         }
     }
 
-    fn send(&mut self, to: Receiver, link: Number, message: &Rc<[u8]>, delay: u64) {
+    pub(super) fn send(&mut self, to: Receiver, sent: Sent, delay: u64) {
+        if self.muted == Some(sent.link) {
+            return;
+        }
         let place = (self.now + delay, self.parcel_count);
         self.parcel_count += 1;
-        self.parcels.insert(place, Parcel { to, link, message: Rc::clone(message) });
+        self.parcels.insert(place, Parcel { to, sent });
     }
 
     fn hand_over(&mut self, parcel: Parcel) -> Result<(), Violation> {
         match parcel.to {
             Receiver::Face(face) => {
-                self.faces[face].deliver(parcel.link, &parcel.message);
+                self.faces[face].deliver(parcel.sent.link, &parcel.sent.message);
                 self.act_as_face(face);
                 Ok(())
             }
@@ -224,11 +246,13 @@ impl<'a, E: Engine> Feeder<'a, E> {
     }
 
     fn deliver(&mut self, number: Number, parcel: Parcel) -> Result<(), Violation> {
+        let sent = &parcel.sent;
         let honest = self.honest.get_mut(&number).expect("an honest number");
-        let answer =
-            self.engine.deliver(&mut honest.state, u64::from(parcel.link), &parcel.message);
+        let (link, mut line) = (u64::from(sent.link), [0; LINE_BYTES]);
+        let answer = self.engine.deliver(&mut honest.state, link, &sent.message, &mut line);
+        let written = written_line(answer, &line);
         let fits = match refusal(answer) {
-            None => answer == 0 && honest.opened && !honest.closed,
+            None => written.is_some() && honest.opened && !honest.closed,
             Some(Refusal::NoState) => !honest.opened,
             Some(Refusal::Closed) => honest.closed,
             Some(Refusal::Held) => honest.opened && !honest.closed,
@@ -237,14 +261,25 @@ impl<'a, E: Engine> Feeder<'a, E> {
         if !fits {
             return Err(Violation::Answer { at: number, call: "delivery", answer });
         }
+        if let Some(written) = written {
+            honest.journal.add(Noted::Delivery(sent.clone()), written);
+            self.note_left(sent);
+        }
         if self.random.once_in(40) {
-            self.send(parcel.to, parcel.link, &parcel.message, 1);
+            self.send(parcel.to, parcel.sent, 1);
         }
         self.check(number)
     }
 
+    /// A message that an honest one accepted has left: its sender must not lose the line.
+    fn note_left(&mut self, sent: &Sent) {
+        if let (Some(line), Some(sender)) = (sent.line, self.honest.get_mut(&sent.link)) {
+            sender.journal.need(line);
+        }
+    }
+
     /// Checks demand 3 and the count of turns after a call.
-    fn check(&mut self, number: Number) -> Result<(), Violation> {
+    pub(super) fn check(&mut self, number: Number) -> Result<(), Violation> {
         self.statistics.calls += 1;
         let honest = &self.honest[&number];
         if !honest.opened {
@@ -283,18 +318,21 @@ impl<'a, E: Engine> Feeder<'a, E> {
         let mut message = vec![1, 1, link as u8, link as u8, 0, 1, 0, 0];
         message.extend(self.plan.session.to_be_bytes());
         message.extend([0; 8]);
-        let choice = self.random.below(8);
+        let choice = self.random.below(10);
+        let line = &mut [0; LINE_BYTES];
         let state = &mut self.honest.get_mut(&number).expect("an honest number").state;
         let refused_opening = Opening { ts: 100, ..self.plan.opening(number, 0) };
         let answer = match choice {
-            0 => self.engine.turn(state, &mut [0; LONGEST - 1]),
+            0 => self.engine.turn(state, &mut [0; LONGEST - 1], line),
             1 => self.engine.report(state, &mut [0; SET_WORDS], &mut [0; SET_WORDS - 1]),
-            2 => self.engine.deliver(state, link, &message[..11]),
-            3 => self.engine.deliver(state, link + 256, &message),
-            4 => self.engine.open(state, &refused_opening),
+            2 => self.engine.deliver(state, link, &message[..11], line),
+            3 => self.engine.deliver(state, link + 256, &message, line),
+            4 => self.engine.open(state, &refused_opening, line),
+            5 => self.engine.turn(state, &mut [0; LONGEST], &mut line[1..]),
+            6 => self.engine.restore(state, b"O\t1\n", &mut [0; LONGEST - 1]),
             place => {
-                message[[0, 6, 8][place as usize - 5]] ^= 0x80;
-                self.engine.deliver(state, link, &message)
+                message[[0, 6, 8][place as usize - 7]] ^= 0x80;
+                self.engine.deliver(state, link, &message, line)
             }
         };
         if refusal(answer).is_none() || answer > 0xff {
@@ -313,7 +351,8 @@ impl<'a, E: Engine> Feeder<'a, E> {
             let in_group = |number: &&Number| plan.groups[number] == lie.group;
             for &number in plan.inputs.keys().filter(in_group) {
                 for _ in 0..lie.times {
-                    self.send(Receiver::Honest(number), liar, &message, 0);
+                    let sent = Sent { link: liar, message: Rc::clone(&message), line: None };
+                    self.send(Receiver::Honest(number), sent, 0);
                 }
             }
         }
@@ -323,21 +362,27 @@ impl<'a, E: Engine> Feeder<'a, E> {
     fn act_as_face(&mut self, face: usize) {
         let plan = self.plan;
         for message in self.faces[face].act() {
-            let message: Rc<[u8]> = message.into();
             let Face { liar, group, .. } = self.faces[face];
+            let sent = Sent { link: liar, message: message.into(), line: None };
             for &number in plan.inputs.keys() {
                 if self.faces[face].talks_to(plan.groups[&number]) {
-                    let delay = plan.delay(&mut self.random, &message, number);
-                    self.send(Receiver::Honest(number), liar, &message, delay);
+                    let delay = plan.delay(&mut self.random, &sent.message, number);
+                    self.send(Receiver::Honest(number), sent.clone(), delay);
                 }
             }
             for other in 0..self.faces.len() {
                 if self.faces[other].group == group {
-                    self.send(Receiver::Face(other), liar, &message, 0);
+                    self.send(Receiver::Face(other), sent.clone(), 0);
                 }
             }
         }
     }
+}
+
+/// The line of an opening or a delivery that was accepted; `None` if there is none, or it does not end with its LF.
+fn written_line(answer: u64, lent: &[u8]) -> Option<&[u8]> {
+    let line = lent.get(..(answer >> 16) as usize)?;
+    (answer & 0xffff == 0 && line.ends_with(b"\n")).then_some(line)
 }
 
 /// A set that was written to lent words; `None` if it does not rise or more was written.

@@ -3,8 +3,10 @@
 mod claim;
 mod face;
 mod feeder;
+mod journal;
 mod pick;
 mod plan;
+mod power;
 pub(crate) mod random;
 mod script;
 
@@ -12,6 +14,7 @@ use std::collections::BTreeSet;
 use std::fmt;
 
 pub use claim::{Claim, Shown, Violation};
+pub use journal::Journals;
 pub use plan::Plan;
 
 use crate::compare::all_settings;
@@ -33,6 +36,9 @@ pub struct Statistics {
     pub settings: BTreeSet<Settings>,
     /// The most turns of an honest one that were not idle, in hundredths of 99·n+3.
     pub most_turns: u64,
+    /// Restores after power was lost, and the lines that were lost.
+    pub restores: u64,
+    pub lost_lines: u64,
     seen: BTreeSet<u8>,
     closed_here: BTreeSet<Number>,
 }
@@ -46,6 +52,11 @@ impl Statistics {
         }
     }
 
+    fn note_restore(&mut self, lost_lines: usize) {
+        self.restores += 1;
+        self.lost_lines += lost_lines as u64;
+    }
+
     fn add_feeder(&mut self, other: &Statistics) {
         self.calls += other.calls;
         self.feeders += 1;
@@ -55,6 +66,8 @@ impl Statistics {
         self.closed += u64::from(!other.closed_here.is_empty());
         self.settings.extend(&other.settings);
         self.most_turns = self.most_turns.max(other.most_turns);
+        self.restores += other.restores;
+        self.lost_lines += other.lost_lines;
     }
 }
 
@@ -64,12 +77,14 @@ impl fmt::Display for Statistics {
         write!(
             f,
             "{} feeders of {} settings, {} calls; exit 1 seen in {one}, exit 2 in {two}, exit 3 in {three}, closed in \
-             {}; at most {} % of the turns that 99n+3 allows",
+             {}; at most {} % of the turns that 99n+3 allows; {} restores, {} lines lost",
             self.feeders,
             self.settings.len(),
             self.calls,
             self.closed,
-            self.most_turns
+            self.most_turns,
+            self.restores,
+            self.lost_lines
         )
     }
 }
@@ -91,25 +106,34 @@ impl fmt::Display for Finding {
 }
 
 /// Runs the feeder of one seed.
-pub fn run_feeder<E: Engine>(engine: &E, seed: u64) -> (Statistics, Result<(), Violation>) {
-    let plan = Plan::new(seed);
-    let mut feeder = Feeder::new(engine, &plan, !seed);
+pub fn run_feeder<E: Engine>(
+    engine: &E,
+    journals: Journals,
+    seed: u64,
+) -> (Statistics, Result<(), Violation>) {
+    let plan = Plan::new(seed, journals);
+    let mut feeder = Feeder::new(engine, &plan, journals, !seed);
     let result = feeder.run();
     (feeder.statistics, result)
 }
 
 /// Runs so many feeders and then more, until all settings with n up to 7 and weights of 1 had one; it ends early where
 /// demand 3 is broken.
-pub fn attack<E: Engine>(engine: &E, seed: u64, feeders: u64) -> (Statistics, Option<Finding>) {
+pub fn attack<E: Engine>(
+    engine: &E,
+    journals: Journals,
+    seed: u64,
+    feeders: u64,
+) -> (Statistics, Option<Finding>) {
     let mut random = Random::new(seed);
     let mut total = Statistics::default();
     let mut left: BTreeSet<Settings> = all_settings(pick::MOST as u64).collect();
     while total.feeders < feeders || !left.is_empty() {
         let seed = random.word();
-        if feeders <= total.feeders && !left.contains(&Plan::new(seed).settings) {
+        if feeders <= total.feeders && !left.contains(&Plan::new(seed, journals).settings) {
             continue;
         }
-        let (statistics, result) = run_feeder(engine, seed);
+        let (statistics, result) = run_feeder(engine, journals, seed);
         total.add_feeder(&statistics);
         left.retain(|settings| !total.settings.contains(settings));
         if let Err(violation) = result {

@@ -2,6 +2,7 @@
 
 use std::collections::{BTreeMap, BTreeSet};
 
+use super::journal::Journals;
 use super::plan::{Aim, Faces, Group, Hold, Opened, Pace};
 use super::random::Random;
 use super::script::Script;
@@ -214,13 +215,31 @@ pub fn target(random: &mut Random, settings: &Settings, aim: Aim) -> Number {
     random.pick(&settings.numbers().filter(suits).collect::<Vec<Number>>())
 }
 
-pub fn pace(random: &mut Random, settings: &Settings, aim: Aim, target: Number) -> Pace {
+pub fn pace(
+    random: &mut Random,
+    settings: &Settings,
+    aim: Aim,
+    target: Number,
+    journals: Journals,
+) -> Pace {
     Pace {
         holds: holds(random, settings, aim, target),
         jitter: random.pick(&[1, 1, 5, 30, 200]),
         laziness: random.pick(&[1, 1, 2, 5]),
         refused_calls: random.pick(&[20, 200]),
         call_limit: random.pick(&[3_000, 6_000, 12_000]),
+        power_losses: power_losses(random, journals),
+    }
+}
+
+/// In one of three feeders; always where lines of messages that left may be lost.
+fn power_losses(random: &mut Random, journals: Journals) -> Option<u64> {
+    match (journals, random.below(9)) {
+        (Journals::Lost, _) => Some(50),
+        (Journals::Kept, 0) => Some(10),
+        (Journals::Kept, 1) => Some(60),
+        (Journals::Kept, 2) => Some(300),
+        (Journals::Kept, _) => None,
     }
 }
 

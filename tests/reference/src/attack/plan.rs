@@ -2,6 +2,7 @@
 
 use std::collections::{BTreeMap, BTreeSet};
 
+use super::journal::Journals;
 use super::pick;
 use super::random::Random;
 use super::script::Script;
@@ -82,6 +83,8 @@ pub struct Pace {
     pub laziness: u64,
     /// Once in so many steps there is a call that must be refused.
     pub refused_calls: u64,
+    /// Once in so many steps an honest one loses power, if ever.
+    pub power_losses: Option<u64>,
     pub call_limit: u64,
 }
 
@@ -105,7 +108,7 @@ pub struct Plan {
 }
 
 impl Plan {
-    pub fn new(seed: u64) -> Plan {
+    pub fn new(seed: u64, journals: Journals) -> Plan {
         let random = &mut Random::new(seed);
         let aim = pick::aim(random);
         let settings = pick::settings(random, aim);
@@ -126,7 +129,7 @@ impl Plan {
             groups: pick::groups(random, &settings),
             faces: pick::faces(random, &packs),
             script: pick::script(random, &settings, &coins, &packs, aim, target),
-            pace: pick::pace(random, &settings, aim, target),
+            pace: pick::pace(random, &settings, aim, target, journals),
             coins,
         }
     }

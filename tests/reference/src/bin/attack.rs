@@ -1,43 +1,60 @@
-//! Attacks the reference engine, sound and with each fault. Arguments: seed, number of feeders, and
-//! optionally one fault. It succeeds if the sound engine holds and every fault is found.
+//! Attacks the reference engine, sound, with each fault, and sound with lost lines of the journals. Arguments: seed, number of
+//! feeders, and optionally one of these. It succeeds if the sound engine holds and everything else is found.
 
 use std::process::ExitCode;
 
-use pack_reference::attack::attack;
+use pack_reference::attack::{attack, Journals};
 use pack_reference::engine::Reference;
 use pack_reference::Fault;
 
+/// What is attacked.
+#[derive(Clone, Copy)]
+struct Target {
+    name: &'static str,
+    fault: Fault,
+    journals: Journals,
+}
+
+fn targets() -> Vec<Target> {
+    let faulty = |fault: Fault| Target { name: fault.name(), fault, journals: Journals::Kept };
+    let lost = Target { name: "lost-lines", fault: Fault::None, journals: Journals::Lost };
+    Fault::ALL.into_iter().map(faulty).chain([lost]).collect()
+}
+
 fn main() -> ExitCode {
     let arguments: Vec<String> = std::env::args().skip(1).collect();
-    let Some((seed, feeders, faults)) = read_arguments(&arguments) else {
+    let Some((seed, feeders, targets)) = read_arguments(&arguments) else {
         eprintln!("usage: attack SEED FEEDERS [FAULT]");
-        Fault::ALL.iter().for_each(|fault| eprintln!("  fault {}", fault.name()));
+        targets().iter().for_each(|target| eprintln!("  fault {}", target.name));
         return ExitCode::from(2);
     };
-    let as_wanted = faults.iter().filter(|&&fault| run(seed, feeders, fault)).count();
-    if as_wanted == faults.len() {
+    let as_wanted = targets.iter().filter(|target| run(seed, feeders, target)).count();
+    if as_wanted == targets.len() {
         ExitCode::SUCCESS
     } else {
         ExitCode::FAILURE
     }
 }
 
-fn read_arguments(arguments: &[String]) -> Option<(u64, u64, Vec<Fault>)> {
-    let (seed, feeders, faults) = match arguments {
-        [seed, feeders] => (seed, feeders, Fault::ALL.to_vec()),
-        [seed, feeders, fault] => (seed, feeders, vec![Fault::from_name(fault)?]),
+fn read_arguments(arguments: &[String]) -> Option<(u64, u64, Vec<Target>)> {
+    let (seed, feeders, targets) = match arguments {
+        [seed, feeders] => (seed, feeders, targets()),
+        [seed, feeders, name] => {
+            (seed, feeders, vec![targets().into_iter().find(|target| target.name == name)?])
+        }
         _ => return None,
     };
-    Some((seed.parse().ok()?, feeders.parse().ok()?, faults))
+    Some((seed.parse().ok()?, feeders.parse().ok()?, targets))
 }
 
-/// Answers whether the run ended as it should: with a finding exactly if there is a fault.
-fn run(seed: u64, feeders: u64, fault: Fault) -> bool {
-    let (statistics, finding) = attack(&Reference { fault }, seed, feeders);
-    println!("fault {}: {statistics}", fault.name());
+/// Answers whether the run ended as it should: with a finding exactly if there is a fault or lines are lost.
+fn run(seed: u64, feeders: u64, target: &Target) -> bool {
+    let Target { name, fault, journals } = *target;
+    let (statistics, finding) = attack(&Reference { fault }, journals, seed, feeders);
+    println!("fault {name}: {statistics}");
     match &finding {
         Some(finding) => println!("  violation in {finding}"),
         None => println!("  no violation"),
     }
-    finding.is_some() == (fault != Fault::None)
+    finding.is_some() == (fault != Fault::None || journals == Journals::Lost)
 }

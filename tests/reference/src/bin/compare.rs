@@ -5,10 +5,10 @@ use std::fmt::Display;
 use std::process::ExitCode;
 use std::time::Instant;
 
-use pack_reference::attack::attack;
+use pack_reference::attack::{attack, Journals};
 use pack_reference::c_engine::{check_word_counts, CEngine};
 use pack_reference::compare::{
-    damaged_deliveries, foreign_calls, longest_sessions, random_calls, unnamed_openings,
+    damaged_deliveries, foreign_calls, longest_sessions, random_calls, restores, unnamed_openings,
 };
 use pack_reference::engine::{Lockstep, Reference};
 use pack_reference::Opening;
@@ -40,9 +40,10 @@ fn main() -> ExitCode {
     note("damaged messages", &damaged_deliveries(&engine));
     note("longest sessions", &longest_sessions(&engine, 7));
     note("ta unnamed", &unnamed_openings(&engine, seed, 20));
+    note("restores", &restores(&engine, seed, 12));
     note("random calls", &random_calls(&engine, seed, calls));
     note("planted words", &foreign_calls(&CEngine, &CEngine, seed, foreign));
-    let (statistics, finding) = attack(&engine, seed, feeders);
+    let (statistics, finding) = attack(&engine, Journals::Kept, seed, feeders);
     note("attack", &statistics);
     match finding {
         Some(finding) => {

@@ -1,9 +1,12 @@
-//! Calls with random arguments on one state, each followed by a report.
+//! Calls with random arguments on one state, restores from its journal among them, each followed by a report.
 
 use super::Answers;
 use crate::attack::random::Random;
 use crate::engine::Engine;
+use crate::journal::LINE_BYTES;
 use crate::message::{Message, PackSet, LONGEST};
+use crate::packing::refusal;
+use crate::refusal::Refusal;
 use crate::report::SET_WORDS;
 use crate::session::Opening;
 use crate::settings::{Number, Round, Settings};
@@ -14,6 +17,8 @@ struct Caller<'a, E: Engine> {
     state: E::State,
     session: u32,
     left: Vec<(Number, Message)>,
+    /// The lines since the last opening.
+    journal: Vec<u8>,
     /// The last turn did something.
     busy: bool,
     random: Random,
@@ -23,10 +28,19 @@ struct Caller<'a, E: Engine> {
 /// Opens one state anew, again and again, and makes so many calls on it. They follow from the seed and the answers.
 pub fn random_calls<E: Engine>(engine: &E, seed: u64, calls: u64) -> Answers {
     let random = Random::new(seed);
-    let (session, left, busy, answers) = (0, Vec::new(), false, Answers::default());
-    let mut caller = Caller { engine, state: engine.blank(), session, left, busy, random, answers };
+    let mut caller = Caller {
+        engine,
+        state: engine.blank(),
+        session: 0,
+        left: Vec::new(),
+        journal: Vec::new(),
+        busy: false,
+        random,
+        answers: Answers::default(),
+    };
     for _ in 0..calls {
         let answer = match caller.random.below(12) {
+            _ if caller.random.once_in(400) => caller.restore(),
             // Mostly turns until idle, or votes would get nowhere.
             0..=5 if caller.busy && !caller.random.once_in(8) => caller.turn(),
             0..=5 => match caller.left.pop() {
@@ -65,8 +79,10 @@ impl<E: Engine> Caller<'_, E> {
         let [n, ta, ts, own] = numbers;
         let (coins, weights) = (&coins[..], &weights[..]);
         let opening = Opening { n, ta, ts, own, session, input, coins, weights };
-        let answer = self.engine.open(&mut self.state, &opening);
-        if answer == 0 {
+        let mut line = vec![0xa5; length(random, LINE_BYTES)];
+        let answer = self.engine.open(&mut self.state, &opening, &mut line);
+        if refusal(answer).is_none() {
+            self.journal = line[..line_length(answer)].to_vec();
             self.session = session;
             self.left = messages(random, n as u8);
         }
@@ -94,14 +110,46 @@ impl<E: Engine> Caller<'_, E> {
         if damage <= 8 && !random.once_in(40) {
             self.left.push((sender, message.clone()));
         }
-        self.engine.deliver(&mut self.state, link, &bytes)
+        let mut line = vec![0xa5; length(random, LINE_BYTES)];
+        let answer = self.engine.deliver(&mut self.state, link, &bytes, &mut line);
+        if answer == u64::from(Refusal::Short.number()) {
+            self.left.push((sender, message.clone()));
+        }
+        self.journal.extend(&line[..line_length(answer)]);
+        answer
     }
 
     fn turn(&mut self) -> u64 {
-        let length = length(&mut self.random, LONGEST);
-        let answer = self.engine.turn(&mut self.state, &mut vec![0xa5; length]);
+        let mut message = vec![0xa5; length(&mut self.random, LONGEST)];
+        let mut line = vec![0xa5; length(&mut self.random, LINE_BYTES)];
+        let answer = self.engine.turn(&mut self.state, &mut message, &mut line);
         self.answers.note_turn(answer);
         self.busy = 1 << 8 <= answer;
+        if self.busy {
+            self.journal.extend(&line[..2]);
+        }
+        answer
+    }
+
+    /// From the journal up to a byte of its last lines; at times with a byte changed. The session goes on from there.
+    fn restore(&mut self) -> u64 {
+        let random = &mut self.random;
+        // Mostly the whole: a lost delivery would stop a vote with ta = 0.
+        let most = random.pick(&[1, 1, 1, 1, 1, 3, 60, 400]).min(self.journal.len() as u64 + 1);
+        let mut journal = self.journal.clone();
+        journal.truncate(self.journal.len() - random.below(most) as usize);
+        if random.once_in(8) && !journal.is_empty() {
+            let place = random.below(journal.len() as u64) as usize;
+            journal[place] = random.pick(b"\n\t0aATDO\r\xff");
+        }
+        let mut state = self.engine.littered(random.word());
+        let answer =
+            self.engine.restore(&mut state, &journal, &mut vec![0xa5; length(random, LONGEST)]);
+        if refusal(answer).is_none() {
+            journal.truncate((answer >> 32) as usize);
+            (self.state, self.journal) = (state, journal);
+            self.busy = true;
+        }
         answer
     }
 
@@ -117,6 +165,11 @@ impl<E: Engine> Caller<'_, E> {
         let answer = self.engine.report(&self.state, &mut named, &mut in_force);
         self.answers.note_report(answer);
     }
+}
+
+/// The length of the line that an opening or a delivery wrote; 0 where it was refused.
+pub fn line_length(answer: u64) -> usize {
+    (answer >> 16 & 0xffff) as usize
 }
 
 /// n, up to `most`, ta and ts that opening takes with these weights.
@@ -166,7 +219,7 @@ pub const EDGES: [u64; 12] =
     [0, 1, 2, 15, 16, 17, 255, 256, 1 << 32, 1 << 63, (1 << 63) + 1, u64::MAX];
 
 /// A message for nearly every place, mostly with the value that the other senders give, in random order.
-fn messages(random: &mut Random, n: u8) -> Vec<(Number, Message)> {
+pub fn messages(random: &mut Random, n: u8) -> Vec<(Number, Message)> {
     let rounds: Round = random.pick(&[1, 2, 4, if n > 5 { 4 } else { 32 }]);
     let packs = random.pick(&[1, 2, 2, 3, 16]);
     let noise = random.pick(&[2, 20, 1_000]);

@@ -3,6 +3,7 @@
 use super::calls::EDGES;
 use super::Answers;
 use crate::engine::Engine;
+use crate::journal::LINE_BYTES;
 use crate::message::{Message, PackSet, HEAD};
 use crate::session::Opening;
 use crate::settings::Number;
@@ -28,8 +29,8 @@ where
         let (coins, weights) = (&vec![0; n as usize][..], &vec![weight; n as usize][..]);
         let opening = Opening { n, ta, ts, own: 1, session: SESSION, input: 5, coins, weights };
         for message in messages(n as Number) {
-            let answer = engine.open(&mut deliveries.state, &opening);
-            assert_eq!(answer, 0, "good settings");
+            let answer = engine.open(&mut deliveries.state, &opening, &mut [0; LINE_BYTES]);
+            assert_eq!(answer & 0xff, 0, "good settings");
             let bytes = message.to_bytes(n as Number, SESSION);
             deliveries.damage(n, &bytes);
             deliveries.deliver_here(n, &bytes);
@@ -59,12 +60,13 @@ where
 {
     /// To a copy of the state.
     fn deliver(&mut self, link: u64, bytes: &[u8]) {
-        let answer = self.engine.deliver(&mut self.state.clone(), link, bytes);
+        let answer =
+            self.engine.deliver(&mut self.state.clone(), link, bytes, &mut [7; LINE_BYTES]);
         self.answers.note(answer);
     }
 
     fn deliver_here(&mut self, link: u64, bytes: &[u8]) {
-        let answer = self.engine.deliver(&mut self.state, link, bytes);
+        let answer = self.engine.deliver(&mut self.state, link, bytes, &mut [7; LINE_BYTES]);
         self.answers.note(answer);
     }
 

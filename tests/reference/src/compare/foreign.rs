@@ -5,6 +5,7 @@ use super::Answers;
 use crate::attack::random::Random;
 use crate::c_engine::{words, Words, STATE_WORDS};
 use crate::engine::Engine;
+use crate::journal::LINE_BYTES;
 use crate::message::{Message, LONGEST};
 use crate::report::SET_WORDS;
 use crate::session::Opening;
@@ -66,8 +67,11 @@ impl<A: Engine<State = Words>, B: Engine<State = Words>> Pair<'_, A, B> {
         damage_weights(&mut self.random, &mut weights);
         let weights = &weights[..];
         let opening = &Opening { n, ta, ts, own, session: 7, input: 5, coins, weights };
-        let first = self.first.open(&mut self.state, opening);
-        assert_eq!(first, self.second.open(&mut self.copy, opening), "openings differ");
+        let mut line = vec![0xa5; length(&mut self.random, LINE_BYTES)];
+        let mut line_copy = line.clone();
+        let first = self.first.open(&mut self.state, opening, &mut line);
+        let second = self.second.open(&mut self.copy, opening, &mut line_copy);
+        assert_eq!((first, line), (second, line_copy), "openings differ");
         first
     }
 
@@ -81,17 +85,21 @@ impl<A: Engine<State = Words>, B: Engine<State = Words>> Pair<'_, A, B> {
             bytes[place] = self.random.word() as u8;
         }
         let link = u64::from(sender);
-        let first = self.first.deliver(&mut self.state, link, &bytes);
-        assert_eq!(first, self.second.deliver(&mut self.copy, link, &bytes), "deliveries differ");
+        let mut line = vec![0xa5; length(&mut self.random, LINE_BYTES)];
+        let mut line_copy = line.clone();
+        let first = self.first.deliver(&mut self.state, link, &bytes, &mut line);
+        let second = self.second.deliver(&mut self.copy, link, &bytes, &mut line_copy);
+        assert_eq!((first, line), (second, line_copy), "deliveries differ");
         first
     }
 
     fn turn(&mut self) -> u64 {
         let mut lent = vec![0xa5; length(&mut self.random, LONGEST)];
-        let mut lent_copy = lent.clone();
-        let first = self.first.turn(&mut self.state, &mut lent);
-        let second = self.second.turn(&mut self.copy, &mut lent_copy);
-        assert_eq!((first, lent), (second, lent_copy), "turns differ");
+        let mut line = vec![0xa5; length(&mut self.random, LINE_BYTES)];
+        let (mut lent_copy, mut line_copy) = (lent.clone(), line.clone());
+        let first = self.first.turn(&mut self.state, &mut lent, &mut line);
+        let second = self.second.turn(&mut self.copy, &mut lent_copy, &mut line_copy);
+        assert_eq!((first, lent, line), (second, lent_copy, line_copy), "turns differ");
         self.answers.note_turn(first);
         first
     }

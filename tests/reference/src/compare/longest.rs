@@ -2,6 +2,7 @@
 
 use super::Answers;
 use crate::engine::Engine;
+use crate::journal::LINE_BYTES;
 use crate::message::{Message, PackSet, LONGEST};
 use crate::packing::unpack_report;
 use crate::report::SET_WORDS;
@@ -41,15 +42,16 @@ fn longest_session<E: Engine>(engine: &E, settings: &Settings, answers: &mut Ans
     let coins = vec![u32::MAX; n as usize];
     let (coins, weights) = (&coins[..], settings.weights());
     let opening = Opening { n, ta, ts, own: n, session: 7, input: n, coins, weights };
-    answers.note(engine.open(&mut state, &opening));
+    let line = &mut [0; LINE_BYTES];
+    answers.note(engine.open(&mut state, &opening, line));
     for (sender, message) in all_messages(settings) {
         let bytes = message.to_bytes(sender, 7);
-        answers.note(engine.deliver(&mut state, u64::from(sender), &bytes));
+        answers.note(engine.deliver(&mut state, u64::from(sender), &bytes, line));
     }
     act(engine, &mut state, answers);
     for sender in settings.numbers() {
         let bytes = Message::Commit { values: PackSet::from([n]) }.to_bytes(sender, 7);
-        answers.note(engine.deliver(&mut state, u64::from(sender), &bytes));
+        answers.note(engine.deliver(&mut state, u64::from(sender), &bytes, line));
     }
     act(engine, &mut state, answers);
     let answer = engine.report(&state, &mut [0; SET_WORDS], &mut [0; SET_WORDS]);
@@ -60,7 +62,7 @@ fn longest_session<E: Engine>(engine: &E, settings: &Settings, answers: &mut Ans
 /// Turns until idle or refused.
 fn act<E: Engine>(engine: &E, state: &mut E::State, answers: &mut Answers) {
     loop {
-        let answer = engine.turn(state, &mut [0; LONGEST]);
+        let answer = engine.turn(state, &mut [0; LONGEST], &mut [0; LINE_BYTES]);
         answers.note(answer);
         answers.note_turn(answer);
         if answer < 1 << 8 {

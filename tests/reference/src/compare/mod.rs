@@ -1,11 +1,14 @@
-//! Calls for a comparison of two engines in lockstep: random ones, damaged messages, openings with ta unnamed, and words
-//! that no engine wrote.
+//! Calls for a comparison of two engines in lockstep: random ones, damaged messages, openings with ta unnamed, restores, and
+//! words that no engine wrote.
 
 mod calls;
 mod damage;
 #[cfg(feature = "c-engine")]
 mod foreign;
+mod journals;
 mod longest;
+mod recorded;
+mod restores;
 mod unnamed;
 
 use std::fmt;
@@ -15,6 +18,7 @@ pub use damage::damaged_deliveries;
 #[cfg(feature = "c-engine")]
 pub use foreign::foreign_calls;
 pub use longest::{all_settings, longest_sessions};
+pub use restores::restores;
 pub use unnamed::unnamed_openings;
 
 use crate::packing::refusal;
@@ -23,7 +27,7 @@ use crate::packing::refusal;
 #[derive(Clone, Debug, Default, PartialEq, Eq)]
 pub struct Answers {
     /// By refusal, 0 for accepted.
-    pub refusals: [u64; 12],
+    pub refusals: [u64; 16],
     /// Turns: idle, sent, moved out of round 32, in force.
     pub outcomes: [u64; 4],
     /// Reports by exit.
@@ -32,7 +36,7 @@ pub struct Answers {
 
 impl Answers {
     fn note(&mut self, answer: u64) {
-        self.refusals[(answer & 0xff).min(11) as usize] += 1;
+        self.refusals[(answer & 0xff).min(15) as usize] += 1;
     }
 
     fn note_turn(&mut self, answer: u64) {

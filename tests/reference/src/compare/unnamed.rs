@@ -4,6 +4,7 @@ use super::calls::good_weights;
 use super::Answers;
 use crate::attack::random::Random;
 use crate::engine::Engine;
+use crate::journal::LINE_BYTES;
 use crate::session::Opening;
 use crate::settings::Settings;
 
@@ -38,9 +39,9 @@ where
         let coins = &vec![7; weights.len()][..];
         let opening = Opening { n, ta, ts, own: n, session: 7, input: 5, coins, weights };
         let mut state = engine.blank();
-        let answer = engine.open(&mut state, &opening);
+        let answer = engine.open(&mut state, &opening, &mut [0; LINE_BYTES]);
         answers.note(answer);
-        (answer == 0).then_some(state)
+        (answer & 0xff == 0).then_some(state)
     };
     let largest = (0..=whole).filter_map(&mut open).last();
     assert!(open(Settings::UNNAMED) == largest, "ta unnamed, ts {ts}, weights {weights:?}");

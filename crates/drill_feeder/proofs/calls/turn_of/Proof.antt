@@ -16,29 +16,29 @@ mul-part-of c = search needs
 part-of-requires-2 : tie.Need-part-of-requires-2
 part-of-requires-2 c κs = search needs
 
-mul-turn : tie.Need-mul-turn
-mul-turn c = search needs
+mul-take-turn : tie.Need-mul-take-turn
+mul-take-turn c = search needs
 
-sub-turn : tie.Need-sub-turn
-sub-turn c = search needs
+sub-take-turn : tie.Need-sub-take-turn
+sub-take-turn c = search needs
 
-part-turn-start : tie.Need-part-turn-start
-part-turn-start c = search needs
+part-take-turn-start : tie.Need-part-take-turn-start
+part-take-turn-start c = search needs
 
-part-turn-end : tie.Need-part-turn-end
-part-turn-end c = search needs
+part-take-turn-end : tie.Need-part-take-turn-end
+part-take-turn-end c = search needs
 
-sub-turn-2 : tie.Need-sub-turn-2
-sub-turn-2 c = search needs
+sub-take-turn-2 : tie.Need-sub-take-turn-2
+sub-take-turn-2 c = search needs
 
-part-turn-start-2 : tie.Need-part-turn-start-2
-part-turn-start-2 c = search needs
+part-take-turn-start-2 : tie.Need-part-take-turn-start-2
+part-take-turn-start-2 c = search needs
 
-part-turn-end-2 : tie.Need-part-turn-end-2
-part-turn-end-2 c = search needs
+part-take-turn-end-2 : tie.Need-part-take-turn-end-2
+part-take-turn-end-2 c = search needs
 
-turn-requires : tie.Need-turn-requires
-turn-requires c κs = search needs
+take-turn-requires : tie.Need-take-turn-requires
+take-turn-requires c κs = search needs
 
 same-length : tie.Need-same-length
 same-length c = search needs
@@ -57,14 +57,14 @@ turn-of-spec =
     part-of-requires
     mul-part-of
     part-of-requires-2
-    mul-turn
-    sub-turn
-    part-turn-start
-    part-turn-end
-    sub-turn-2
-    part-turn-start-2
-    part-turn-end-2
-    turn-requires
+    mul-take-turn
+    sub-take-turn
+    part-take-turn-start
+    part-take-turn-end
+    sub-take-turn-2
+    part-take-turn-start-2
+    part-take-turn-end-2
+    take-turn-requires
     same-length
     same-length-2
     returns)

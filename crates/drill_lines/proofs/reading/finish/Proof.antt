@@ -10,6 +10,9 @@ returns c = search finished-cases
 form-requires : tie.Need-form-requires
 form-requires c κs = search needs
 
+cast-complete : tie.Need-cast-complete
+cast-complete c = search needs
+
 complete-requires : tie.Need-complete-requires
 complete-requires c κs = search needs
 
@@ -46,6 +49,7 @@ finish-spec =
     (tie.spec
     returns
     form-requires
+    cast-complete
     complete-requires
     returns-2
     cast-if3

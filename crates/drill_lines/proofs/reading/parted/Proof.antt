@@ -7,6 +7,9 @@ use Rattle.drill_lines.proofs.reading.parted.Tie as tie
 form-requires : tie.Need-form-requires
 form-requires c κs = search needs
 
+cast-complete : tie.Need-cast-complete
+cast-complete c = search needs
+
 complete-requires : tie.Need-complete-requires
 complete-requires c κs = search needs
 
@@ -51,6 +54,7 @@ parted-spec =
     tie.close
     (tie.spec
     form-requires
+    cast-complete
     complete-requires
     wrong-requires
     returns

@@ -1,0 +1,79 @@
+-- One concentrator of weight 1, as in specs/One.antt, that loses power twice and is restored, onto whatever words its buffer then holds.
+--   First its SEND was sent, but nobody got it: the journal's first line is enough, and the SEND is sent again.
+--   Then the SEND was delivered to itself, so its line must stand. The lines of that delivery and of the ECHO are lost: the ECHO reached nobody,
+--   the SEND is delivered once more.
+use Prim.Native.Nat.{ℕ}
+use mathlib.Core.Bool.{true}
+use mathlib.Core.List.{List, [], _∷_, _++_}
+use mathlib.Core.Path.{_≡_, refl}
+use lib.ListN.{length}
+use Rattle.records.specs.Layout.{stateWords}
+use Rattle.records.specs.Fill.{blank}
+use Rattle.wire.specs.declared.Message.the-variants.{Send, Echo, Ready, Commit}
+use Rattle.journal.specs.Lines.{LETTER-D, LETTER-T, openingLine, turnLine}
+use Rattle.agreement.specs.Evidence.{Honest}
+use Rattle.agreement.specs.Calls.{Call, opening, report, restore, engine, world, RestoreLent}
+use Rattle.agreement_example.specs.Example.{Example, passes, passes-example}
+use Rattle.agreement_example.specs.Refusals.{refusals}
+use Rattle.agreement_example.specs.Tracking.{AllSized}
+use Rattle.agreement_example.specs.Messages.{openingOf, deliver, turnOf}
+use Rattle.agreement_example.specs.One.{session, everyone}
+use Rattle.turn_bound.specs.Computing.{calls}
+use Rattle.agreement_example.specs.Computing.{checks}
+
+-- the line of the opening
+abbrev pub firstLine : List ℕ
+firstLine = openingLine 1 0 0 1 7 5 (0 ∷ []) (1 ∷ [])
+
+-- a restore from these bytes, lent 140 bytes for a message
+unfoldable pub from : List ℕ → RestoreLent
+from journal = record { journal = journal; message = blank 140 }
+
+-- up to the first restore, which finds the words v; the cut falls behind the letter of the lost line
+unfoldable pub onceRestored : List ℕ → List (Call engine)
+onceRestored v = restore 1 v (from (firstLine ++ (LETTER-T ∷ []))) ∷ turnOf 1 ∷ opening 1 (openingOf 1 0 0 1) ∷ []
+
+-- up to the second, which finds the words w; two lines are complete
+unfoldable pub twiceRestored : (v w : List ℕ) → List (Call engine)
+twiceRestored v w =
+    restore 1 w (from (firstLine ++ (turnLine ++ (LETTER-D ∷ []))))
+    ∷ turnOf 1
+    ∷ deliver 1 1 (Send 1 5) []
+    ∷ turnOf 1
+    ∷ onceRestored v
+
+unfoldable pub lostCalls : (v w : List ℕ) → List (Call engine)
+lostCalls v w =
+    report 1 (blank 16, blank 16)
+    ∷ turnOf 1
+    ∷ deliver 1 1 (Commit 1) (5 ∷ [])
+    ∷ turnOf 1
+    ∷ deliver 1 1 (Ready 1 5) []
+    ∷ turnOf 1
+    ∷ deliver 1 1 (Echo 1 5) []
+    ∷ turnOf 1
+    ∷ deliver 1 1 (Send 1 5) []
+    ∷ twiceRestored v w
+
+abbrev pub LostMeets : Type 0
+LostMeets =
+    (start : ℕ → List ℕ) → ((p : ℕ) → Honest (world engine session everyone) p → length (start p) ≡ stateWords) →
+    (v w : List ℕ) → length v ≡ stateWords → length w ≡ stateWords →
+    Example start session everyone (lostCalls v w) 5
+
+module _ (v w : List ℕ) where
+  lost-passes : passes session everyone 5 (lostCalls v w) ≡ true
+  unfolding calls checks from onceRestored twiceRestored lostCalls
+  lost-passes = refl
+
+  -- no opening, delivery or turn is refused
+  pub lost-refusals : refusals session everyone 5 (lostCalls v w) .numbers ≡ []
+  unfolding calls checks from onceRestored twiceRestored lostCalls
+  lost-refusals = refl
+
+  lost-sized : length v ≡ stateWords → length w ≡ stateWords → AllSized (lostCalls v w)
+  unfolding checks from onceRestored twiceRestored lostCalls
+  lost-sized a b = (b, (a, tt))
+
+pub lost-meets : LostMeets
+lost-meets start room v w a b = passes-example start session everyone 5 (lostCalls v w) room (lost-sized v w a b) (lost-passes v w)

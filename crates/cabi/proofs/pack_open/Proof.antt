@@ -1,0 +1,24 @@
+-- The number of the answer.
+use Rattle.cabi.specs.Cases.{line-cases}
+use borrow.Author.Needs.{needs}
+use Rattle.cabi.proofs.pack_open.Statement.{statement}
+use Rattle.cabi.proofs.pack_open.Tie as tie
+
+open-requires : tie.Need-open-requires
+open-requires c κs = search needs
+
+entry-number-requires : tie.Need-entry-number-requires
+entry-number-requires c κs = search line-cases
+
+same-length : tie.Need-same-length
+same-length c = search needs
+
+same-length-2 : tie.Need-same-length-2
+same-length-2 c = search needs
+
+returns : tie.Need-returns
+returns c = (search line-cases, (search line-cases, search line-cases))
+
+pub pack-open-spec : {M : Type 1} → statement M
+pack-open-spec =
+    tie.close (tie.spec open-requires entry-number-requires same-length same-length-2 returns)

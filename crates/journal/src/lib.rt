@@ -1,0 +1,117 @@
+// Opening, delivery and turn, each with its line of the journal. The line's bytes are asked for last.
+mod lines;
+
+use delivery::Verdict;
+use settings::refusal;
+use turn::Outcome;
+ghost use mathlib.Core.Path.{_≡_};
+ghost use lib.ListN.{length};
+ghost use Rattle.journal.specs.Journal.{lineAnswer, acts, openEntry, openedWords, openedBytes, deliverEntry, deliveredWords, deliveredBytes, turnRoom, turnedMessage, turnedLine};
+ghost use Rattle.turn.specs.Turn.{turnOutcome, turnWords};
+ghost use Rattle.delivery.specs.Delivery.{deliverAnswer};
+
+// The answer of an opening or a delivery: the number of the refusal, or the length of its line.
+pub enum Entry {
+    Refused(u64),
+    Line(u64),
+}
+
+// The bytes that a line must be lent: more than the longest, an opening of 16.
+pub const LINE_BYTES: usize = 512;
+
+// The number of a call that is lent too few bytes for its line.
+fn short_of(number: u64) -> u64
+    ensures { λ r. ⌜ r ≡ lineAnswer number 0 ⌝ }
+{
+    if number == 0 { refusal::SHORT } else { number }
+}
+
+// Opens a session in the lent words.
+pub fn open(
+    state: &mut [u64],
+    n: u64,
+    ta: u64,
+    ts: u64,
+    own: u64,
+    session: u32,
+    input: u64,
+    coins: &[u32],
+    weights: &[u8],
+    line: &mut [u8],
+) -> Entry
+    ensures answer { λ r. ⌜ r ≡ openEntry (length (now (state .entry))) n ta ts own session input (now (coins .entry)) (now (weights .entry)) (length (now (line .entry))) ⌝ }
+    ensures words { λ _. ⌜ now (state .exit) ≡ openedWords (now (state .entry)) n ta ts own session input (now (coins .entry)) (now (weights .entry)) (length (now (line .entry))) ⌝ }
+    ensures bytes { λ _. ⌜ now (line .exit) ≡ openedBytes (length (now (state .entry))) n ta ts own session input (now (coins .entry)) (now (weights .entry)) (now (line .entry)) ⌝ }
+{
+    if line.len() < LINE_BYTES {
+        let k = opening::answer(state.len(), n, ta, ts, own, coins.len(), weights);
+        return Entry::Refused(short_of(k));
+    }
+    let k = opening::open(state, n, ta, ts, own, session, input, coins, weights);
+    if k != 0 {
+        return Entry::Refused(k);
+    }
+    Entry::Line(lines::put_opening(line, n, ta, ts, own, session, input, coins, weights) as u64)
+}
+
+// The answer of a delivery without its line.
+fn deliver_answer(state: &[u64], link: u64, bytes: &[u8]) -> u64
+    ensures { λ r. ⌜ r ≡ deliverAnswer (now (state .entry)) link (now (bytes .entry)) ⌝ }
+{
+    let v = delivery::judge(state, link, bytes);
+    match v {
+        Verdict::Refused(k) => k,
+        Verdict::Accepted(_) => 0,
+    }
+}
+
+// Delivers a message that came over the link of a concentrator.
+pub fn deliver(state: &mut [u64], link: u64, bytes: &[u8], line: &mut [u8]) -> Entry
+    ensures answer { λ r. ⌜ r ≡ deliverEntry (now (state .entry)) link (now (bytes .entry)) (length (now (line .entry))) ⌝ }
+    ensures words { λ _. ⌜ now (state .exit) ≡ deliveredWords (now (state .entry)) link (now (bytes .entry)) (length (now (line .entry))) ⌝ }
+    ensures bytes { λ _. ⌜ now (line .exit) ≡ deliveredBytes (now (state .entry)) link (now (bytes .entry)) (now (line .entry)) ⌝ }
+{
+    if line.len() < LINE_BYTES {
+        return Entry::Refused(short_of(deliver_answer(state, link, bytes)));
+    }
+    let k = delivery::deliver(state, link, bytes);
+    if k != 0 {
+        return Entry::Refused(k);
+    }
+    Entry::Line(lines::put_delivery(line, link, bytes) as u64)
+}
+
+// Whether a turn is neither idle nor refused.
+fn acted(o: Outcome) -> bool
+    ensures { λ r. ⌜ r ≡ acts o ⌝ }
+{
+    match o {
+        Outcome::Refused(_) => false,
+        Outcome::Idle => false,
+        Outcome::Sent(_) => true,
+        Outcome::MovedOut => true,
+        Outcome::InForce => true,
+    }
+}
+
+// The bytes that a turn gets for its message: none where its line has too few.
+fn turn_room(room: usize, line: usize) -> usize
+    ensures { λ r. ⌜ r ≡ turnRoom room line ⌝ }
+{
+    if line < LINE_BYTES { 0 } else { room }
+}
+
+// Takes a turn: a message that is sent stands at the front of the lent bytes.
+pub fn turn(state: &mut [u64], out: &mut [u8], line: &mut [u8]) -> Outcome
+    ensures answer { λ r. ⌜ r ≡ turnOutcome (now (state .entry)) (turnRoom (length (now (out .entry))) (length (now (line .entry)))) ⌝ }
+    ensures words { λ _. ⌜ now (state .exit) ≡ turnWords (now (state .entry)) (turnRoom (length (now (out .entry))) (length (now (line .entry)))) ⌝ }
+    ensures bytes { λ _. ⌜ now (out .exit) ≡ turnedMessage (now (state .entry)) (now (out .entry)) (length (now (line .entry))) ⌝ }
+    ensures line_bytes { λ _. ⌜ now (line .exit) ≡ turnedLine (now (state .entry)) (length (now (out .entry))) (now (line .entry)) ⌝ }
+{
+    let room = turn_room(out.len(), line.len());
+    let o = turn::turn(state, &mut out[..room]);
+    if acted(o) {
+        lines::put_turn(line);
+    }
+    o
+}

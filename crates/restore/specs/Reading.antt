@@ -1,0 +1,48 @@
+-- What a line of a journal says, where it is of the right form.
+use Prim.Native.Nat.{ℕ, _+_, _*_}
+use mathlib.Core.Bool.{Bool, true, false, cond, _&&_, not}
+use mathlib.Core.List.{List, [], _∷_}
+use lib.Dec.{eqb, ltb}
+use lib.ListN.{length, replicate, drop, getD}
+use Rattle.text.specs.Numbers.{DECIMAL, digitOf, right}
+use Rattle.journal.specs.Lines.{openingForms}
+
+-- a decimal of more than one digit that starts with 0
+unfoldable pub zeroLed : List ℕ → Bool
+zeroLed [] = false
+zeroLed (c ∷ []) = false
+zeroLed (c ∷ d ∷ f) = eqb c 48
+
+-- a field is a number of its form as the journal writes it: "decimals without leading zeros", hexadecimal digits in lower case
+unfoldable pub proper : ℕ → List ℕ → Bool
+proper form f = right form f && not (eqb form DECIMAL && zeroLed f)
+
+-- as many fields as forms, each proper
+unfoldable pub allProper : List ℕ → List (List ℕ) → Bool
+allProper [] [] = true
+allProper [] (f ∷ fs) = false
+allProper (w ∷ ws) [] = false
+allProper (w ∷ ws) (f ∷ fs) = proper w f && allProper ws fs
+
+-- the field at a place, empty where there is none
+unfoldable pub fieldAt : List (List ℕ) → ℕ → List ℕ
+fieldAt fs k = getD fs k []
+
+-- the forms of an opening line of so many fields after its letter: n coin words, then n weights, or none in a line from before there were weights
+unfoldable pub formsFor : (n count : ℕ) → List ℕ
+formsFor n count = openingForms n (cond (eqb count (7 + n)) 0 n)
+
+-- the weights among the numbers of an opening line: a line without them reads as all 1
+unfoldable pub weightsFrom : ℕ → List ℕ → List ℕ
+weightsFrom n xs = cond (eqb (length xs) (7 + n)) (replicate n 1) (drop (7 + n) xs)
+
+-- a field of bytes, each two lower-case hexadecimal digits
+unfoldable pub hexRight : List ℕ → Bool
+hexRight [] = true
+hexRight (a ∷ []) = false
+hexRight (a ∷ b ∷ f) = ltb (digitOf a) 16 && (ltb (digitOf b) 16 && hexRight f)
+
+unfoldable pub bytesOf : List ℕ → List ℕ
+bytesOf [] = []
+bytesOf (a ∷ []) = []
+bytesOf (a ∷ b ∷ f) = (digitOf a * 16 + digitOf b) ∷ bytesOf f

@@ -1,0 +1,152 @@
+-- Restoring (request N10): a state is rebuilt from the complete lines of a journal, one after another.
+use Prim.Native.Nat.{ℕ, _+_, _^_}
+use mathlib.Core.Bool.{Bool, true, false, cond, _&&_, not}
+use mathlib.Core.List.{List, [], _∷_}
+use mathlib.Core.Option.{Option, none, some}
+use lib.Dec.{eqb, leb, ltb}
+use lib.ListN.{length, take, drop, getD}
+use Rattle.settings.specs.Refusals.{SHORT, NO-STATE}
+use Rattle.records.specs.Layout.{stateWords}
+use Rattle.opening.specs.Given.{weightsWord}
+use Rattle.opening.specs.Opening.{openAnswer, openWords}
+use Rattle.delivery.specs.Delivery.{deliverAnswer, delivered}
+use Rattle.turn.specs.Turn.{sentLength, turnOutcome, turnWords, turnBytes}
+use Rattle.text.specs.Fields.{fields, letter}
+use Rattle.text.specs.Numbers.{DECIMAL, valueOf, valuesOf}
+use Rattle.journal.specs.Lines.{LETTER-O, LETTER-D, LETTER-T, VERSION}
+use Rattle.journal.specs.Journal.{acts}
+use Rattle.restore.specs.Complete.{linesOf, joined}
+use Rattle.restore.specs.Reading.{proper, allProper, fieldAt, formsFor, weightsFrom, hexRight, bytesOf}
+use Rattle.restore.specs.declared.Restored.{Restored}
+use Rattle.restore.specs.declared.Restored.the-variants as answer
+
+-- the bytes that a restore must be lent for a message
+abbrev pub MESSAGE-BYTES : ℕ
+MESSAGE-BYTES = 140
+
+-- what some lines come to: the words after the last of them, and those before it where it is a `T`
+pub record Point : Type 0 where
+  pub words : List ℕ
+  pub turned : Option (List ℕ)
+
+-- An `O` line of the numbers xs: version, n, ta, ts, own number, session, own input, coin words, weights. Its opening is accepted, or the line
+-- cannot be applied.
+unfoldable pub openedFrom : (n : ℕ) → List ℕ → (coins weights : List ℕ) → Option Point
+openedFrom n xs coins weights =
+    cond (eqb (openAnswer stateWords n (getD xs 2 0) (getD xs 3 0) (weightsWord n weights) (getD xs 4 0) (length coins)) 0)
+    (some (record { words = openWords n (getD xs 2 0) (getD xs 3 0) (weightsWord n weights) (getD xs 4 0) (getD xs 5 0) (getD xs 6 0) coins; turned = none }))
+    none
+
+unfoldable pub openingFrom : (n : ℕ) → List ℕ → Option Point
+openingFrom n xs =
+    cond (eqb (getD xs 0 0) VERSION && ltb (getD xs 5 0) (2 ^ 32))
+    (openedFrom n xs (take n (drop 7 xs)) (weightsFrom n xs))
+    none
+
+-- n stands in the second field; above 16 its opening is refused, whatever follows
+unfoldable pub openingRead : (n : ℕ) → List (List ℕ) → Option Point
+openingRead n fs =
+    cond (leb n 16 && allProper (formsFor n (length fs)) fs)
+    (openingFrom n (valuesOf (formsFor n (length fs)) fs))
+    none
+
+unfoldable pub firstOf : List (List ℕ) → Option Point
+firstOf [] = none
+firstOf (f ∷ fs) = cond (eqb (letter f) LETTER-O) (openingRead (valueOf DECIMAL (fieldAt fs 1)) fs) none
+
+-- the first line
+unfoldable pub firstLine : List ℕ → Option Point
+firstLine b = firstOf (fields b)
+
+-- a `D` line at the words w
+unfoldable pub deliveredFrom : List ℕ → List (List ℕ) → Option Point
+deliveredFrom w [] = none
+deliveredFrom w (l ∷ []) = none
+deliveredFrom w (l ∷ h ∷ []) =
+    cond (proper DECIMAL l && (hexRight h && eqb (deliverAnswer w (valueOf DECIMAL l) (bytesOf h)) 0))
+    (some (record { words = delivered w (valueOf DECIMAL l) (bytesOf h); turned = none }))
+    none
+deliveredFrom w (l ∷ h ∷ x ∷ fs) = none
+
+-- a `T` line: one that would be idle cannot be applied
+unfoldable pub turnedFrom : List ℕ → List (List ℕ) → Option Point
+turnedFrom w [] = cond (acts (turnOutcome w MESSAGE-BYTES)) (some (record { words = turnWords w MESSAGE-BYTES; turned = some w })) none
+turnedFrom w (x ∷ fs) = none
+
+unfoldable pub nextOf : List ℕ → List (List ℕ) → Option Point
+nextOf w [] = none
+nextOf w (f ∷ fs) = cond (eqb (letter f) LETTER-D) (deliveredFrom w fs) (cond (eqb (letter f) LETTER-T) (turnedFrom w fs) none)
+
+-- a further line, at the words w; an `O` is none
+unfoldable pub nextLine : List ℕ → List ℕ → Option Point
+nextLine w b = nextOf w (fields b)
+
+-- what the lines of a journal come to, or the number of the first line that cannot be applied, from 1
+pub data Replay : Type 0 where
+  wrong : ℕ → Replay
+  right : Point → Replay
+
+unfoldable pub appliedOr : ℕ → Option Point → Replay
+appliedOr k none = wrong k
+appliedOr k (some x) = right x
+
+-- a further line of number k
+unfoldable pub further : ℕ → Replay → List ℕ → Replay
+further k (wrong j) b = wrong j
+further k (right x) b = appliedOr k (nextLine (x .words) b)
+
+-- further lines, the first of them of number k
+unfoldable pub replayFrom : ℕ → Replay → List (List ℕ) → Replay
+replayFrom k x [] = x
+replayFrom k x (b ∷ bs) = replayFrom (k + 1) (further k x b) bs
+
+-- the complete lines: without any there is no opening line
+unfoldable pub replay : List (List ℕ) → Replay
+replay [] = wrong 1
+replay (b ∷ bs) = replayFrom 2 (appliedOr 1 (firstLine b)) bs
+
+-- "that line's message again, if it sent one": its length, and the lent bytes with it
+unfoldable pub lengthAgain : Option (List ℕ) → ℕ
+lengthAgain none = 0
+lengthAgain (some w) = sentLength (turnOutcome w MESSAGE-BYTES)
+
+unfoldable pub bytesAgain : Option (List ℕ) → List ℕ → List ℕ
+bytesAgain none lent = lent
+bytesAgain (some w) lent = turnBytes w lent
+
+-- "15 JOURNAL, with the line number", or the length of the message, 0 for none, and of the complete lines
+unfoldable pub replayAnswer : Replay → ℕ → Restored
+replayAnswer (wrong k) bytes = answer.Journal k
+replayAnswer (right x) bytes = answer.Given (lengthAgain (x .turned)) bytes
+
+unfoldable pub replayWords : Replay → List ℕ → List ℕ
+replayWords (wrong k) v = v
+replayWords (right x) v = x .words
+
+unfoldable pub replayBytes : Replay → List ℕ → List ℕ
+replayBytes (wrong k) lent = lent
+replayBytes (right x) lent = bytesAgain (x .turned) lent
+
+-- whether the journal is read: not with another number of words, "9 for the word count", nor with too few bytes for a message, 8
+unfoldable pub lentAnswer : (words room : ℕ) → ℕ
+lentAnswer words room = cond (not (eqb words stateWords)) NO-STATE (cond (ltb room MESSAGE-BYTES) SHORT 0)
+
+-- Restoring onto the words v from the bytes of a journal, lent bytes for a message: its answer, the words and the lent bytes after it. On a
+-- refusal both stay.
+unfoldable pub restoreAnswer : (v journal : List ℕ) (room : ℕ) → Restored
+restoreAnswer v journal room =
+    cond (eqb (lentAnswer (length v) room) 0)
+    (replayAnswer (replay (linesOf journal)) (length (joined (linesOf journal))))
+    (answer.Refused (lentAnswer (length v) room))
+
+unfoldable pub restoredWords : (v journal : List ℕ) (room : ℕ) → List ℕ
+restoredWords v journal room = cond (eqb (lentAnswer (length v) room) 0) (replayWords (replay (linesOf journal)) v) v
+
+unfoldable pub restoredBytes : (words : ℕ) (journal lent : List ℕ) → List ℕ
+restoredBytes words journal lent = cond (eqb (lentAnswer words (length lent)) 0) (replayBytes (replay (linesOf journal)) lent) lent
+
+-- a restore is accepted
+unfoldable pub accepted : Restored → Bool
+accepted (answer.Refused k) = false
+accepted (answer.Journal k) = false
+accepted (answer.Given m k) = true

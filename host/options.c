@@ -1,0 +1,141 @@
+#include "options.h"
+
+#include <errno.h>
+#include <stdio.h>
+#include <stdlib.h>
+#include <string.h>
+
+const char *const usage =
+    "usage: pack_host [-s SESSION] [-c COIN] [--weights LIST] [--journals DIRECTORY] [N TA TS [INPUT ...]]\n"
+    "\n"
+    "Runs an agreement session of N concentrators, all honest, and prints a line for each, fields parted by tabs:\n"
+    "number, exit (0 for none), closed (0 or 1), turns, the values in force in hexadecimal, or \"-\".\n"
+    "\n"
+    "  N TA TS               the settings (4 - 1); TA as \"-\" is 0, as 255 the largest that the rules allow\n"
+    "  INPUT                 the pack number of each concentrator, N of them (5 for each)\n"
+    "  -s SESSION            the session number, 32 bits (1)\n"
+    "  -c COIN               the coin word of every vote, 32 bits; bit r-1 is the coin of round r (0x55555555)\n"
+    "  --weights LIST        the weight of each concentrator, 1 to 4, N of them parted by commas (1 for each)\n"
+    "  --journals DIRECTORY  keeps the journal of each concentrator in a file there, and goes on from the journals\n"
+    "                        that are there: so the program may be killed and started again with the same arguments\n"
+    "\n"
+    "Numbers are decimal, or hexadecimal after 0x. The status is 0, or 1 on an error.\n";
+
+bool fail(const char *what, const char *about)
+{
+    fprintf(stderr, "pack_host: %s: %s\n", about, what);
+    return false;
+}
+
+/* Reads a number of at most `limit`. */
+static bool read_number(const char *text, uint64_t limit, uint64_t *number)
+{
+    bool hex = text[0] == '0' && (text[1] == 'x' || text[1] == 'X');
+    const char *digits = hex ? text + 2 : text;
+    const char *allowed = hex ? "0123456789abcdefABCDEF" : "0123456789";
+    if (digits[0] == '\0' || digits[strspn(digits, allowed)] != '\0')
+        return fail("not a number", text);
+    errno = 0;
+    unsigned long long value = strtoull(digits, NULL, hex ? 16 : 10);
+    if (errno != 0 || value > limit)
+        return fail("too large", text);
+    *number = value;
+    return true;
+}
+
+/* Reads numbers parted by commas; `list` is cut at them. Whether they are weights is the engine's to say. */
+static bool read_weights(char *list, struct options *o)
+{
+    o->weight_count = 0;
+    while (list != NULL) {
+        char *item = list;
+        uint64_t weight;
+        list = strchr(item, ',');
+        if (list != NULL)
+            *list++ = '\0';
+        if (*item == '\0')
+            return fail("a weight is missing", "--weights");
+        if (!read_number(item, UINT8_MAX, &weight))
+            return false;
+        if (o->weight_count == PACK_CONCENTRATORS)
+            return fail("more than 16 weights", item);
+        o->weights[o->weight_count++] = (uint8_t)weight;
+    }
+    return true;
+}
+
+/* Reads the value of -s or -c. */
+static bool read_word(const char *text, uint32_t *word)
+{
+    uint64_t value;
+    if (!read_number(text, UINT32_MAX, &value))
+        return false;
+    *word = (uint32_t)value;
+    return true;
+}
+
+/* Reads the options; `at` is left at the first argument that is none. */
+static bool read_flags(int argc, char **argv, int *at, struct options *o)
+{
+    for (; *at < argc && argv[*at][0] == '-' && argv[*at][1] != '\0'; *at += 2) {
+        const char *flag = argv[*at];
+        char *value = *at + 1 < argc ? argv[*at + 1] : NULL;
+        uint32_t *word = strcmp(flag, "-s") == 0 ? &o->session : strcmp(flag, "-c") == 0 ? &o->coin : NULL;
+        bool weights = strcmp(flag, "--weights") == 0, journals = strcmp(flag, "--journals") == 0;
+        if (word == NULL && !weights && !journals)
+            return fail("unknown option, see --help", flag);
+        if (value == NULL)
+            return fail(journals ? "a directory is missing" : "a number is missing", flag);
+        if (journals)
+            o->journals = value;
+        else if (weights ? !read_weights(value, o) : !read_word(value, word))
+            return false;
+    }
+    return true;
+}
+
+/* Reads N TA TS. Whether they are settings of a session is the engine's to say; here N has only to fit the tables. */
+static bool read_settings(char **argv, struct options *o)
+{
+    if (!read_number(argv[0], UINT64_MAX, &o->n) || !read_number(argv[2], UINT64_MAX, &o->ts))
+        return false;
+    if (o->n < 1 || o->n > PACK_CONCENTRATORS)
+        return fail("N is not 1 to 16", argv[0]);
+    o->ta = 0;
+    return strcmp(argv[1], "-") == 0 || read_number(argv[1], UINT64_MAX, &o->ta);
+}
+
+/* Reads what stands behind the options, from `at` on: nothing, N TA TS, or these and the inputs. */
+static bool read_rest(int argc, char **argv, int at, struct options *o)
+{
+    if (at == argc)
+        return true;
+    if (argc - at < 3)
+        return fail("N TA TS wanted, see --help", argv[at]);
+    if (!read_settings(argv + at, o))
+        return false;
+    at += 3;
+    if (at == argc)
+        return true;
+    if ((uint64_t)(argc - at) != o->n)
+        return fail("not as many inputs as concentrators", argv[at]);
+    for (int i = 0; at + i < argc; i++)
+        if (!read_number(argv[at + i], UINT64_MAX, &o->inputs[i]))
+            return false;
+    return true;
+}
+
+bool read_options(int argc, char **argv, struct options *o)
+{
+    int at = 1;
+    *o = (struct options){.n = 4, .ta = 0, .ts = 1, .session = 1, .coin = 0x55555555};
+    for (size_t i = 0; i < PACK_CONCENTRATORS; i++) {
+        o->inputs[i] = 5;
+        o->weights[i] = 1;
+    }
+    if (!read_flags(argc, argv, &at, o) || !read_rest(argc, argv, at, o))
+        return false;
+    if (o->weight_count != 0 && o->weight_count != o->n)
+        return fail("not as many weights as concentrators", "--weights");
+    return true;
+}

@@ -1,0 +1,118 @@
+//! The journal of one honest concentrator, and what of it can be lost with its power.
+
+use std::rc::Rc;
+
+use super::random::Random;
+use crate::packing::TurnAnswer;
+use crate::settings::Number;
+
+/// What a restored concentrator still has of its journal.
+#[derive(Clone, Copy, Debug, PartialEq, Eq)]
+pub enum Journals {
+    /// The line of every message that left; it counts as honest.
+    Kept,
+    /// Any of its lines but the first may be lost, messages that left or not; it would count as a liar.
+    Lost,
+}
+
+/// A message on its way: the link it comes over, and the line of its sender's journal that sent it, if that one is honest.
+#[derive(Clone, Debug)]
+pub struct Sent {
+    pub link: Number,
+    pub message: Rc<[u8]>,
+    pub line: Option<usize>,
+}
+
+#[derive(Clone, Debug)]
+pub enum Noted {
+    Opening,
+    Delivery(Sent),
+    Turn { answer: TurnAnswer, message: Rc<[u8]> },
+}
+
+/// The lines so far.
+#[derive(Debug, Default)]
+pub struct Journal {
+    bytes: Vec<u8>,
+    /// What each line says, and where it ends.
+    lines: Vec<(Noted, usize)>,
+    /// The first so many lines cannot be lost: the opening's, and those up to the last message that left.
+    needed: usize,
+}
+
+impl Journal {
+    /// The number of lines, which is that of the last one.
+    pub fn len(&self) -> usize {
+        self.lines.len()
+    }
+
+    pub fn add(&mut self, noted: Noted, line: &[u8]) {
+        if matches!(noted, Noted::Opening) {
+            *self = Journal { needed: 1, ..Journal::default() };
+        }
+        self.bytes.extend(line);
+        self.lines.push((noted, self.bytes.len()));
+    }
+
+    /// The message of this line left.
+    pub fn need(&mut self, line: usize) {
+        self.needed = self.needed.max(line);
+    }
+
+    /// What is left when power is lost: so many lines, and a part of the next.
+    pub fn cut(&self, random: &mut Random, journals: Journals) -> (usize, Vec<u8>) {
+        let kept = match journals {
+            Journals::Kept => {
+                let most_lost = (self.len() - self.needed) as u64;
+                let lost = if random.once_in(2) { most_lost } else { most_lost.min(4) };
+                self.len() - random.below(lost + 1) as usize
+            }
+            Journals::Lost if random.once_in(4) => 1 + random.below(self.len() as u64) as usize,
+            Journals::Lost => 1,
+        };
+        let end = self.end(kept);
+        let torn = match self.lines.get(kept) {
+            Some((_, next)) => random.below((next - end) as u64) as usize,
+            None => 0,
+        };
+        (kept, self.bytes[..end + torn].to_vec())
+    }
+
+    /// Where this line, from 1, ends.
+    pub fn end(&self, line: usize) -> usize {
+        self.lines[line - 1].1
+    }
+
+    /// Forgets all but the first so many lines. Answers what the others said.
+    pub fn truncate(&mut self, kept: usize) -> Vec<Noted> {
+        let lost = self.lines.split_off(kept);
+        self.bytes.truncate(self.end(kept));
+        lost.into_iter().map(|(noted, _)| noted).collect()
+    }
+
+    /// The message that the last line sent, if it sent one.
+    pub fn last_sent(&self) -> Option<Rc<[u8]>> {
+        match self.lines.last() {
+            Some((Noted::Turn { answer: TurnAnswer::Sent { .. }, message }, _)) => {
+                Some(Rc::clone(message))
+            }
+            _ => None,
+        }
+    }
+
+    fn turns(&self) -> impl Iterator<Item = TurnAnswer> + '_ {
+        self.lines.iter().filter_map(|(noted, _)| match noted {
+            Noted::Turn { answer, .. } => Some(*answer),
+            _ => None,
+        })
+    }
+
+    /// Turns that did not answer idle.
+    pub fn taken(&self) -> u64 {
+        self.turns().count() as u64
+    }
+
+    pub fn closed(&self) -> bool {
+        self.turns().any(|answer| answer == TurnAnswer::InForce)
+    }
+}
