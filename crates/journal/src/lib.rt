@@ -16,7 +16,7 @@ pub enum Entry {
     Line(u64),
 }
 
-// The bytes that a line must be lent: more than the longest, an opening of 16.
+// The bytes that a line must be lent: more than the longest, the delivery of a COMMIT of 16 values.
 pub const LINE_BYTES: usize = 512;
 
 // The number of a call that is lent too few bytes for its line.
