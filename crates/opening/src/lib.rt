@@ -1,5 +1,5 @@
 // Opening: the verdict, then the words of a new state.
-mod weights;
+pub mod weights;
 
 use records::layout;
 use settings::Checked;
@@ -13,7 +13,7 @@ ghost use Rattle.opening.specs.Opening.{openAnswer, withSettings, withCo
 ghost use Rattle.opening.specs.Given.{item, weightsWord};
 
 // Whether the numbers and the word of weights are settings of a session, ta as it is given.
-fn settings_valid(n: u64, ta: u64, ts: u64, weights: u64) -> bool
+pub fn settings_valid(n: u64, ta: u64, ts: u64, weights: u64) -> bool
     ensures { λ r. ⌜ r ≡ validSettings n (namedTa n ta ts weights) ts weights ⌝ }
 {
     let c = Settings::check_named(n, ta, ts, weights);
@@ -58,7 +58,7 @@ pub fn answer(words: usize, n: u64, ta: u64, ts: u64, own: u64, coins: usize, we
 }
 
 // Sets every word to 0.
-fn clear(s: &mut [u64])
+pub fn clear(s: &mut [u64])
     ensures { λ _. ⌜ now (s .exit) ≡ blank (length (now (s .entry))) ⌝ }
 {
     let mut k: usize = 0;
@@ -106,7 +106,7 @@ fn coin_word(coins: &[u32], i: u8) -> u64
     if k < coins.len() { wide(coins[k]) } else { 0 }
 }
 
-fn put_coins(s: &mut [u64], coins: &[u32], n: u8)
+pub fn put_coins(s: &mut [u64], coins: &[u32], n: u8)
     ensures { λ _. ⌜ now (s .exit) ≡ withCoins (now (s .entry)) (now (coins .entry)) n ⌝ }
 {
     let mut i: u8 = 0;
