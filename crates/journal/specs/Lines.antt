@@ -69,8 +69,11 @@ abbrev pub turnText : List ℕ
 turnText = LETTER-T ∷ []
 
 -- an accepted recording, "a repeat too": "vote, round, bit" (request N12)
+abbrev pub recordingForms : List ℕ
+recordingForms = DECIMAL ∷ DECIMAL ∷ DECIMAL ∷ []
+
 unfoldable pub recordingText : ℕ → ℕ → ℕ → List ℕ
-recordingText i r b = tabbed (LETTER-K ∷ []) (decimalText i ∷ decimalText r ∷ decimalText b ∷ [])
+recordingText i r b = tabbed (LETTER-K ∷ []) (numberTexts recordingForms (i ∷ r ∷ b ∷ []))
 
 -- a line with its end
 unfoldable pub withEnd : List ℕ → List ℕ

@@ -164,7 +164,7 @@ wrote-delivery link b s s1 s2 s3 s4 s5 r1 r2 r3 r4 r5 h1 h2 h3 h4 h5 =
     (wrote-both _ _ s3 s4 s5 r3 r4 r5 h4 h5))))
 
 pub recording-parts : (i r b : ℕ) → (75 ∷ []) ++ (tabDecimal i ++ (tabDecimal r ++ (tabDecimal b ++ (10 ∷ [])))) ≡ recordingLine i r b
-unfolding tabDecimal recordingText tabbed withEnd
+unfolding tabDecimal recordingText numberTexts numberText tabbed withEnd
 recording-parts i r b =
     sym (ap (λ (t : List ℕ). 75 ∷ 9 ∷ t) (append-assoc (decimalText i) (9 ∷ (decimalText r ++ (9 ∷ decimalText b))) (10 ∷ []) ∙ ap (λ (t : List ℕ). decimalText i ++ (9 ∷ t)) (append-assoc (decimalText r) (9 ∷ decimalText b) (10 ∷ []))))
 
