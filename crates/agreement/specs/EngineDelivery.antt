@@ -35,11 +35,11 @@ use Rattle.journal.specs.Laws.{line-taken, line-words, line-stays}
 use Rattle.agreement.specs.History.{Decision, zero, one}
 use Rattle.held.specs.Held.{Message, meaning}
 use Rattle.held.specs.Recording.{held-recorded}
-use Rattle.agreement.specs.Runs.{Delivered}
-use Rattle.agreement.specs.Calls.{Arguments, Agreed, Bytes, engine}
+use Rattle.agreement.specs.Runs.{Delivered, CoinsStay}
+use Rattle.agreement.specs.EngineCalls.{Arguments, Agreed, Bytes, engine}
 use Rattle.agreement.specs.Laws.{at, Delivery}
 use Rattle.agreement.specs.EngineSeen.{engineSeen}
-use Rattle.agreement.specs.EngineReading.{Belongs, Sets, Belonging, Says, engineReading}
+use Rattle.agreement.specs.EngineReading.{Belongs, Sets, Belonging, coins-stay, Says, engineReading}
 
 -- the values of a message that is taken have 64 bits
 value-fits : (m : wire-message.Message) (xs v : List ℕ) → Fitting (valuesOf m xs) → ((j : ℕ) → valueAt v j < 2 ^ 64) → ValueFits m v
@@ -113,9 +113,9 @@ module _ (o : Arguments) (w : List ℕ) (B : Belongs o w) (v : List ℕ) (p : �
   recorded-decided i b (zero e) = zero (sym (same-mark decidedZeroAt i (inr (omega arith, omega arith))) ∙ e)
   recorded-decided i b (one e) = one (sym (same-mark decidedOneAt i (inr (omega arith, omega arith))) ∙ e)
 
-  recorded-delivered : (H : ℕ → Bool) → placeHeld w p m ≡ false → Delivered (at engine engineReading H o) engineSeen w (recorded w p m v) p (meaning m (values (countOf m) v))
+  recorded-delivered : (H : ℕ → Bool) (κ : ℕ → ℕ → Bool) → placeHeld w p m ≡ false → Delivered (at engine engineReading H κ o) engineSeen w (recorded w p m v) p (meaning m (values (countOf m) v))
   unfolding echoSent auxSent
-  recorded-delivered H free =
+  recorded-delivered H κ free =
       record {
         held = λ k y lo hi x. held-recorded w v p m (B .size) h free k (record { low = lo; high = omega (arith, B .ruled .few) }) y x;
         echoed = λ i e. same-mark echoSentAt i (inr (omega arith, omega arith)) ∙ e;
@@ -136,7 +136,7 @@ module _ (o : Arguments) (w : List ℕ) (B : Belongs o w) (S : Sets o w) (p : �
       ∙ ap (λ (x : ℕ). readMessage (o .n) x p (b .list)) number)
       ∙ a .taken
 
-  module _ (H : ℕ → Bool) (t : Taking w p (b .list)) where
+  module _ (H : ℕ → Bool) (κ : ℕ → ℕ → Bool) (t : Taking w p (b .list)) where
     message-accepting : Accepting w p (b .list) (t .message)
     message-accepting = accepting w p (b .list) (t .message) (t .accepted)
 
@@ -155,7 +155,7 @@ module _ (o : Arguments) (w : List ℕ) (B : Belongs o w) (S : Sets o w) (p : �
     fits : ValueFits (t .message) (drop 12 (b .list))
     fits = value-fits (t .message) _ (drop 12 (b .list)) (encoded .proper .fits) (value-below (drop 12 (b .list)) (all-drop (b .list) 12 (b .each)))
 
-    taking-delivery : LINE-BYTES ≤ b .line → Delivery engine engineReading H o w p b
+    taking-delivery : LINE-BYTES ≤ b .line → Delivery engine engineReading H κ o w p b
     unfolding deliveredWords
     taking-delivery enough =
         let now = line-words (b .line) w _ enough ∙ t .words in
@@ -166,11 +166,12 @@ module _ (o : Arguments) (w : List ℕ) (B : Belongs o w) (S : Sets o w) (p : �
                 words = recorded-belongs o w B (drop 12 (b .list)) p (t .message) layout fits;
                 sets = recorded-sets o w B (drop 12 (b .list)) p (t .message) layout S (form .rising) (form .layout);
               });
+          coins = subst (λ (x : List ℕ). CoinsStay engineSeen w x) (sym now) (coins-stay o w _ B (recorded-belongs o w B (drop 12 (b .list)) p (t .message) layout fits));
           said = meaning (t .message) (values (countOf (t .message)) (drop 12 (b .list)));
           says = record { message = t .message; taken = read; means = refl };
           holds =
-              subst (λ (x : List ℕ). Delivered (at engine engineReading H o) engineSeen w x p (meaning (t .message) (values (countOf (t .message)) (drop 12 (b .list))))) (sym now)
-              (recorded-delivered o w B (drop 12 (b .list)) p (t .message) layout H (message-accepting .free));
+              subst (λ (x : List ℕ). Delivered (at engine engineReading H κ o) engineSeen w x p (meaning (t .message) (values (countOf (t .message)) (drop 12 (b .list))))) (sym now)
+              (recorded-delivered o w B (drop 12 (b .list)) p (t .message) layout H κ (message-accepting .free));
         }
 
 -- ---- the laws
@@ -187,8 +188,8 @@ pub deliver-refused : (w : List ℕ) (m : ℕ) (b : Bytes) → engine .accepts w
 unfolding deliverNumber deliveredWords
 deliver-refused w m b e = line-stays _ (b .line) w _ e (λ f. answer-refused w m (b .list) (eqb-false (deliverAnswer w m (b .list)) 0 f))
 
-pub deliver-accepted : (H : ℕ → Bool) (o : Arguments) (w : List ℕ) → Belonging o w → (m : ℕ) (b : Bytes) → engine .accepts w m b ≡ true → Delivery engine engineReading H o w m b
-deliver-accepted H o w B m b e = taking-delivery o w (B .words) (B .sets) m b H (answer-accepted w m (b .list) (without-line w m b e .0)) (without-line w m b e .1)
+pub deliver-accepted : (H : ℕ → Bool) (κ : ℕ → ℕ → Bool) (o : Arguments) (w : List ℕ) → Belonging o w → (m : ℕ) (b : Bytes) → engine .accepts w m b ≡ true → Delivery engine engineReading H κ o w m b
+deliver-accepted H κ o w B m b e = taking-delivery o w (B .words) (B .sets) m b H κ (answer-accepted w m (b .list) (without-line w m b e .0)) (without-line w m b e .1)
 
 same-taken : (a b : wire-message.Message) → Taken a ≡ Taken b → a ≡ b
 same-taken a b e = cc

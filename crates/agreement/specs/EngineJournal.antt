@@ -18,8 +18,9 @@ use Rattle.restore.specs.Restoring.{Point, firstLine, nextLine, Replay, wrong, 
 use Rattle.restore.specs.declared.Restored.the-variants as answer
 use Rattle.restore.specs.Written.{Without, AllWithout, lines-joined, joined-more, all-more, free-part, replay-one, replay-more}
 use Rattle.restore.specs.WrittenLines.{EachByte, opening-without, delivery-without, turn-without, first-reads, delivery-reads, turn-reads}
-use Rattle.agreement.specs.Calls.{Call, opening, delivery, turn, report, restore, line, Arguments, weightsOf, Bytes, TurnLent, RestoreLent, engine}
-use Rattle.agreement.specs.Laws.{Ran, by-opening, by-delivery, by-turn, Torn, nothing, part}
+use Rattle.agreement.specs.Calls.{Call, opening, delivery, turn, report, restore, recording, line}
+use Rattle.agreement.specs.EngineCalls.{Arguments, weightsOf, Bytes, TurnLent, RestoreLent, engine}
+use Rattle.agreement.specs.Laws.{Ran, by-opening, by-delivery, by-turn, by-recording, Torn, nothing, part}
 use Rattle.agreement.specs.EngineOpening.{without-line, told, opened-first}
 use Rattle.agreement.specs.EngineDelivery as deliveries
 
@@ -89,6 +90,7 @@ ran-lines _ _ _ (by-opening w o e) =
     }
 ran-lines _ _ _ (by-delivery t w last m b r e) = more t (point w last) (point (engine .delivered w m b) none) (deliveryText m (b .list)) (engine .delivery-line m b) (ran-lines t w last r) refl (delivery-without m (b .list)) (deliver-again w m b e)
 ran-lines _ _ _ (by-turn t w last l r e) = more t (point w last) (point (engine .turned w l) (some (w, l))) turnText (engine .turn-line) (ran-lines t w last r) refl turn-without (turn-again w l e)
+ran-lines _ _ _ (by-recording t w last x r e) = absurd (false≢true e)
 
 torn-free : (rest : List ℕ) → Torn engine rest → Without LF rest
 unfolding withEnd
@@ -105,6 +107,7 @@ torn-free rest (part c more e ne) = at c e
     at (turn p l) f = free-part rest more turnText f ne turn-without
     at (report p r) f = none-left rest f
     at (restore p v r) f = none-left rest f
+    at (recording p x) f = none-left rest f
 
 -- the complete lines of a cut are those lines, and they come to the words after the last of them
 pub record CutRead (text t w : List ℕ) (last : Last) : Type 0 where

@@ -21,7 +21,7 @@ use Rattle.turn.specs.Turn.{counted, entered, decidedAs, newDecision, moveDecid
 use Rattle.turn.specs.Turn as turn
 use Rattle.turn.specs.Told.{ActTold}
 use Rattle.turn.specs.Frame.{Placed, told-placed, setting, coins, beyond, length-applied, applied-kept}
-use Rattle.agreement.specs.Calls.{Arguments}
+use Rattle.agreement.specs.EngineCalls.{Arguments}
 use Rattle.agreement.specs.EngineReading.{Belongs}
 
 fit-entered : (s : List ℕ) (i r b : ℕ) → Fit s → r ≤ 33 → Fit (entered s i r b)

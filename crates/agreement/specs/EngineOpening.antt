@@ -3,7 +3,7 @@
 use Prim.Native.Nat.{ℕ, _≤_}
 use mathlib.Core.Bool.{Bool, true, false, true≢false}
 use mathlib.Core.List.{List}
-use mathlib.Core.Path.{_≡_, sym, ap, subst, _∙_}
+use mathlib.Core.Path.{_≡_, refl, sym, ap, subst, _∙_}
 use native.Mathlib.Omega.{arith}
 use lib.Dec.{leb}
 use lib.ListN.{length}
@@ -28,10 +28,10 @@ use Rattle.journal.specs.Laws.{line-taken, line-words, line-stays}
 use Rattle.agreement.specs.History.{Decision, zero, one}
 use Rattle.held.specs.Held.{Message, SEND, ECHO, READY, EST, AUX, COMMIT, holds}
 use Rattle.agreement.specs.Runs.{Blank}
-use Rattle.agreement.specs.Calls.{Arguments, weightsOf, agreed, engine}
+use Rattle.agreement.specs.EngineCalls.{Arguments, weightsOf, agreed, engine}
 use Rattle.agreement.specs.Laws.{at}
-use Rattle.agreement.specs.EngineSeen.{engineSeen}
-use Rattle.agreement.specs.EngineReading.{Belongs, Sets, Belonging, engineReading}
+use Rattle.agreement.specs.EngineSeen.{CoinShown, engineSeen}
+use Rattle.agreement.specs.EngineReading.{Belongs, Sets, Belonging, coins-first, engineReading}
 
 -- the words after an accepted opening
 abbrev pub first : Arguments → List ℕ
@@ -132,11 +132,14 @@ open-belongs w o e =
     subst (Belonging o) (sym (opened-first w o e))
     (record { words = first-belongs o r (own-within w o e .0) (own-within w o e .1); sets = first-sets o (r .few) })
 
-pub open-blank : (H : ℕ → Bool) (w : List ℕ) (o : Arguments) → engine .opens w o ≡ true → Blank (at engine engineReading H o) engineSeen (engine .opened w o)
-open-blank H w o e =
+pub open-blank : (H : ℕ → Bool) (κ : ℕ → ℕ → Bool) (w : List ℕ) (o : Arguments) → engine .opens w o ≡ true → Blank (at engine engineReading H κ o) engineSeen (engine .opened w o)
+open-blank H κ w o e =
     let few = open-ruled w o e .few in
-    subst (Blank (at engine engineReading H o) engineSeen) (sym (opened-first w o e))
+    subst (Blank (at engine engineReading H κ o) engineSeen) (sym (opened-first w o e))
     (record { held = λ m x lo hi h. none-held o few m x (omega (arith, few)) h; decs = λ i b lo hi d. none-decided o few i b d })
+
+pub open-coins : (w : List ℕ) (o : Arguments) → engine .opens w o ≡ true → (i r : ℕ) (c : Bool) → CoinShown (engine .opened w o) i r c → (engine .boxed (agreed o) ≡ false) × (c ≡ engine .coin (agreed o) i r)
+open-coins w o e i r c k = (refl, coins-first o (engine .opened w o) (open-belongs w o e .words) i r c k)
 
 pub open-refused : (w : List ℕ) (o : Arguments) → engine .opens w o ≡ false → engine .opened w o ≡ w
 unfolding openNumber openedWords opened

@@ -10,10 +10,13 @@ pub mod Calls
 pub mod Laws
 pub mod Openings
 pub mod Journals
+pub mod Coins
 pub mod Plain
 pub mod Chains
+pub mod Recordings
 pub mod Lists
 pub mod Demand
+pub mod EngineCalls
 pub mod EngineSeen
 pub mod EngineLent
 pub mod EngineReading
