@@ -31,7 +31,7 @@ and-true : (a b : Bool) → (a && b) ≡ true → (a ≡ true) × (b ≡ true)
 and-true true b e = (refl, e)
 and-true false b e = absurd (false≢true e)
 
-bit-value : (b : ℕ) → b ≤ 1 → coinValue (eqb b 1) ≡ b
+pub bit-value : (b : ℕ) → b ≤ 1 → coinValue (eqb b 1) ≡ b
 bit-value b le = at (eqb b 1) refl
   where
     at : (t : Bool) → eqb b 1 ≡ t → coinValue t ≡ b

@@ -52,7 +52,7 @@ module _ (o : Arguments) (H : ℕ → Bool) (κ : ℕ → ℕ → Bool) (w : Lis
 
   -- the coin that a move reads is the world's
   pub coin-same : (g : Settings) (i r : ℕ) (v : View) → 1 ≤ i → i ≤ o .n → MoveTold g w i r v → records.coin w i r ≡ W .coin i r
-  coin-same g i r v low high t = coins i r (records.coin w i r) (record { low = low; high = omega (arith, high, x .is-n); first = t .low; last = t .high; same = refl })
+  coin-same g i r v low high t = coins i r (records.coin w i r) (record { low = low; high = omega (arith, high, x .is-n); first = t .low; last = t .high; known = t .known; same = refl })
 
   -- the value that vote i is decided: 0 for true
   abbrev valueOf : Bool → ℕ

@@ -1,7 +1,6 @@
 -- The engine as a machine of six calls, by the definitions that the contracts of the code cite, and demand 3 of it.
 use Prim.Native.Nat.{ℕ, _<_, _^_}
-use mathlib.Core.Bool.{false}
-use mathlib.Core.List.{List, []}
+use mathlib.Core.List.{List}
 use mathlib.Core.Logic.{_≢_}
 use mathlib.Core.Path.{_≡_}
 use lib.Dec.{eqb}
@@ -14,8 +13,8 @@ use Rattle.wire.specs.Message.{lengthOf}
 use Rattle.wire.specs.declared.Message as wire
 use Rattle.wire_laws.specs.Proper.{AllBytes}
 use Rattle.opening.specs.Given.{item, weightsWord}
-use Rattle.journal.specs.Lines.{openingLine, deliveryLine, turnLine}
-use Rattle.journal.specs.Journal.{openNumber, openedWords, deliverNumber, deliveredWords, turnedOutcome, turnedWords, turnedMessage}
+use Rattle.journal.specs.Lines.{openingLine, deliveryLine, turnLine, recordingLine}
+use Rattle.journal.specs.Journal.{openNumber, openedWords, deliverNumber, deliveredWords, turnedOutcome, turnedWords, turnedMessage, recordNumber, recordWords}
 use Rattle.journal.specs.Journal as journal-calls
 use Rattle.restore.specs.Restoring.{accepted, restoreAnswer, restoredWords}
 use Rattle.turn.specs.declared.Outcome.the-variants as outcome
@@ -25,7 +24,7 @@ use Rattle.report.specs.declared.Answer.the-variants as answer
 use Rattle.agreement.specs.Calls.{Machine, DemandThree}
 
 -- the arguments of an opening, and how many bytes it is lent for its line: the code takes 32 bits for the session number and each coin word, and
--- 64 for the own input; weights are any numbers
+-- 64 for the own input; weights, and whether coins are printed or boxed, are any numbers
 pub record Arguments : Type 0 where
   pub n : ℕ
   pub ta : ℕ
@@ -35,6 +34,7 @@ pub record Arguments : Type 0 where
   pub input : ℕ
   pub coins : List ℕ
   pub weights : List ℕ
+  pub boxed : ℕ
   pub line : ℕ
   pub session-fits : session < 2 ^ 32
   pub input-fits : input < 2 ^ 64
@@ -44,11 +44,13 @@ pub record Arguments : Type 0 where
 abbrev pub weightsOf : Arguments → ℕ
 weightsOf o = weightsWord (o .n) (o .weights)
 
--- "All these openings agree in n, ts, session number, coin words, and ta once 255 is read"; the weights are "compared like them" (N11)
+-- "All these openings agree in n, ts, session number, coin words, and ta once 255 is read"; the weights are "compared like them" (N11), and so
+-- is "whether coins are printed or boxed" (N12)
 pub record Agreed : Type 0 where
   pub settings : Settings
   pub number : ℕ
   pub coins : List ℕ
+  pub boxed : ℕ
 
 abbrev pub agreed : Arguments → Agreed
 agreed o =
@@ -56,6 +58,7 @@ agreed o =
       settings = settingsNamed (o .n) (o .ta) (o .ts) (weightsOf o);
       number = o .session;
       coins = o .coins;
+      boxed = o .boxed;
     }
 
 -- the bytes of a message, and how many bytes their delivery is lent for its line
@@ -74,6 +77,13 @@ pub record SendsBytes (w : List ℕ) (l : TurnLent) (b : Bytes) : Type 0 where
   pub message : wire.Message
   pub outcome : turnedOutcome w (length (l .message)) (l .line) ≡ outcome.Sent message
   pub bytes : b .list ≡ take (lengthOf message) (turnedMessage w (l .message) (l .line))
+
+-- the vote, the round and the bit of a recording, and how many bytes it is lent for its line
+pub record BitGiven : Type 0 where
+  pub vote : ℕ
+  pub round : ℕ
+  pub bit : ℕ
+  pub line : ℕ
 
 -- the bytes of a journal, and those lent for the message of its last line
 pub record RestoreLent : Type 0 where
@@ -98,14 +108,8 @@ pub record ReportEnforces (w X : List ℕ) : Type 0 where
   pub some : figures .in_force ≢ 0
   pub set : X ≡ take (figures .in_force) (reportInForce w 16 lent)
 
--- a recording: vote, round and bit
-pub record Bit : Type 0 where
-  pub vote : ℕ
-  pub round : ℕ
-  pub bit : ℕ
-
--- the six calls, by the definitions that their contracts cite; a buffer holds any numbers. Opening, delivery and turn are lent bytes for their
--- line: with fewer than 512 they are refused by 8, after every other number, so what is accepted is written.
+-- the six calls, by the definitions that their contracts cite; a buffer holds any numbers. Opening, delivery, turn and recording are lent
+-- bytes for their line: with fewer than 512 they are refused by 8, after every other number, so what is accepted is written.
 abbrev pub engine : Machine
 engine =
     record {
@@ -116,11 +120,10 @@ engine =
       Session = Agreed;
       session = agreed;
       settings = λ S. S .settings;
-      -- all sessions are printed, until opening and state know boxed ones
-      boxed = λ S. false;
+      boxed = λ S. eqb (S .boxed) 1;
       coin = λ S i r. mark (item (S .coins) i) r;
-      opens = λ w o. eqb (openNumber (length w) (o .n) (o .ta) (o .ts) (o .own) (o .coins) (o .weights) (o .line)) 0;
-      opened = λ w o. openedWords w (o .n) (o .ta) (o .ts) (o .own) (o .session) (o .input) (o .coins) (o .weights) (o .line);
+      opens = λ w o. eqb (openNumber (length w) (o .n) (o .ta) (o .ts) (o .own) (o .coins) (o .weights) (o .boxed) (o .line)) 0;
+      opened = λ w o. openedWords w (o .n) (o .ta) (o .ts) (o .own) (o .session) (o .input) (o .coins) (o .weights) (o .boxed) (o .line);
       Bytes = Bytes;
       accepts = λ w m b. eqb (deliverNumber w m (b .list) (b .line)) 0;
       delivered = λ w m b. deliveredWords w m (b .list) (b .line);
@@ -128,16 +131,16 @@ engine =
       acts = λ w l. journal-calls.acts (turnedOutcome w (length (l .message)) (l .line));
       Sends = SendsBytes;
       turned = λ w l. turnedWords w (length (l .message)) (l .line);
-      Recording = Bit;
+      Recording = BitGiven;
       vote = λ x. x .vote;
       round = λ x. x .round;
       bit = λ x. x .bit;
-      records = λ w x. false;
-      recorded = λ w x. w;
-      opening-line = λ o. openingLine (o .n) (o .ta) (o .ts) (o .own) (o .session) (o .input) (o .coins) (o .weights);
+      records = λ w x. eqb (recordNumber w (x .vote) (x .round) (x .bit) (x .line)) 0;
+      recorded = λ w x. recordWords w (x .vote) (x .round) (x .bit) (x .line);
+      opening-line = λ o. openingLine (o .n) (o .ta) (o .ts) (o .own) (o .session) (o .input) (o .coins) (o .weights) (o .boxed);
       delivery-line = λ m b. deliveryLine m (b .list);
       turn-line = turnLine;
-      recording-line = λ x. [];
+      recording-line = λ x. recordingLine (x .vote) (x .round) (x .bit);
       Restore = RestoreLent;
       text = λ r. r .journal;
       restores = λ v r. accepted (restoreAnswer v (r .journal) (length (r .message)));

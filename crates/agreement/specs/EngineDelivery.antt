@@ -10,7 +10,7 @@ use native.Mathlib.Nat.{mod-eq-of-lt}
 use lib.ListN.{length, drop}
 use borrow.Author.Tests.{eqb-true, eqb-false}
 use Rattle.quorum.specs.Marks.{mark}
-use Rattle.records.specs.Layout.{nAt, taAt, tsAt, ownAt, sessionAt, inputAt, weightsAt, coinAt, auxSentAt, echoSentAt, decidedZeroAt, decidedOneAt}
+use Rattle.records.specs.Layout.{nAt, taAt, tsAt, ownAt, sessionAt, inputAt, weightsAt, boxedAt, coinAt, auxSentAt, echoSentAt, decidedZeroAt, decidedOneAt}
 use Rattle.records.specs.Records.{commitSet, echoSent, auxSent, decidedZero, decidedOne}
 use Rattle.records.specs.Words.{word, marked}
 use Rattle.commits.specs.Sets.{set-length}
@@ -38,8 +38,8 @@ use Rattle.held.specs.Recording.{held-recorded}
 use Rattle.agreement.specs.Runs.{Delivered, CoinsStay}
 use Rattle.agreement.specs.EngineCalls.{Arguments, Agreed, Bytes, engine}
 use Rattle.agreement.specs.Laws.{at, Delivery}
-use Rattle.agreement.specs.EngineSeen.{engineSeen}
-use Rattle.agreement.specs.EngineReading.{Belongs, Sets, Belonging, coins-stay, Says, engineReading}
+use Rattle.agreement.specs.EngineSeen.{engineSeen, coins-stay}
+use Rattle.agreement.specs.EngineReading.{Belongs, Sets, Belonging, Says, engineReading}
 
 -- the values of a message that is taken have 64 bits
 value-fits : (m : wire-message.Message) (xs v : List ℕ) → Fitting (valuesOf m xs) → ((j : ℕ) → valueAt v j < 2 ^ 64) → ValueFits m v
@@ -62,17 +62,23 @@ module _ (o : Arguments) (w : List ℕ) (B : Belongs o w) (v : List ℕ) (p : �
         ruled = B .ruled;
         own-low = B .own-low;
         own-high = B .own-high;
+        kind = B .kind;
         size = length-recorded w v p m ∙ B .size;
         is-n = same nAt (inl (omega arith)) ∙ B .is-n;
         is-ta = same taAt (inl (omega arith)) ∙ B .is-ta;
         is-ts = same tsAt (inl (omega arith)) ∙ B .is-ts;
         is-weights = word-free w v p m weightsAt h (omega arith) (omega arith) ∙ B .is-weights;
+        is-boxed = word-free w v p m boxedAt h (omega arith) (omega arith) ∙ B .is-boxed;
         is-own = same ownAt (inl (omega arith)) ∙ B .is-own;
         is-session = same sessionAt (inl (omega arith)) ∙ B .is-session;
         is-input = same inputAt (inl (omega arith)) ∙ B .is-input;
-        is-coin = λ i lo hi. same (coinAt i) (inl (omega (arith, B .ruled .few))) ∙ B .is-coin i lo hi;
         fits = fit-recorded w v p m h f (B .fits);
       }
+
+  recorded-coins : CoinsStay engineSeen w (recorded w p m v)
+  recorded-coins =
+      coins-stay w (recorded w p m v) (omega (arith, B .is-n, B .ruled .few)) (same nAt (inl (omega arith))) (word-free w v p m boxedAt h (omega arith) (omega arith))
+      (λ i lo hi. same (coinAt i) (inl (omega arith)))
 
   -- a set as messages have it
   abbrev Right : List ℕ → Type 0
@@ -166,7 +172,7 @@ module _ (o : Arguments) (w : List ℕ) (B : Belongs o w) (S : Sets o w) (p : �
                 words = recorded-belongs o w B (drop 12 (b .list)) p (t .message) layout fits;
                 sets = recorded-sets o w B (drop 12 (b .list)) p (t .message) layout S (form .rising) (form .layout);
               });
-          coins = subst (λ (x : List ℕ). CoinsStay engineSeen w x) (sym now) (coins-stay o w _ B (recorded-belongs o w B (drop 12 (b .list)) p (t .message) layout fits));
+          coins = subst (λ (x : List ℕ). CoinsStay engineSeen w x) (sym now) (recorded-coins o w B (drop 12 (b .list)) p (t .message) layout);
           said = meaning (t .message) (values (countOf (t .message)) (drop 12 (b .list)));
           says = record { message = t .message; taken = read; means = refl };
           holds =

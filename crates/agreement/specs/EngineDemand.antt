@@ -1,7 +1,6 @@
 -- The engine keeps the laws, so demand 3 holds of it.
 use Prim.Native.Nat.{ℕ}
-use mathlib.Core.Bool.{Bool, false≢true}
-use mathlib.Core.Path.{refl}
+use mathlib.Core.Bool.{Bool}
 use Rattle.agreement.specs.EngineCalls.{engine, EngineAgrees}
 use Rattle.agreement.specs.Laws.{Laws}
 use Rattle.agreement.specs.Demand.{demand-three}
@@ -10,6 +9,7 @@ use Rattle.agreement.specs.EngineOpening.{open-ruled, open-belongs, open
 use Rattle.agreement.specs.EngineDelivery.{deliver-refused, deliver-accepted, says-one}
 use Rattle.agreement.specs.EngineJournal.{restore-refused, restore-ran}
 use Rattle.agreement.specs.EngineTurn.{turn-belongs, turn-told, turn-idle}
+use Rattle.agreement.specs.EngineRecording.{record-refused, record-binary, record-printed, record-accepted}
 use Rattle.agreement.specs.EngineReport.{outputs-have-readies, names-exits, exits-names, force-held}
 
 pub engine-laws : (H : ℕ → Bool) (κ : ℕ → ℕ → Bool) → Laws engine engineReading H κ
@@ -26,10 +26,10 @@ engine-laws H κ =
       turn-belongs = λ o w x l. turn-belongs o w x l;
       turn-told = λ o w x coins l. turn-told o w x l H κ coins;
       turn-idle = λ o w x l e. turn-idle w l e;
-      record-refused = λ w x e. refl;
-      record-binary = λ w x e. absurd (false≢true e);
-      record-printed = λ o w b e x. refl;
-      record-accepted = λ o w b x e. absurd (false≢true e);
+      record-refused = record-refused;
+      record-binary = record-binary;
+      record-printed = λ o w x e b. record-printed o w (x .words) e b;
+      record-accepted = record-accepted H κ;
       restore-refused = restore-refused;
       restore-ran = restore-ran;
       outputs-held = λ o w x. outputs-have-readies o H κ w (x .words);

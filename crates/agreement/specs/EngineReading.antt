@@ -1,18 +1,16 @@
 -- The engine's words as a state of its session, the act of a turn, and what the bytes of a message say.
 use Prim.Native.Nat.{ℕ, _≤_, _<_, _^_}
-use mathlib.Core.Bool.{Bool, true}
+use mathlib.Core.Bool.{true}
 use mathlib.Core.List.{List}
 use mathlib.Core.Option.{Option, none, some}
-use mathlib.Core.Path.{_≡_, sym, ap, _∙_}
-use native.Mathlib.Omega.{arith}
+use mathlib.Core.Path.{_≡_}
 use lib.ListN.{length, drop}
 use Rattle.settings.specs.Laws.{Ruled}
 use Rattle.settings.specs.Settings.{namedTa}
 use Rattle.settings.specs.declared.Settings.{Settings}
-use Rattle.records.specs.Layout.{nAt, taAt, tsAt, ownAt, sessionAt, inputAt, weightsAt, coinAt}
-use Rattle.quorum.specs.Marks.{mark}
-use Rattle.records.specs.Words.{word, marked}
-use Rattle.records.specs.Records.{coin, commitCount, commitSet}
+use Rattle.records.specs.Layout.{nAt, taAt, tsAt, ownAt, sessionAt, inputAt, weightsAt, boxedAt}
+use Rattle.records.specs.Words.{word}
+use Rattle.records.specs.Records.{commitCount, commitSet}
 use Rattle.acts.specs.declared.Act as acts
 use Rattle.acts.specs.declared.Act.the-variants as act
 use Rattle.wire.specs.Bytes.{values, rises}
@@ -20,17 +18,15 @@ use Rattle.wire.specs.Message.{countOf}
 use Rattle.wire.specs.Reading.{readMessage}
 use Rattle.wire.specs.declared.Message as wire
 use Rattle.wire.specs.declared.Parsed.the-variants.{Taken}
-use Rattle.opening.specs.Given.{item}
 use Rattle.turn.specs.Due.{due, commitDue}
 use Rattle.turn.specs.Turn.{admits}
 use Rattle.turn.specs.declared.Admitted.{Admitted}
 use Rattle.turn.specs.declared.Admitted.the-variants as admitted
 use Rattle.held.specs.Held.{Message, meaning}
-use Rattle.agreement.specs.Runs.{CoinsStay}
 use Rattle.agreement.specs.History.{Act, send, echo, ready, start, relay, aux, move, commit}
 use Rattle.agreement.specs.EngineCalls.{Arguments, weightsOf, Agreed, agreed, Bytes, TurnLent, engine}
 use Rattle.agreement.specs.Laws.{Reading}
-use Rattle.agreement.specs.EngineSeen.{CoinShown, engineSeen}
+use Rattle.agreement.specs.EngineSeen.{engineSeen}
 use Rattle.agreement.specs.EngineLent.{forMessage}
 
 -- the words hold the session of an accepted opening
@@ -38,34 +34,17 @@ pub record Belongs (o : Arguments) (w : List ℕ) : Type 0 where
   pub ruled : Ruled (agreed o .settings)
   pub own-low : 1 ≤ o .own
   pub own-high : o .own ≤ o .n
+  pub kind : o .boxed ≤ 1
   pub size : length w ≡ 2048
   pub is-n : word w nAt ≡ o .n
   pub is-ta : word w taAt ≡ namedTa (o .n) (o .ta) (o .ts) (weightsOf o)
   pub is-ts : word w tsAt ≡ o .ts
   pub is-weights : word w weightsAt ≡ weightsOf o
+  pub is-boxed : word w boxedAt ≡ o .boxed
   pub is-own : word w ownAt ≡ o .own
   pub is-session : word w sessionAt ≡ o .session
   pub is-input : word w inputAt ≡ o .input
-  pub is-coin : (i : ℕ) → 1 ≤ i → i ≤ o .n → word w (coinAt i) ≡ item (o .coins) i
   pub fits : (j : ℕ) → word w j < 2 ^ 64
-
--- the coins of an opening stay: they are printed
-pub coins-stay : (o : Arguments) (w t : List ℕ) → Belongs o w → Belongs o t → CoinsStay engineSeen w t
-unfolding coin marked
-coins-stay o w t x y i r c k =
-    let high : i ≤ o .n = omega (arith, k .high, y .is-n) in
-    record {
-      low = k .low;
-      high = omega (arith, high, x .is-n);
-      first = k .first;
-      last = k .last;
-      same = ap (λ (z : ℕ). mark z r) (x .is-coin i (k .low) high ∙ sym (y .is-coin i (k .low) high)) ∙ k .same;
-    }
-
--- the coins that an opening shows are those of its words
-pub coins-first : (o : Arguments) (w : List ℕ) → Belongs o w → (i r : ℕ) (c : Bool) → CoinShown w i r c → c ≡ mark (item (o .coins) i) r
-unfolding coin marked
-coins-first o w x i r c k = sym (k .same) ∙ ap (λ (z : ℕ). mark z r) (x .is-coin i (k .low) (omega (arith, k .high, x .is-n)))
 
 -- the COMMITs that are held are as messages have them
 pub record Sets (o : Arguments) (w : List ℕ) : Type 0 where

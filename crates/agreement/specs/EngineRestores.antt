@@ -2,7 +2,7 @@
 -- first line, is taken, whatever the 2,048 words of the buffer are, and gives back the state after its last complete line and the message of
 -- that line.
 use Prim.Native.Nat.{ℕ, _≤_}
-use mathlib.Core.Bool.{Bool, true, false≢true}
+use mathlib.Core.Bool.{Bool, true}
 use mathlib.Core.List.{List, _∷_, _++_}
 use mathlib.Core.Option.{none, some}
 use mathlib.Core.Path.{_≡_, refl, ap, _∙_}
@@ -27,6 +27,7 @@ use Rattle.agreement.specs.EngineReading.{Belonging, engineReading}
 use Rattle.agreement.specs.EngineOpening.{open-belongs}
 use Rattle.agreement.specs.EngineDelivery.{deliver-accepted}
 use Rattle.agreement.specs.EngineTurn.{turn-belongs, sends-again}
+use Rattle.agreement.specs.EngineRecording.{record-accepted}
 use Rattle.agreement.specs.EngineJournal.{Last, wordsBefore, CutRead, cut-read}
 use Rattle.agreement.specs.EngineDemand.{engine-laws}
 
@@ -83,7 +84,9 @@ ran-ours _ _ _ (by-delivery t w last m b r e) =
 ran-ours _ _ _ (by-turn t w last l r e) =
     let x = ran-ours t w last r in
     record { by-opening = x .by-opening; belongs = turn-belongs (x .by-opening) w (x .belongs) l }
-ran-ours _ _ _ (by-recording t w last x r e) = absurd (false≢true e)
+ran-ours _ _ _ (by-recording t w last b r e) =
+    let x = ran-ours t w last r in
+    record { by-opening = x .by-opening; belongs = record-accepted (λ p. true) (λ i r. true) (x .by-opening) w (x .belongs) b e .belongs }
 
 -- a turn that wrote the last line acted, at words of a session
 record Acting (w : List ℕ) (l : TurnLent) : Type 0 where

@@ -43,8 +43,8 @@ use Rattle.agreement.specs.Runs.{CoinsAre, CoinsStay}
 use Rattle.agreement.specs.Laws.{Turned}
 use Rattle.agreement.specs.EngineSeen.{engineSeen}
 use Rattle.agreement.specs.EngineLent.{forMessage, room-same, SendsPlain, sends-plain}
-use Rattle.agreement.specs.EngineReading.{Belongs, Sets, Belonging, coins-stay, shownAct, admittedAct, actOf, engineReading}
-use Rattle.agreement.specs.EngineKept.{belongs-applied}
+use Rattle.agreement.specs.EngineReading.{Belongs, Sets, Belonging, shownAct, admittedAct, actOf, engineReading}
+use Rattle.agreement.specs.EngineKept.{belongs-applied, coins-applied}
 use Rattle.agreement.specs.EngineDue.{ShownDue, shown-due}
 use Rattle.agreement.specs.EngineActed.{unchanged, kept-by, ShownActed, shown-acted}
 use Rattle.agreement.specs.EngineSent.{silent, shown-says, same-bytes}
@@ -119,6 +119,16 @@ module _ (o : Arguments) (w : List ℕ) (x : Belonging o w) (l : TurnLent) where
       go (admitted.Refused k) e = rw (refused-words o w (x .words) lent k e) x
       go (admitted.Open y) e = of (taken o w (x .words) lent y e)
 
+  coins-kept : CoinsStay engineSeen w (engine .turned w l)
+  coins-kept = rw (room-same l) (go (admits w (length lent)) refl)
+    where
+      of : Taken w lent (session o w (x .words)) → CoinsStay engineSeen w (turnWords w (length lent))
+      of t = rw (t .words) (coins-applied o w (x .words) (due g w) (told-placed g w (x .words .ruled) (due g w) (t .told)))
+
+      go : (v : Admitted) → admits w (length lent) ≡ v → CoinsStay engineSeen w (turnWords w (length lent))
+      go (admitted.Refused k) e = rw (refused-words o w (x .words) lent k e) (λ i r c y. y)
+      go (admitted.Open y) e = of (taken o w (x .words) lent y e)
+
   -- ---- what a turn tells
 
   module _ (H : ℕ → Bool) (κ : ℕ → ℕ → Bool) (coins : CoinsAre (worldWith engine (agreed o) H κ) engineSeen w) where
@@ -144,9 +154,6 @@ module _ (o : Arguments) (w : List ℕ) (x : Belonging o w) (l : TurnLent) where
 
     hidden : (a : acts.Act) → shownAct g w a ≡ none → (i r : ℕ) (v : View) → a ≡ act.Move i r v → ⊥
     hidden a e i r v f = let z : none ≡ shownAct g w (act.Move i r v) = sym e ∙ ap (shownAct g w) f in let y : _≡_ {A = ℕ} 0 1 = cc in omega arith
-
-    coins-kept : CoinsStay engineSeen w (engine .turned w l)
-    coins-kept = coins-stay o w (engine .turned w l) (x .words) (turn-belongs .words)
 
     told-by : Taken w lent (session o w (x .words)) → (c : Option Act) → shownAct g w (due g w) ≡ c → ShownDue W w c → ShownActed o H κ w (x .words) coins (due g w) c → Turned engine engineReading H κ o w l c
     told-by t none e d k =

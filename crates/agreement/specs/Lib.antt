@@ -28,6 +28,7 @@ pub mod EngineActed
 pub mod EngineSent
 pub mod EngineTurn
 pub mod EngineReport
+pub mod EngineRecording
 pub mod EngineJournal
 pub mod EngineDemand
 pub mod EngineRestores
