@@ -124,6 +124,7 @@ module _ (g : Settings) (ruled : Ruled g) (s t : List ℕ) (same : Alike s t) wh
 pub record Delivered (g : Settings) (s t : List ℕ) : Type 0 where
   pub sound : Sound g t
   pub count : word t turnsAt ≡ word s turnsAt
+  pub kind : word t boxedAt ≡ word s boxedAt
   pub same : (a : ℕ) → Untouched a → word t a ≡ word s a
 
 module _ (g : Settings) (ruled : Ruled g) (s : List ℕ) (h : Sound g s) (link : ℕ) (b : List ℕ) where
@@ -133,12 +134,16 @@ module _ (g : Settings) (ruled : Ruled g) (s : List ℕ) (h : Sound g s) (link :
         sound =
             same-sound g ruled s (recorded s link m (drop 12 b)) (λ a u z. same a u) h (length-recorded s (drop 12 b) link m)
             (word-free s (drop 12 b) link m 141 (in-layout (g .n) link m (ruled .few) (f .link-low) (f .link-high) (f .layout)) (omega arith) (omega arith))
-            (word-free s (drop 12 b) link m 142 (in-layout (g .n) link m (ruled .few) (f .link-low) (f .link-high) (f .layout)) (omega arith) (omega arith))
+            kind
             (counts-recorded (g .n) (ruled .few) s (drop 12 b) (h .size) link (f .link-low) (f .link-high) m (f .layout) (h .counts));
         count = same turnsAt (inl (omega arith));
+        kind = kind;
         same = same;
       }
     where
+      kind : word (recorded s link m (drop 12 b)) boxedAt ≡ word s boxedAt
+      kind = word-free s (drop 12 b) link m boxedAt (in-layout (g .n) link m (ruled .few) (f .link-low) (f .link-high) (f .layout)) (omega arith) (omega arith)
+
       same : (a : ℕ) → Untouched a → word (recorded s link m (drop 12 b)) a ≡ word s a
       same a u = word-untouched s (drop 12 b) link m a (in-layout (g .n) link m (ruled .few) (f .link-low) (f .link-high) (f .layout)) u
 
@@ -148,7 +153,7 @@ module _ (g : Settings) (ruled : Ruled g) (s : List ℕ) (h : Sound g s) (link :
 
   of-verdict : (v : Verdict) → verdict s link b ≡ v → Delivered g s (wordsAfter v s link b)
   unfolding wordsAfter
-  of-verdict (Refused k) e = record { sound = h; count = refl; same = λ a u. refl }
+  of-verdict (Refused k) e = record { sound = h; count = refl; kind = refl; same = λ a u. refl }
   of-verdict (Accepted m) e =
       accepted-sound m
       (taken-form (g .n) (sessionOf s .number) link b m (rw session-settings at (accepting s link b m e .taken)))

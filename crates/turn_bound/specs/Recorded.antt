@@ -2,14 +2,13 @@
 use Prim.Native.Nat.{ℕ, _≤_}
 use mathlib.Core.Bool.{Bool, true, false}
 use mathlib.Core.List.{List}
-use mathlib.Core.Path.{_≡_, refl, _∙_}
+use mathlib.Core.Path.{_≡_, refl}
 use native.Mathlib.Omega.{arith}
 use lib.Dec.{eqb}
-use lib.ListN.{length}
 use borrow.Author.Tests.{eqb-true}
 use Rattle.settings.specs.Laws.{Ruled}
 use Rattle.settings.specs.declared.Settings.{Settings}
-use Rattle.records.specs.Layout.{nAt, turnsAt, commitCountAt}
+use Rattle.records.specs.Layout.{turnsAt, commitCountAt}
 use Rattle.records.specs.Words.{word, length-setMark}
 use Rattle.session.specs.Session.{settingsOf}
 use Rattle.recording.specs.Recording.{recordAnswer, withBit, recordedWords}
