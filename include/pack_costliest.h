@@ -26,7 +26,7 @@ enum pack_costliest_kind {
 
 /*
  * Number k of the opening, from 1 on: n, ta, ts, own number, session, input, then the n coin words; 0 past the end.
- * Its weights are all 1.
+ * Its weights are all 1, and its coins are printed.
  */
 uint64_t pack_costliest_setting(uint64_t n, uint64_t k);
 

@@ -28,7 +28,7 @@ use Rattle.turn.specs.Decisions.{DecidedBy, decided-zero-came, decided-one-came
 use Rattle.agreement.specs.Evidence.{World}
 use Rattle.agreement.specs.History.{Act, echo, aux, move, Decision, zero, one}
 use Rattle.held.specs.Held.{Numbered}
-use Rattle.held.specs.Keeping.{held-back}
+use Rattle.held.specs.Keeping.{kept-holding, held-back}
 use Rattle.agreement.specs.Runs.{Decides, Changed, Kept, Acted, CoinsAre}
 use Rattle.agreement.specs.Calls.{worldWith}
 use Rattle.agreement.specs.EngineCalls.{Arguments, agreed, engine}
@@ -106,7 +106,7 @@ module _ (o : Arguments) (H : ℕ → Bool) (κ : ℕ → ℕ → Bool) (w : Lis
     pub changed : (decision : ℕ → ℕ → Type 0) → ((i : ℕ) (z : Bool) → 1 ≤ i → i ≤ o .n → DecidedBy w a i z → decision i (valueOf z)) → Changed W engineSeen w t (λ m y. ⊥) decision
     changed decision by =
         record {
-          held = λ m y low high h. inl (held-back w t (x .size) (length-applied w a) (applied-kept w a p) m y low (omega (arith, x .ruled .few)) h);
+          held = λ m y low high h. inl (held-back w t (x .size) (length-applied w a) (kept-holding w t (applied-kept w a p)) m y low (omega (arith, x .ruled .few)) h);
           echoed = echoes-stay;
           auxed = λ i r e. (e .0, auxes-stay i r (e .1));
           decs = decs-came decision by;

@@ -13,11 +13,9 @@ use Rattle.quorum.specs.Marks.{mark}
 use Rattle.records.specs.Layout.{nAt, taAt, tsAt, ownAt, sessionAt, inputAt, weightsAt, boxedAt, coinAt, auxSentAt, echoSentAt, decidedZeroAt, decidedOneAt}
 use Rattle.records.specs.Words.{word, marked, length-setMark}
 use Rattle.records.specs.Bounds.{fit-setMark}
-use Rattle.records.specs.Records.{printed, coin, coinKnown, sendHeld, sendValue, echoHeld, echoValue, readyHeld, readyValue, estHeld, auxHeld, echoSent, auxSent, decidedZero, decidedOne, commitCount, commitValue, commitSet}
+use Rattle.records.specs.Records.{printed, coin, coinKnown, echoSent, auxSent, decidedZero, decidedOne}
 use Rattle.votes.specs.Votes.{coinValue}
-use Rattle.commits.specs.Commits.{commitHeld}
-use Rattle.commits.specs.Sets.{set-agree}
-use Rattle.held.specs.Held.{Message, SEND, ECHO, READY, EST, AUX, COMMIT, holds}
+use Rattle.held.specs.Keeping.{Holding, early, late, held-back, count-back, set-back}
 use Rattle.recording.specs.Recording.{bitMark, recordAnswer, withBit, recordedWords}
 use Rattle.recording.specs.Laws.{Recordable, accepted, accepted-marks, refused-same, other-word, coin-here, coin-elsewhere}
 use Rattle.journal.specs.Journal.{LINE-BYTES, recordNumber, recordWords}
@@ -38,22 +36,9 @@ module _ (s t : List ℕ) (size : length s ≡ 2048) (sizes : length t ≡ lengt
   unfolding marked
   mark-alike j p l = ap (λ (w : ℕ). mark w p) (alike j l)
 
-  count-alike : (m : ℕ) → commitCount t m ≡ commitCount s m
-  unfolding commitCount
-  count-alike m = rw (alike (119 + m) (omega arith))
-
-  set-alike : (m : ℕ) → m ≤ 16 → commitSet t m ≡ commitSet s m
-  unfolding commitValue
-  set-alike m high = set-agree s t m m size (sizes ∙ size) high high (count-alike m) (λ k lo hi. alike (751 + 16 * m + k) (omega arith))
-
-  held-alike : (m : ℕ) (x : Message) → m ≤ 16 → holds t m x → holds s m x
-  unfolding sendHeld sendValue echoHeld echoValue readyHeld readyValue estHeld auxHeld commitHeld
-  held-alike m (SEND v) high h = record { instance = h .instance; there = sym (mark-alike 140 m (omega arith)) ∙ h .there; same = sym (alike (71 + m) (omega arith)) ∙ h .same }
-  held-alike m (ECHO i v) high h = record { instance = h .instance; there = sym (mark-alike (87 + i) m (omega arith)) ∙ h .there; same = sym (alike (239 + 16 * i + m) (omega arith)) ∙ h .same }
-  held-alike m (READY i v) high h = record { instance = h .instance; there = sym (mark-alike (103 + i) m (omega arith)) ∙ h .there; same = sym (alike (495 + 16 * i + m) (omega arith)) ∙ h .same }
-  held-alike m (EST i r b) high h = record { vote = h .vote; there = sym (mark-alike (991 + 32 * i + r) (16 * b + m) (omega arith)) ∙ h .there }
-  held-alike m (AUX i r b) high h = record { vote = h .vote; there = sym (mark-alike (991 + 32 * i + r) (32 + 16 * b + m) (omega arith)) ∙ h .there }
-  held-alike m (COMMIT X) high h = record { there = rw (← count-alike m) (h .there); same = sym (set-alike m high) ∙ h .same }
+  held-words : (j : ℕ) → Holding j → word t j ≡ word s j
+  held-words j (early a b) = alike j (omega arith)
+  held-words j (late a) = alike j (omega arith)
 
   decided-alike : (i b : ℕ) → Decision (engineSeen .standing t) i b → Decision (engineSeen .standing s) i b
   unfolding decidedZero decidedOne
@@ -64,7 +49,7 @@ module _ (s t : List ℕ) (size : length s ≡ 2048) (sizes : length t ≡ lengt
   unfolding echoSent auxSent
   kept-alike W few =
       record {
-        held = λ m x lo hi h. inl (held-alike m x (omega arith) h);
+        held = λ m x lo hi h. inl (held-back s t size sizes held-words m x lo (omega arith) h);
         echoed = λ i e. mark-alike echoSentAt i (omega arith) ∙ e;
         auxed = λ i r e. (e .0, mark-alike (auxSentAt i) r (omega arith) ∙ e .1);
         decs = λ i b lo hi d. inl (decided-alike i b d);
@@ -135,8 +120,8 @@ module _ (o : Arguments) (w : List ℕ) (B : Belongs o w) (b : BitGiven) (k : Re
   with-bit-sets : Sets o w → Sets o t
   with-bit-sets S =
       record {
-        rising = λ p lo hi. rw (set-alike w t (B .size) size-same high-stays p (omega (arith, B .ruled .few))) (S .rising p lo hi);
-        few = λ p lo hi. rw (count-alike w t (B .size) size-same high-stays p) (S .few p lo hi);
+        rising = λ p lo hi. rw (set-back w t (B .size) size-same (held-words w t (B .size) size-same high-stays) p lo (omega (arith, B .ruled .few))) (S .rising p lo hi);
+        few = λ p lo hi. rw (count-back w t (B .size) size-same (held-words w t (B .size) size-same high-stays) p lo (omega (arith, B .ruled .few))) (S .few p lo hi);
       }
 
   coins-new : (i r : ℕ) (c : Bool) → CoinShown t i r c → CoinShown w i r c ⊎ ((i ≡ b .vote) × (r ≡ b .round) × (coinValue c ≡ b .bit))

@@ -36,7 +36,7 @@ use Rattle.journal.specs.Journal as journal
 use Rattle.journal.specs.Laws.{room-enough, acts-admitted}
 use Rattle.agreement.specs.Evidence.{World}
 use Rattle.agreement.specs.History.{Act, send}
-use Rattle.held.specs.Keeping.{count-back, set-back}
+use Rattle.held.specs.Keeping.{kept-holding, count-back, set-back}
 use Rattle.agreement.specs.Calls.{worldWith}
 use Rattle.agreement.specs.EngineCalls.{Arguments, agreed, Bytes, TurnLent, SendsBytes, engine}
 use Rattle.agreement.specs.Runs.{CoinsAre, CoinsStay}
@@ -103,8 +103,8 @@ module _ (o : Arguments) (w : List ℕ) (x : Belonging o w) (l : TurnLent) where
   sets-applied a told =
       let kept = applied-kept w a (told-placed g w (x .words .ruled) a told) in
       record {
-        rising = λ p lo hi. rw (set-back w (applied w a) (x .words .size) (length-applied w a) kept p lo (omega (arith, x .words .ruled .few))) (x .sets .rising p lo hi);
-        few = λ p lo hi. rw (count-back w (applied w a) (x .words .size) (length-applied w a) kept p lo (omega (arith, x .words .ruled .few))) (x .sets .few p lo hi);
+        rising = λ p lo hi. rw (set-back w (applied w a) (x .words .size) (length-applied w a) (kept-holding w (applied w a) kept) p lo (omega (arith, x .words .ruled .few))) (x .sets .rising p lo hi);
+        few = λ p lo hi. rw (count-back w (applied w a) (x .words .size) (length-applied w a) (kept-holding w (applied w a) kept) p lo (omega (arith, x .words .ruled .few))) (x .sets .few p lo hi);
       }
 
   pub turn-belongs : Belonging o (engine .turned w l)

@@ -34,7 +34,7 @@ use Rattle.turn_bound.specs.Raising.{counted-mark}
 use Rattle.turn_bound.specs.Sound.{sound-state}
 use Rattle.turn_bound.specs.Turning.{turn-sound}
 use Rattle.held.specs.Held.{COMMIT}
-use Rattle.held.specs.Keeping.{held-back}
+use Rattle.held.specs.Keeping.{kept-holding, held-back}
 use Rattle.held.specs.Staying.{Stays, stays-kept}
 use Rattle.costliest.specs.Calls.{each, turns}
 use Rattle.costliest.specs.Saying.{settings, Good, ruled}
@@ -73,7 +73,7 @@ module _ (n c : ℕ) (low : 1 ≤ n) (few : n ≤ 16) (s : List ℕ) (x : Good n
         session = same sessionAt (setting (omega arith)) ∙ x .session;
         printed = same boxedAt (beyond (omega arith)) ∙ x .printed;
         unclosed = unclosed;
-        allowed = λ k y num h. x .allowed k y num (held-back s (applied s a) (x .sound .size) (length-applied s a) same k y (num .low) (num .high) h);
+        allowed = λ k y num h. x .allowed k y num (held-back s (applied s a) (x .sound .size) (length-applied s a) (kept-holding s (applied s a) same) k y (num .low) (num .high) h);
       }
 
   pub turn-acts : isDue a ≡ true → word (applied s a) turnsAt ≡ word s turnsAt + 1
