@@ -1,6 +1,6 @@
 -- The engine keeps the laws of recording: a refused one leaves the words; after an accepted one they belong to the session as before, and show
 -- nothing new but the coin of its vote and round, which is its bit. A printed session accepts none.
-use Prim.Native.Nat.{ℕ, _+_, _*_, _≤_, _<_}
+use Prim.Native.Nat.{ℕ, _≤_, _<_}
 use mathlib.Core.Bool.{Bool, true, false, false≢true}
 use mathlib.Core.List.{List}
 use mathlib.Core.Logic.{_⊎_, inl, inr, _≢_}

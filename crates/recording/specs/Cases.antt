@@ -1,6 +1,6 @@
 -- The cases of the code.
-use Prim.Native.Nat.{ℕ, _+_, _≤_, _<_}
-use mathlib.Core.Bool.{Bool, true, false, _&&_, not, cond}
+use Prim.Native.Nat.{ℕ, _+_, _<_}
+use mathlib.Core.Bool.{Bool, true, false, not, cond}
 use mathlib.Core.List.{List}
 use mathlib.Core.Path.{_≡_, refl, sym, ap, _∙_}
 use native.Mathlib.Omega.{arith}
@@ -12,12 +12,12 @@ use Rattle.records.specs.Words.{word, marked}
 use Rattle.records.specs.Layout.{nAt}
 use Rattle.records.specs.Records.{closed}
 use Rattle.session.specs.Session.{isState, stored, sessionOf, sessionWith, settingsOf}
-use Rattle.session.specs.Laws.{State, is-state, state-is, held-read}
+use Rattle.session.specs.Laws.{state-is, held-read}
 use Rattle.session.specs.declared.Session.{Session}
 use Rattle.session.specs.declared.Stored.{Stored}
 use Rattle.session.specs.declared.Stored.the-variants.{NoState, Held}
 use Rattle.recording.specs.Recording.{bitMark, otherMark, inLayout, unopposed, recordable, recordAnswer, withBit, recordedWords}
-use Rattle.recording.specs.Laws.{Within, within, Recordable, accepted}
+use Rattle.recording.specs.Laws.{Within, within, accepted}
 
 -- the answer where the words are a state of n concentrators
 unfoldable pub runningAnswer : List ℕ → ℕ → ℕ → ℕ → ℕ → ℕ

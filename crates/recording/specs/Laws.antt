@@ -1,21 +1,20 @@
 -- What an accepted recording leaves: the coin of its vote and round is known and is its bit; every other coin, and every word but the vote's
 -- coin word, is as before; in a printed session none is accepted.
-use Prim.Native.Nat.{ℕ, _+_, _≤_, _<_}
+use Prim.Native.Nat.{ℕ, _+_, _≤_}
 use mathlib.Core.Bool.{Bool, true, false, _&&_, _||_, cond, not, false≢true}
 use mathlib.Core.List.{List}
 use mathlib.Core.Logic.{_⊎_, inl, inr, _≢_}
 use mathlib.Core.Path.{_≡_, refl, sym, ap, _∙_}
 use native.Mathlib.Omega.{arith}
 use native.Mathlib.Decide.{ℕ-discrete}
-use lib.ListN.{length}
 use lib.Dec.{eqb, leb}
-use borrow.Author.Tests.{eqb-true, leb-true, eq-eqb, ne-eqb, eqb-false}
+use borrow.Author.Tests.{leb-true}
 use Rattle.quorum.specs.Bools.{and-left, and-right, refusal-passed, not-passed}
 use Rattle.settings.specs.Settings.{roundLimit}
 use Rattle.quorum.specs.Marks.{mark, withMark}
-use Rattle.quorum.specs.MarkLaws.{mark-same, mark-other, with-set}
+use Rattle.quorum.specs.MarkLaws.{mark-same, mark-other}
 use Rattle.records.specs.Layout.{nAt, coinAt}
-use Rattle.records.specs.Words.{word, marked, setMark, word-setMark-same, word-setMark-other}
+use Rattle.records.specs.Words.{word, marked, word-setMark-same, word-setMark-other}
 use Rattle.records.specs.Records.{closed, coin, printed, coinRecorded}
 use Rattle.session.specs.Session.{isState, numbered, settingsOf}
 use Rattle.session.specs.Laws.{State, is-state}

@@ -30,7 +30,7 @@
 --     1024 to 1535 ESTs and AUXs held, 32 words for each vote, by round:
 --                  marks p, 16 + p, 32 + p and 48 + p for EST 0, EST 1, AUX 0 and AUX 1 of sender p
 --     1536 to 2047 free
-use Prim.Native.Nat.{ℕ, _+_, _*_, _≤_}
+use Prim.Native.Nat.{ℕ, _+_, _*_}
 use mathlib.Core.Bool.{Bool, true, _&&_}
 use mathlib.Core.List.{List, [], _∷_}
 use mathlib.Core.Path.{_≡_, refl}

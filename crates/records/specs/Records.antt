@@ -4,7 +4,7 @@ use mathlib.Core.Bool.{Bool, _||_}
 use mathlib.Core.List.{List}
 use lib.Dec.{eqb}
 use lib.ListN.{take, drop}
-use Rattle.records.specs.Layout.{ownAt, sessionAt, inputAt, turnsAt, flagsAt, closedMark, sendSentMark, commitSentMark, boxedAt, coinAt, zeroMark, roundAt, estSentAt, estSentMark, auxSentAt, sendMarksAt, sendValueAt, echoMarksAt, echoValueAt, readyMarksAt, readyValueAt, echoSentAt, readySentAt, decidedZeroAt, decidedOneAt, commitCountAt, commitValueAt, voteAt, estMark, auxMark}
+use Rattle.records.specs.Layout.{flagsAt, closedMark, sendSentMark, commitSentMark, boxedAt, coinAt, zeroMark, roundAt, estSentAt, estSentMark, auxSentAt, sendMarksAt, sendValueAt, echoMarksAt, echoValueAt, readyMarksAt, readyValueAt, echoSentAt, readySentAt, decidedZeroAt, decidedOneAt, commitCountAt, commitValueAt, voteAt, estMark, auxMark}
 use Rattle.records.specs.Words.{word, marked}
 
 -- delivery and turn after closing are refused

@@ -7,7 +7,7 @@ ghost use lib.ListN.{length};
 ghost use Rattle.quorum.specs.Marking.{MarksOf};
 ghost use Rattle.records.specs.Copy.{copied};
 ghost use Rattle.records.specs.Layout.{voteAt};
-ghost use Rattle.records.specs.Records.{closed, sendSent, commitSent, echoSent, readySent, sendHeld, sendValue, estHeld, auxHeld, coin, printed, coinKnown, round, estSent, auxSent, decided, commitCount, commitValue};
+ghost use Rattle.records.specs.Records.{closed, sendSent, commitSent, echoSent, readySent, sendHeld, sendValue, coin, printed, coinKnown, round, estSent, auxSent, decided, commitCount, commitValue};
 ghost use Rattle.records.specs.Words.{word, put, marked, equalAt, Reached, setMark};
 
 // The word at k, and 0 past the end.

@@ -1,14 +1,15 @@
 -- A `K` line as the code takes it: three numbers, given to the recording.
-use Prim.Native.Nat.{ℕ, _+_, _≤_, _<_}
-use mathlib.Core.Bool.{Bool, true, false, cond, _&&_}
-use mathlib.Core.List.{List, [], _∷_}
+use Prim.Native.Nat.{ℕ, _≤_, _<_}
+use mathlib.Core.Bool.{Bool, true, false, cond}
+use mathlib.Core.List.{List}
+use mathlib.Core.Logic.{_⊎_, inl, inr}
 use mathlib.Core.Option.{Option, none, some}
-use mathlib.Core.Path.{_≡_, refl, sym, ap, _∙_}
+use mathlib.Core.Path.{_≡_, refl, sym, _∙_}
 use native.Mathlib.Omega.{arith}
-use lib.Dec.{eqb, leb}
+use lib.Dec.{eqb}
 use lib.ListN.{length, getD, take}
 use lib.Seq.{length-take-le, take-all}
-use borrow.Author.Tests.{eq-eqb, ne-eqb, eqb-true, eqb-false, leb-true, leb-false}
+use borrow.Author.Tests.{eq-eqb, ne-eqb, eqb-true, eqb-false}
 use Rattle.recording.specs.Recording.{recordAnswer, recordedWords}
 use Rattle.recording.specs.Laws.{refused-same}
 use Rattle.text.specs.Numbers.{valuesOf}
@@ -16,7 +17,7 @@ use Rattle.journal.specs.Lines.{recordingForms}
 use Rattle.restore.specs.Reading.{allProper}
 use Rattle.restore.specs.Restoring.{Point, recordedBy, recordedFrom}
 use Rattle.restore.specs.Forms.{formAt, formsFrom, properAll, valuesAll, proper-forms, values-forms, proper-length, values-length, none-of}
-use Rattle.restore.specs.Filling.{FieldsRead}
+use Rattle.restore.specs.Filling.{FieldsRead, read-none, read-count}
 use Rattle.restore.specs.Given.{refused}
 use Rattle.restore.specs.Applying.{Tried, applies, wordsOr}
 use Rattle.restore.specs.declared.first.Fields.{Fields}
@@ -61,29 +62,17 @@ pub ruleset numbers-cases = (numbers-other, numbers-recorded)
 
 -- the fields of the line that were read
 module _ (w : List ℕ) (fs : List (List ℕ)) (r : Fields) (after : List ℕ) (h : FieldsRead 1 fs 3 r after) where
-  counts : (b : Bool) → properAll 1 0 fs && leb (length fs) 3 ≡ b → r ≡ cond b (Count (length fs)) Wrong
-  counts b e = h .answer ∙ rw e
-
   pub recording-wrong : r ≡ Wrong → Tried (recordedFrom w fs) w false w
   unfolding countedRecording
-  recording-wrong e = refused _ w (recording-counted w fs ∙ go (properAll 1 0 fs) refl (leb (length fs) 3) refl)
+  recording-wrong e = refused _ w (recording-counted w fs ∙ go (read-none 1 fs 3 r after h e))
     where
-      go : (a : Bool) → properAll 1 0 fs ≡ a → (b : Bool) → leb (length fs) 3 ≡ b → cond a (countedRecording w (valuesAll 1 0 fs)) none ≡ none
-      go false u b v = refl
-      go true u true v = absurd (let x : r ≡ Count (length fs) = counts true (rw (u, v)) in let z : _≡_ {A = ℕ} 0 1 = cc in omega arith)
-      go true u false v = rw (values-length 1 0 fs, ne-eqb (length fs) 3 (λ z. omega (arith, leb-false (length fs) 3 v)))
+      go : (properAll 1 0 fs ≡ false) ⊎ (3 < length fs) → cond (properAll 1 0 fs) (countedRecording w (valuesAll 1 0 fs)) none ≡ none
+      go (inl u) = rw u
+      go (inr l) = rw (values-length 1 0 fs, ne-eqb (length fs) 3 (λ z. omega arith)) (sym (none-of (properAll 1 0 fs)))
 
   module _ (k : ℕ) (e : r ≡ Count k) where
     all : (properAll 1 0 fs ≡ true) × (k ≤ 3)
-    all = go (properAll 1 0 fs) refl (leb (length fs) 3) refl
-      where
-        go : (a : Bool) → properAll 1 0 fs ≡ a → (b : Bool) → leb (length fs) 3 ≡ b → (properAll 1 0 fs ≡ true) × (k ≤ 3)
-        go true u true v =
-            let x : r ≡ Count (length fs) = counts true (rw (u, v)) in
-            let y : length fs ≡ k = cc in
-            (u, rw y at (leb-true (length fs) 3 v))
-        go true u false v = absurd (let x : r ≡ Wrong = counts false (rw (u, v)) in let z : _≡_ {A = ℕ} 0 1 = cc in omega arith)
-        go false u b v = absurd (let x : r ≡ Wrong = counts false (rw u) in let z : _≡_ {A = ℕ} 0 1 = cc in omega arith)
+    all = read-count 1 fs 3 r after h k e
 
     pub recording-given : RecordGiven k after
     recording-given = record { room = h .size; within = all .1 }

@@ -1,20 +1,20 @@
 -- The cases of the code.
-use Prim.Native.Nat.{ℕ, _+_, _*_, _%_, _^_, _≤_, _<_}
-use mathlib.Core.Bool.{Bool, true, false, _&&_, not, cond}
+use Prim.Native.Nat.{ℕ, _+_, _≤_, _<_}
+use mathlib.Core.Bool.{Bool, true, false, _&&_, not}
 use mathlib.Core.List.{List}
-use mathlib.Core.Path.{_≡_, refl, sym, ap, _∙_}
+use mathlib.Core.Path.{_≡_, sym, _∙_}
 use native.Mathlib.Omega.{arith}
 use lib.ListN.{length}
-use lib.Dec.{eqb, leb}
+use lib.Dec.{leb}
 use borrow.Author.Tests.{eq-eqb, ne-eqb, lt-leb, le-leb, not-true, not-false, leb-true}
 use Rattle.quorum.specs.Bools.{and-left, and-right}
-use Rattle.settings.specs.Settings.{validSettings, checkSettings, turnBound}
-use Rattle.settings.specs.Laws.{Taken, check-taken, check-refused, rules-valid}
+use Rattle.settings.specs.Settings.{checkSettings, turnBound}
+use Rattle.settings.specs.Laws.{Taken, check-taken, check-refused}
 use Rattle.settings.specs.declared.Settings.{Settings}
 use Rattle.settings.specs.declared.Checked.{Checked}
 use Rattle.settings.specs.declared.Checked.the-variants.{Valid, Invalid}
 use Rattle.quorum.specs.Every.{every}
-use Rattle.records.specs.Layout.{stateWords, nAt, taAt, tsAt, ownAt, sessionAt, weightsAt, boxedAt, turnsAt, roundAt, commitCountAt}
+use Rattle.records.specs.Layout.{nAt, taAt, tsAt, ownAt, weightsAt, boxedAt, turnsAt}
 use Rattle.records.specs.Words.{word}
 use Rattle.session.specs.Session.{numbered, roundsRight, commitsRight, numbersRight, settingsOf, isState, sessionWith, sessionOf, storedWith, stored}
 use Rattle.session.specs.declared.Session.{Session}

@@ -1,8 +1,8 @@
 -- What a buffer that holds a state tells.
-use Prim.Native.Nat.{ℕ, _+_, _≤_}
+use Prim.Native.Nat.{ℕ, _≤_}
 use mathlib.Core.Bool.{Bool, true, false, _&&_, cond}
 use mathlib.Core.List.{List}
-use mathlib.Core.Path.{_≡_, refl, sym, ap, _∙_}
+use mathlib.Core.Path.{_≡_, refl}
 use native.Mathlib.Omega.{arith}
 use lib.ListN.{length}
 use lib.Dec.{eqb, leb}
@@ -13,9 +13,8 @@ use Rattle.settings.specs.Laws.{Ruled, valid-rules, rules-valid}
 use Rattle.quorum.specs.Every.{every, every-each, each-every}
 use Rattle.records.specs.Layout.{nAt, taAt, tsAt, ownAt, weightsAt, boxedAt, turnsAt, roundAt, commitCountAt}
 use Rattle.records.specs.Words.{word}
-use Rattle.session.specs.Session.{numbered, roundsRight, commitsRight, numbersRight, settingsOf, isState, sessionWith, sessionOf, stored}
+use Rattle.session.specs.Session.{numbered, roundsRight, commitsRight, numbersRight, settingsOf, isState, sessionOf, stored}
 use Rattle.session.specs.declared.Session.{Session}
-use Rattle.session.specs.declared.Stored.{Stored}
 use Rattle.session.specs.declared.Stored.the-variants.{NoState, Held}
 
 pub record State (s : List ℕ) : Type 0 where
