@@ -146,6 +146,7 @@ impl Plan {
             input,
             coins: &self.coins,
             weights: self.settings.weights(),
+            boxed: 0,
         }
     }
 

@@ -27,7 +27,7 @@ use crate::packing::refusal;
 #[derive(Clone, Debug, Default, PartialEq, Eq)]
 pub struct Answers {
     /// By refusal, 0 for accepted.
-    pub refusals: [u64; 16],
+    pub refusals: [u64; 17],
     /// Turns: idle, sent, moved out of round 32, in force.
     pub outcomes: [u64; 4],
     /// Reports by exit.
@@ -36,7 +36,7 @@ pub struct Answers {
 
 impl Answers {
     fn note(&mut self, answer: u64) {
-        self.refusals[(answer & 0xff).min(15) as usize] += 1;
+        self.refusals[(answer & 0xff).min(16) as usize] += 1;
     }
 
     fn note_turn(&mut self, answer: u64) {
