@@ -5,7 +5,7 @@ use std::fmt::Display;
 use std::process::ExitCode;
 use std::time::Instant;
 
-use pack_reference::attack::{attack, Journals};
+use pack_reference::attack::{attack, Conditions};
 use pack_reference::c_engine::{check_word_counts, CEngine};
 use pack_reference::compare::{
     damaged_deliveries, foreign_calls, longest_sessions, random_calls, restores, unnamed_openings,
@@ -43,7 +43,7 @@ fn main() -> ExitCode {
     note("restores", &restores(&engine, seed, 12));
     note("random calls", &random_calls(&engine, seed, calls));
     note("planted words", &foreign_calls(&CEngine, &CEngine, seed, foreign));
-    let (statistics, finding) = attack(&engine, Journals::Kept, seed, feeders);
+    let (statistics, finding) = attack(&engine, Conditions::Met, seed, feeders);
     note("attack", &statistics);
     match finding {
         Some(finding) => {
