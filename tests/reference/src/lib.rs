@@ -5,6 +5,8 @@ pub mod attack;
 pub mod box_engine;
 mod broadcasts;
 #[cfg(feature = "c-engine")]
+pub mod c_box;
+#[cfg(feature = "c-engine")]
 pub mod c_engine;
 pub mod coin_box;
 mod coins;

@@ -5,8 +5,8 @@ use pack_reference::compare::random_calls;
 use pack_reference::engine::{Lockstep, Reference};
 use pack_reference::{Fault, Refusal};
 
-const SEED: u64 = 6;
-const FEEDERS: u64 = 60;
+const SEED: u64 = 3;
+const FEEDERS: u64 = 300;
 
 #[test]
 fn sound_engine_holds() {

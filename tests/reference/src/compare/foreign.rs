@@ -115,7 +115,8 @@ impl<A: Engine<State = Words>, B: Engine<State = Words>> Pair<'_, A, B> {
         let (vote, any) = (1 + random.below(n), 1 + random.below(32));
         let current = self.state[23 + vote as usize].clamp(1, 32);
         let round = if random.once_in(4) { any } else { current };
-        let coin = random_coin(random, Coin { vote, round, bit: random.below(2) });
+        let bit = random.below(2);
+        let coin = random_coin(random, Coin { vote, round, bit });
         let mut line = vec![0xa5; length(random, LINE_BYTES)];
         let mut line_copy = line.clone();
         let first = self.first.record(&mut self.state, coin, &mut line);
@@ -199,7 +200,7 @@ fn plant_settings(random: &mut Random, state: &mut Words) {
     let most = random.pick(&[4, 7, 16]);
     let ([n, ta, ts], weights) = good_settings(random, most);
     state[..4].copy_from_slice(&[n, ta, ts, 1 + random.below(n)]);
-    plant_weights(random, state, &weights);
+    state[WEIGHTS] = plant_weights(random, &weights);
     // Above 1 it is no state.
     state[BOXED] = random.pick(&[0, 0, 0, 1, 1, 1, 1, 1]);
     if random.once_in(24) {
@@ -214,9 +215,9 @@ fn plant_settings(random: &mut Random, state: &mut Words) {
     }
 }
 
-/// The weights of 1 to n, by any of the four marks of each; at times others, for which ta and ts may be too high, or one of
+/// The word of the weights of 1 to n, by any of the four marks of each; at times others, for which ta and ts may be too high, or one of
 /// 0, and at times bits that are no weight of 1 to n.
-fn plant_weights(random: &mut Random, state: &mut Words, good: &[u8]) {
+pub fn plant_weights(random: &mut Random, good: &[u8]) -> u64 {
     let n = good.len() as u64;
     let mut weights = good.to_vec();
     if random.once_in(20) {
@@ -232,7 +233,7 @@ fn plant_weights(random: &mut Random, state: &mut Words, good: &[u8]) {
     }
     let others = !(((1 << n) - 1) * 0x0001_0001_0001_0001);
     let marks = marks(random);
-    state[WEIGHTS] = word | marks(random) & others;
+    word | marks(random) & others
 }
 
 fn plant_marks(random: &mut Random, state: &mut Words, region: std::ops::Range<usize>) {

@@ -1,23 +1,31 @@
-//! Calls for a comparison of two engines in lockstep: random ones, damaged messages, openings with ta unnamed, restores, and
-//! words that no engine wrote.
+//! Calls for a comparison of two engines in lockstep: random ones, damaged messages, openings with ta unnamed, recordings,
+//! restores, coin boxes, and words that no engine wrote.
 
+mod boxes;
 mod calls;
 mod damage;
 #[cfg(feature = "c-engine")]
 mod foreign;
+#[cfg(feature = "c-engine")]
+mod foreign_boxes;
 mod journals;
 mod longest;
 mod recorded;
+mod recordings;
 mod restores;
 mod unnamed;
 
 use std::fmt;
 
+pub use boxes::random_boxes;
 pub use calls::random_calls;
 pub use damage::damaged_deliveries;
 #[cfg(feature = "c-engine")]
 pub use foreign::foreign_calls;
+#[cfg(feature = "c-engine")]
+pub use foreign_boxes::foreign_boxes;
 pub use longest::{all_settings, longest_sessions};
+pub use recordings::edge_recordings;
 pub use restores::restores;
 pub use unnamed::unnamed_openings;
 
