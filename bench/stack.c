@@ -47,7 +47,8 @@ static void run(void)
 {
     switch (call) {
     case CALL_OPEN:
-        answer = pack_open(state, PACK_STATE_WORDS, N, 5, 5, own, 7, own, coins, N, weights, N, line, sizeof line);
+        answer = pack_open(state, PACK_STATE_WORDS, N, 5, 5, own, 7, own, coins, N, weights, N, PACK_PRINTED, line,
+                           sizeof line);
         break;
     case CALL_DELIVER:
         answer = pack_deliver(state, PACK_STATE_WORDS, delivered->bytes[2], delivered->bytes, delivered->length, line,

@@ -11,8 +11,8 @@
  *
  * A concentrator that may lose its memory, or fall back to an older image of it, keeps a journal. Every opening, delivery
  * and recording that is accepted, and every turn that is neither idle nor refused, writes one line of text into bytes that
- * the caller lends; the lines of a session, one behind the other, are its journal, and each opening starts a new one. pack_restore
- * rebuilds the state from it, also where it was cut at any byte behind its first line. What the caller owes:
+ * the caller lends; the lines of a session, one behind the other, are its journal, and each opening starts a new one.
+ * pack_restore rebuilds the state from it, also where it was cut at any byte behind its first line. What the caller owes:
  *   - Store the lines in the order of the calls, none left out, and the line of a turn for good before its message leaves.
  *     A message has left once it was delivered anywhere, to the concentrator itself too.
  *   - After a restore, write new lines behind the last complete line: cut the journal there. Turns of lost lines never
@@ -33,8 +33,8 @@
  * What the host of a boxed session owes:
  *   - Ask for the coin of round r of a vote when that vote is in round r. Asking earlier lets liars see coins sooner.
  *     The round of a vote is the highest round of the ESTs that the concentrator's own turns have sent for it: its start
- *     sends an EST of round 1, a move out of round r one of round r + 1, and a relay never one of a higher round. In a message
- *     byte 1 is 4 for an EST, byte 3 is the vote and byte 4 the round.
+ *     sends an EST of round 1, a move out of round r one of round r + 1, and a relay never one of a higher round. In a
+ *     message byte 1 is 4 for an EST, byte 3 is the vote and byte 4 the round.
  *   - Ask again later where the answer is sealed.
  *   - Record the bit by pack_record before the next turn: the move out of that round waits for it. Its line is stored as the
  *     others are. After a restore, ask for the coins of the rounds whose lines were lost; the box tells the same bits.
@@ -114,8 +114,8 @@ enum pack_refusal {
     /* A journal without a complete opening line, or with a complete line that cannot be applied. */
     PACK_JOURNAL = 15,
     /*
-     * Recording: a vote or round outside the layout, a bit above 1 or against the one that is there, or a session whose coins
-     * are printed. Request: a requester, vote or round outside the layout, or a buffer that is no box.
+     * Recording: a vote or round outside the layout, a bit above 1 or against the one that is there, or a session whose
+     * coins are printed. Request: a requester, vote or round outside the layout, or a buffer that is no box.
      */
     PACK_COIN = 16
 };
