@@ -31,8 +31,8 @@ use Rattle.restore.specs.declared.first.Fields.the-variants.{Wrong, Coun
 -- what is asked of so many numbers that were read from an opening line
 pub record CountGiven (n count : ℕ) (xs w : List ℕ) : Type 0 where
   pub few : n ≤ 16
-  pub room : length xs ≡ 39
-  pub within : count ≤ 39
+  pub room : length xs ≡ 40
+  pub within : count ≤ 40
   pub coins : 7 + n ≤ count → CoinsFit n xs
   pub size : length w ≡ 2048
 
@@ -40,11 +40,15 @@ right-least : (n count : ℕ) → countRight n count ≡ true → 7 + n ≤ coun
 unfolding countRight
 right-least n count h = go (eqb count (7 + n)) refl h
   where
-    go : (b : Bool) → eqb count (7 + n) ≡ b → b || eqb count (7 + n + n) ≡ true → 7 + n ≤ count
-    go true u v = omega (arith, eqb-true count (7 + n) u)
-    go false u v = omega (arith, eqb-true count (7 + n + n) v)
+    last : (b : Bool) → eqb count (7 + n + n) ≡ b → b || eqb count (7 + n + n + 1) ≡ true → 7 + n ≤ count
+    last true u v = omega (arith, eqb-true count (7 + n + n) u)
+    last false u v = omega (arith, eqb-true count (7 + n + n + 1) v)
 
-pub count-right : (n count : ℕ) → eqb count (7 + n) || eqb count (7 + n + n) ≡ countRight n count
+    go : (b : Bool) → eqb count (7 + n) ≡ b → b || eqb count (7 + n + n) || eqb count (7 + n + n + 1) ≡ true → 7 + n ≤ count
+    go true u v = omega (arith, eqb-true count (7 + n) u)
+    go false u v = last (eqb count (7 + n + n)) refl v
+
+pub count-right : (n count : ℕ) → eqb count (7 + n) || eqb count (7 + n + n) || eqb count (7 + n + n + 1) ≡ countRight n count
 unfolding countRight
 count-right n count = refl
 
@@ -60,7 +64,7 @@ module _ (n count : ℕ) (xs w : List ℕ) (g : CountGiven n count xs w) where
     pub count-given : not t ≡ false → OpenGiven n count xs w
     count-given h =
         let r : countRight n count ≡ true = sym e ∙ not-false t h in
-        record { few = g .few; long = omega (arith, g .few, g .room); number = r; least = right-least n count r; coins = g .coins (right-least n count r); size = g .size }
+        record { few = g .few; long = omega (arith, g .few, g .room); within = omega (arith, g .within, g .room); number = r; least = right-least n count r; coins = g .coins (right-least n count r); size = g .size }
 
     pub count-opened : (q : Bool) (after : List ℕ) → not t ≡ false → Tried (openingFrom n (take count xs)) w q after → Tried (countedFrom n (take count xs)) w q after
     unfolding countedFrom
@@ -73,30 +77,30 @@ pub read-many : (n : ℕ) (fs : List (List ℕ)) (w : List ℕ) → 16 < n → T
 unfolding openingRead
 read-many n fs w h = refused _ w (rw (lt-leb n 16 h))
 
-module _ (n : ℕ) (fs : List (List ℕ)) (w after : List ℕ) (r : Fields) (few : n ≤ 16) (h : FieldsRead n fs 39 r after) where
-  counts : (b : Bool) → properAll n 0 fs && leb (length fs) 39 ≡ b → r ≡ cond b (Count (length fs)) Wrong
+module _ (n : ℕ) (fs : List (List ℕ)) (w after : List ℕ) (r : Fields) (few : n ≤ 16) (h : FieldsRead n fs 40 r after) where
+  counts : (b : Bool) → properAll n 0 fs && leb (length fs) 40 ≡ b → r ≡ cond b (Count (length fs)) Wrong
   counts b e = h .answer ∙ rw e
 
   pub read-wrong : r ≡ Wrong → Tried (openingRead n fs) w false w
   unfolding countedFrom countRight
-  read-wrong e = refused _ w (opening-counted n fs few ∙ go (properAll n 0 fs) refl (leb (length fs) 39) refl)
+  read-wrong e = refused _ w (opening-counted n fs few ∙ go (properAll n 0 fs) refl (leb (length fs) 40) refl)
     where
-      go : (a : Bool) → properAll n 0 fs ≡ a → (b : Bool) → leb (length fs) 39 ≡ b → cond a (countedFrom n (valuesAll n 0 fs)) none ≡ none
+      go : (a : Bool) → properAll n 0 fs ≡ a → (b : Bool) → leb (length fs) 40 ≡ b → cond a (countedFrom n (valuesAll n 0 fs)) none ≡ none
       go false u b v = refl
       go true u true v = absurd (let x : r ≡ Count (length fs) = counts true (rw (u, v)) in let z : _≡_ {A = ℕ} 0 1 = cc in omega arith)
       go true u false v =
-          let l : 39 < length fs = leb-false (length fs) 39 v in
-          rw (values-length n 0 fs, ne-eqb (length fs) (7 + n) (λ z. omega arith), ne-eqb (length fs) (7 + n + n) (λ z. omega arith))
+          let l : 40 < length fs = leb-false (length fs) 40 v in
+          rw (values-length n 0 fs, ne-eqb (length fs) (7 + n) (λ z. omega arith), ne-eqb (length fs) (7 + n + n) (λ z. omega arith), ne-eqb (length fs) (7 + n + n + 1) (λ z. omega arith))
 
   module _ (k : ℕ) (e : r ≡ Count k) where
-    all : (properAll n 0 fs ≡ true) × (k ≤ 39)
-    all = go (properAll n 0 fs) refl (leb (length fs) 39) refl
+    all : (properAll n 0 fs ≡ true) × (k ≤ 40)
+    all = go (properAll n 0 fs) refl (leb (length fs) 40) refl
       where
-        go : (a : Bool) → properAll n 0 fs ≡ a → (b : Bool) → leb (length fs) 39 ≡ b → (properAll n 0 fs ≡ true) × (k ≤ 39)
+        go : (a : Bool) → properAll n 0 fs ≡ a → (b : Bool) → leb (length fs) 40 ≡ b → (properAll n 0 fs ≡ true) × (k ≤ 40)
         go true u true v =
             let x : r ≡ Count (length fs) = counts true (rw (u, v)) in
             let y : length fs ≡ k = cc in
-            (u, rw y at (leb-true (length fs) 39 v))
+            (u, rw y at (leb-true (length fs) 40 v))
         go true u false v = absurd (let x : r ≡ Wrong = counts false (rw (u, v)) in let z : _≡_ {A = ℕ} 0 1 = cc in omega arith)
         go false u b v = absurd (let x : r ≡ Wrong = counts false (rw u) in let z : _≡_ {A = ℕ} 0 1 = cc in omega arith)
 

@@ -4,8 +4,8 @@ use Rattle.records.specs.Fill.{Storing, storing}
 use Rattle.opening.specs.Given.{item}
 use Rattle.opening.specs.Cases.{open-cases}
 use borrow.Author.Needs.{needs}
-use Rattle.opening.proofs.put_coins.Statement.{statement}
-use Rattle.opening.proofs.put_coins.Tie as tie
+use Rattle.opening.proofs.coins.put_coins.Statement.{statement}
+use Rattle.opening.proofs.coins.put_coins.Tie as tie
 
 abbrev Inv-loop : tie.InvT-loop
 Inv-loop s₀ coins n i₀ s i = Storing (λ j. item coins j) 7 n s₀ s i

@@ -1,8 +1,8 @@
 -- A coin word that is there, or 0.
 use Rattle.opening.specs.Cases.{open-cases}
 use borrow.Author.Needs.{needs}
-use Rattle.opening.proofs.coin_word.Statement.{statement}
-use Rattle.opening.proofs.coin_word.Tie as tie
+use Rattle.opening.proofs.coins.coin_word.Statement.{statement}
+use Rattle.opening.proofs.coins.coin_word.Tie as tie
 
 returns : tie.Need-returns
 returns c = search open-cases
