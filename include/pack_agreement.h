@@ -41,7 +41,7 @@
  *
  * A count is a number of elements: 64-bit words, 32-bit coin words or bytes.
  * A null pointer with count 0 is an empty buffer. No call keeps a pointer or allocates; of the C library only
- * memcpy and memset are used. pack_restore has a second state on the stack, 16,384 bytes, and takes some 18,300 bytes of it
+ * memcpy and memset are used. pack_restore has a second state on the stack, 16,384 bytes, and takes some 18,400 bytes of it
  * in all; the other calls take up to 1,300. Calls on different states may run at the same time.
  *
  * Every call answers one number. Bits 0 to 7 are 0 where it was accepted, else the number of the refusal; a refusal sets no

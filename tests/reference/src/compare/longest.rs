@@ -50,12 +50,16 @@ fn longest_session<E: Engine>(
     let opening = Opening { n, ta, ts, own, session, input, coins, weights, boxed };
     let line = &mut [0; LINE_BYTES];
     answers.note(engine.open(&mut state, &opening, line));
-    for (vote, round) in (1..=boxed * n).flat_map(|vote| (1..=32).map(move |round| (vote, round))) {
-        answers.note(engine.record(&mut state, Coin { vote, round, bit: 1 }, line));
-    }
     for (sender, message) in all_messages(settings) {
         let bytes = message.to_bytes(sender, 7);
         answers.note(engine.deliver(&mut state, u64::from(sender), &bytes, line));
+    }
+    // Boxed votes go one round further with each bit, out of the last one too.
+    for round in 1..=boxed * u64::from(Settings::ROUND_LIMIT) {
+        act(engine, &mut state, answers);
+        for vote in 1..=n {
+            answers.note(engine.record(&mut state, Coin { vote, round, bit: 1 }, line));
+        }
     }
     act(engine, &mut state, answers);
     for sender in settings.numbers() {
