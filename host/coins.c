@@ -5,15 +5,14 @@
 /* Bytes of a message: its kind, the vote and the round. */
 enum { KIND = 1, VOTE = 3, ROUND = 4, EST = 4 };
 
-void coins_note_sent(struct coins *c, const uint8_t *message)
+uint64_t coins_note_sent(struct coins *c, const uint8_t *message)
 {
-    if (message[KIND] != EST)
-        return;
-    size_t place = message[VOTE] - 1u;
-    if (message[ROUND] > c->round[place]) {
-        c->round[place] = message[ROUND];
-        c->recorded[place] = false;
-    }
+    uint64_t vote = message[VOTE];
+    if (message[KIND] != EST || message[ROUND] <= c->round[vote - 1])
+        return 0;
+    c->round[vote - 1] = message[ROUND];
+    c->recorded[vote - 1] = false;
+    return vote;
 }
 
 void coins_note_line(struct coins *c, const uint8_t *line)

@@ -17,8 +17,11 @@ struct coins {
     bool recorded[PACK_CONCENTRATORS];
 };
 
-/* A message that the concentrator's own turn sent: an EST of a higher round than before enters that round. */
-void coins_note_sent(struct coins *c, const uint8_t *message);
+/*
+ * A message that the concentrator's own turn sent: an EST of a higher round than before enters that round. Gives the vote
+ * that did so, or 0.
+ */
+uint64_t coins_note_sent(struct coins *c, const uint8_t *message);
 
 /* A complete line of the journal: that of a recording has the vote and the round. */
 void coins_note_line(struct coins *c, const uint8_t *line);

@@ -107,14 +107,9 @@ static bool request(struct session *x, uint64_t p, uint64_t vote, bool *told, ui
 /* A message that a turn of concentrator p sent; in a boxed session p asks for the coin of a round that it enters. */
 static bool note_sent(struct session *x, uint64_t p, const uint8_t *message)
 {
-    struct coins *c = &x->all[p - 1].coins;
     bool told;
-    uint64_t bit;
-    coins_note_sent(c, message);
-    for (uint64_t v = 0; x->options.boxed && (v = coins_waiting(c, v + 1)) != 0;)
-        if (!request(x, p, v, &told, &bit))
-            return false;
-    return true;
+    uint64_t bit, vote = coins_note_sent(&x->all[p - 1].coins, message);
+    return !x->options.boxed || vote == 0 || request(x, p, vote, &told, &bit);
 }
 
 /*
