@@ -8,7 +8,7 @@ use borrow.Author.Tests.{eq-eqb, ne-eqb, not-true, not-false}
 use mir.Val.{Fits}
 use mir.Syntax.{w8}
 use Rattle.settings.specs.Refusals.{CLOSED, COIN}
-use Rattle.records.specs.Words.{word}
+use Rattle.records.specs.Words.{word, marked}
 use Rattle.records.specs.Layout.{nAt}
 use Rattle.records.specs.Records.{closed}
 use Rattle.session.specs.Session.{isState, stored, sessionOf, sessionWith, settingsOf}
@@ -41,6 +41,10 @@ module _ (r b : ℕ) where
   other-zero e = rw (ne-eqb b 1 e)
 
 pub ruleset mark-cases = (bit-one, bit-zero, other-one, other-zero)
+
+pub other-unmarked : (s : List ℕ) (i r b m : ℕ) (x : Bool) → m ≡ otherMark r b → x ≡ marked s (7 + i) m → not x ≡ unopposed s i r b
+unfolding unopposed
+other-unmarked s i r b m x e f = rw (f, e)
 
 module _ (s : List ℕ) (n i r b : ℕ) (x : Bool) (e : x ≡ inLayout s n i r b) where
   pub outside : not x ≡ true → false ≡ recordable s n i r b

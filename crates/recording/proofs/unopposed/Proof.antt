@@ -1,5 +1,5 @@
 -- The mark of the other bit.
-use Rattle.recording.specs.Recording.{unopposed}
+use Rattle.recording.specs.Cases.{other-unmarked}
 use borrow.Author.Needs.{needs}
 use Rattle.recording.proofs.unopposed.Statement.{statement}
 use Rattle.recording.proofs.unopposed.Tie as tie
@@ -14,8 +14,7 @@ marked-requires : tie.Need-marked-requires
 marked-requires c κs = search needs
 
 returns : tie.Need-returns
-unfolding unopposed
-returns c = cc
+returns c = search other-unmarked
 
 pub unopposed-spec : {M : Type 1} → statement M
 unopposed-spec = tie.close (tie.spec add-marked other-mark-requires marked-requires returns)
