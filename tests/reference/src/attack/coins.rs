@@ -111,7 +111,8 @@ impl<E: Engine + BoxEngine> Feeder<'_, E> {
         let other =
             self.conditions == Conditions::OtherBits && self.plan.groups[&number] == Group::B;
         let coin = Coin { vote: vote.into(), round: round.into(), bit: (bit ^ other).into() };
-        for _ in 0..if self.random.once_in(10) { 2 } else { 1 } {
+        let times = if self.random.once_in(10) { 2 } else { 1 };
+        for _ in 0..times {
             let honest = self.honest.get_mut(&number).expect("an honest number");
             let mut line = [0; LINE_BYTES];
             let answer = self.engine.record(&mut honest.state, coin, &mut line);

@@ -137,12 +137,12 @@ impl<E: Engine> Caller<'_, E> {
         let given = random_coin(random, coin);
         let mut line = vec![0xa5; length(random, LINE_BYTES)];
         let answer = self.engine.record(&mut self.state, given, &mut line);
-        if answer == u64::from(Refusal::Short.number()) || given != coin || random.once_in(20) {
-            self.coins.push(coin);
-        }
-        // After a closing, or in a printed session, there is nothing more to record.
-        if refusal(answer).is_some() && given == coin {
-            self.coins.clear();
+        match refusal(answer) {
+            Some(Refusal::Closed | Refusal::NoState) => self.coins.clear(),
+            Some(Refusal::Coin) if given == coin => {}
+            None if given == coin && !random.once_in(20) => {}
+            // It comes again.
+            _ => self.coins.push(coin),
         }
         self.busy |= refusal(answer).is_none();
         self.journal.extend(&line[..line_length(answer)]);
