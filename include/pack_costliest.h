@@ -1,8 +1,8 @@
 /*
  * The costliest session of n concentrators, for sizing batteries: the settings and calls with which one concentrator
- * takes 99 * n + 3 turns, and 5 where n is 1, all weights being 1. No calls bring more turns, nor more than 98 * n + 2
- * messages and 1968 * n + 32 bytes sent. These functions only hand the session out; they are not part of the engine and stand in an
- * archive of their own.
+ * takes 99 * n + 3 turns, and 5 where n is 1, all weights being 1 and the coins printed. No calls bring more turns, nor more
+ * than 98 * n + 2 messages and 1968 * n + 32 bytes sent. These functions only hand the session out; they are not part of the
+ * engine and stand in an archive of their own.
  */
 #ifndef PACK_COSTLIEST_H
 #define PACK_COSTLIEST_H
