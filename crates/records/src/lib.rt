@@ -142,8 +142,10 @@ pub fn printed(s: &[u64]) -> bool
 pub fn coin_known(s: &[u64], i: u8, r: u8) -> bool
     ensures { λ c. ⌜ c ≡ coinKnown (now (s .entry)) i r ⌝ }
 {
-    let zero = marked(s, layout::COINS + i as usize, layout::ZERO_MARKS + r as u64);
-    printed(s) | (coin(s, i, r) | zero)
+    if printed(s) {
+        return true;
+    }
+    coin(s, i, r) | marked(s, layout::COINS + i as usize, layout::ZERO_MARKS + r as u64)
 }
 
 // The round of vote i: 0 before its start, 33 after round 32.
