@@ -16,7 +16,18 @@
 #define MESSAGES 65536
 #define JOURNAL (1 << 20)
 
-enum call { CALL_NONE, CALL_OPEN, CALL_DELIVER, CALL_TURN, CALL_REPORT, CALL_RESTORE, CALLS };
+enum call {
+    CALL_NONE,
+    CALL_OPEN,
+    CALL_DELIVER,
+    CALL_TURN,
+    CALL_REPORT,
+    CALL_RESTORE,
+    CALL_RECORD,
+    CALL_BOX_OPEN,
+    CALL_BOX_REQUEST,
+    CALLS
+};
 
 struct message {
     uint8_t bytes[PACK_MESSAGE_BYTES];
@@ -42,12 +53,15 @@ static const struct message *delivered;
 static uint8_t journal[JOURNAL];
 static size_t journal_bytes;
 static uint64_t restored[PACK_STATE_WORDS];
+/* A boxed session and its box; the vote and the round that are asked for. */
+static uint64_t boxed[PACK_STATE_WORDS], coin_box[PACK_BOX_WORDS], vote, round_asked;
 
 static void run(void)
 {
     switch (call) {
     case CALL_OPEN:
-        answer = pack_open(state, PACK_STATE_WORDS, N, 5, 5, own, 7, own, coins, N, weights, N, line, sizeof line);
+        answer = pack_open(state, PACK_STATE_WORDS, N, 5, 5, own, 7, own, coins, N, weights, N, PACK_PRINTED, line,
+                           sizeof line);
         break;
     case CALL_DELIVER:
         answer = pack_deliver(state, PACK_STATE_WORDS, delivered->bytes[2], delivered->bytes, delivered->length, line,
@@ -61,6 +75,15 @@ static void run(void)
         break;
     case CALL_RESTORE:
         answer = pack_restore(restored, PACK_STATE_WORDS, journal, journal_bytes, bytes, sizeof bytes);
+        break;
+    case CALL_RECORD:
+        answer = pack_record(boxed, PACK_STATE_WORDS, vote, round_asked, vote & 1, line, sizeof line);
+        break;
+    case CALL_BOX_OPEN:
+        answer = pack_box_open(coin_box, PACK_BOX_WORDS, N, 5, 5, coins, N, weights, N);
+        break;
+    case CALL_BOX_REQUEST:
+        answer = pack_box_request(coin_box, PACK_BOX_WORDS, own, vote, round_asked);
         break;
     default:
         break;
@@ -112,9 +135,29 @@ static void act(unsigned p)
     } while (pack_refusal_of(answer) == PACK_ACCEPTED && pack_outcome_of(answer) != PACK_IDLE);
 }
 
+/* Opens a box, has all ask for all its coins, and records a bit for each of them. */
+static bool measure_box(void)
+{
+    static const uint32_t none[N];
+    bool good = true;
+    measure(CALL_BOX_OPEN);
+    good = good && answer == 0;
+    pack_open(boxed, PACK_STATE_WORDS, N, 5, 5, 1, 7, 1, none, N, weights, N, PACK_BOXED, line, sizeof line);
+    for (vote = 1; vote <= N; vote++)
+        for (round_asked = 1; round_asked <= PACK_ROUNDS; round_asked++) {
+            for (own = 1; own <= N; own++)
+                measure(CALL_BOX_REQUEST);
+            good = good && pack_told_of(answer);
+            measure(CALL_RECORD);
+            good = good && pack_refusal_of(answer) == PACK_ACCEPTED;
+        }
+    return good;
+}
+
 int main(void)
 {
-    static const char *names[CALLS] = {"", "pack_open", "pack_deliver", "pack_turn", "pack_report", "pack_restore"};
+    static const char *names[CALLS] = {"",            "pack_open",    "pack_deliver", "pack_turn",       "pack_report",
+                                       "pack_restore", "pack_record", "pack_box_open", "pack_box_request"};
     measure(CALL_NONE);
     for (unsigned p = 0; p < N; p++) {
         coins[p] = 0xb5a39d71u << p % 7;
@@ -144,6 +187,10 @@ int main(void)
     measure(CALL_RESTORE);
     if (pack_refusal_of(answer) != PACK_ACCEPTED || memcmp(restored, states[0], sizeof restored) != 0) {
         fprintf(stderr, "stack: the journal does not give the state back\n");
+        return 1;
+    }
+    if (!measure_box()) {
+        fprintf(stderr, "stack: a coin is not told, or not recorded\n");
         return 1;
     }
     printf("| call | stack, bytes |\n|---|---|\n");

@@ -21,7 +21,8 @@ static const char *const usage =
     "usage: costliest N [FILE]\n"
     "\n"
     "Runs the costliest session of N concentrators, 1 to 16, at one of them and prints, fields parted by tabs: its\n"
-    "calls, its turns by what they did, and the messages and bytes that it sent by kind. All weights are 1.\n"
+    "calls, its turns by what they did, and the messages and bytes that it sent by kind. All weights are 1, and the coins are\n"
+    "printed.\n"
     "\n"
     "  FILE  takes the session: its opening and its calls, one to a line, fields parted by tabs, the answer last.\n"
     "          O n ta ts own session input coins refusal    input and coins in hexadecimal, coins parted by commas\n"
@@ -84,7 +85,8 @@ static bool open_session(struct session *s)
     memset(s->state, 0xa5, sizeof s->state);
     uint8_t line[PACK_LINE_BYTES];
     uint64_t answer = pack_open(s->state, PACK_STATE_WORDS, settings[0], settings[1], settings[2], settings[3],
-                                (uint32_t)settings[4], settings[5], coins, s->n, weights, s->n, line, sizeof line);
+                                (uint32_t)settings[4], settings[5], coins, s->n, weights, s->n, PACK_PRINTED, line,
+                                sizeof line);
     if (s->calls)
         write_opening(s->calls, settings, coins, s->n, answer);
     return pack_refusal_of(answer) == 0 || unexpected(0, "opening", answer);

@@ -6,7 +6,7 @@
 #include <string.h>
 
 const char *const usage =
-    "usage: pack_host [-s SESSION] [-c COIN] [--weights LIST] [--journals DIRECTORY] [N TA TS [INPUT ...]]\n"
+    "usage: pack_host [-s SESSION] [-c COIN] [--weights LIST] [--boxed] [--journals DIRECTORY] [N TA TS [INPUT ...]]\n"
     "\n"
     "Runs an agreement session of N concentrators, all honest, and prints a line for each, fields parted by tabs:\n"
     "number, exit (0 for none), closed (0 or 1), turns, the values in force in hexadecimal, or \"-\".\n"
@@ -16,6 +16,7 @@ const char *const usage =
     "  -s SESSION            the session number, 32 bits (1)\n"
     "  -c COIN               the coin word of every vote, 32 bits; bit r-1 is the coin of round r (0x55555555)\n"
     "  --weights LIST        the weight of each concentrator, 1 to 4, N of them parted by commas (1 for each)\n"
+    "  --boxed               has the coins in a box, which the concentrators ask for each coin, and not printed\n"
     "  --journals DIRECTORY  keeps the journal of each concentrator in a file there, and goes on from the journals\n"
     "                        that are there: so the program may be killed and started again with the same arguments\n"
     "\n"
@@ -79,6 +80,12 @@ static bool read_flags(int argc, char **argv, int *at, struct options *o)
 {
     for (; *at < argc && argv[*at][0] == '-' && argv[*at][1] != '\0'; *at += 2) {
         const char *flag = argv[*at];
+        if (strcmp(flag, "--boxed") == 0) {
+            /* It has no value. */
+            o->boxed = true;
+            --*at;
+            continue;
+        }
         char *value = *at + 1 < argc ? argv[*at + 1] : NULL;
         uint32_t *word = strcmp(flag, "-s") == 0 ? &o->session : strcmp(flag, "-c") == 0 ? &o->coin : NULL;
         bool weights = strcmp(flag, "--weights") == 0, journals = strcmp(flag, "--journals") == 0;

@@ -15,6 +15,8 @@ struct options {
     uint8_t weights[PACK_CONCENTRATORS];
     /* Weights given; 0 where the option is not there. */
     size_t weight_count;
+    /* Whether the coins are in a box. */
+    bool boxed;
     /* The directory of the journals, or NULL. */
     const char *journals;
 };

@@ -2,7 +2,7 @@
  * A concentrator's own program, for trying a session out: it opens the session at all n concentrators in one process,
  * moves the messages between them, and prints how each ended. With journals it can be killed at any moment and started
  * again, and goes on where it was: a line is in its file before the message leaves, and the messages of a journal can be
- * had again from it.
+ * had again from it. In a boxed session the box is in this process too; in the field it is a device of its own.
  */
 #include <errno.h>
 #include <inttypes.h>
@@ -11,6 +11,7 @@
 #include <stdlib.h>
 #include <string.h>
 
+#include "coins.h"
 #include "journal.h"
 #include "options.h"
 #include "pack_agreement.h"
@@ -35,23 +36,29 @@ struct concentrator {
     bool closed;
     size_t taken;
     struct journal journal;
+    struct coins coins;
 };
 
 struct session {
     struct options options;
     struct concentrator all[PACK_CONCENTRATORS];
     struct queue queue;
+    uint64_t coin_box[PACK_BOX_WORDS];
 };
 
 static const char *const refusal_names[] = {"ACCEPTED", "SETTINGS", "LENGTH", "KIND",     "SESSION", "SENDER",
                                             "FIELD",    "VALUE",    "SHORT",  "NO STATE", "CLOSED",  "HELD",
-                                            [PACK_JOURNAL] = "JOURNAL"};
+                                            [PACK_JOURNAL] = "JOURNAL", [PACK_COIN] = "COIN"};
 
+/* Tells of a refusal at a concentrator, or at none, with number 0. */
 static bool refused(const char *call, uint64_t number, uint64_t answer)
 {
     unsigned k = pack_refusal_of(answer);
     const char *name = k < sizeof refusal_names / sizeof *refusal_names ? refusal_names[k] : NULL;
-    fprintf(stderr, "pack_host: concentrator %" PRIu64 ": %s refused: %u %s", number, call, k, name ? name : "unknown");
+    fputs("pack_host: ", stderr);
+    if (number != 0)
+        fprintf(stderr, "concentrator %" PRIu64 ": ", number);
+    fprintf(stderr, "%s refused: %u %s", call, k, name ? name : "unknown");
     if (k == PACK_JOURNAL)
         fprintf(stderr, ", line %" PRIu64, pack_line_of(answer));
     fputc('\n', stderr);
@@ -84,13 +91,38 @@ static void put(struct queue *q, uint64_t sender, size_t length, size_t taken)
     m->place = q->count++;
 }
 
-/* Puts the messages of a journal into the queue: each is given again by the lines up to its own. */
+/*
+ * Concentrator p asks the box for the coin of the round that a vote is in. What it is told goes to `bit`; where that is
+ * sealed, `told` is false.
+ */
+static bool request(struct session *x, uint64_t p, uint64_t vote, bool *told, uint64_t *bit)
+{
+    uint64_t round = coins_round(&x->all[p - 1].coins, vote);
+    uint64_t answer = pack_box_request(x->coin_box, PACK_BOX_WORDS, p, vote, round);
+    *told = pack_told_of(answer);
+    *bit = pack_bit_of(answer);
+    return pack_refusal_of(answer) == PACK_ACCEPTED || refused("request", p, answer);
+}
+
+/* A message that a turn of concentrator p sent; in a boxed session p asks for the coin of a round that it enters. */
+static bool note_sent(struct session *x, uint64_t p, const uint8_t *message)
+{
+    bool told;
+    uint64_t bit, vote = coins_note_sent(&x->all[p - 1].coins, message);
+    return !x->options.boxed || vote == 0 || request(x, p, vote, &told, &bit);
+}
+
+/*
+ * Puts the messages of a journal into the queue: each is given again by the lines up to its own. What the box was asked
+ * before is asked again, since it was in the process that ended.
+ */
 static bool send_again(struct session *x, uint64_t p, const uint8_t *lines, size_t length)
 {
     static uint64_t state[PACK_STATE_WORDS];
     struct concentrator *c = &x->all[p - 1];
     for (size_t start = 0, end; (end = journal_line_end(lines, length, start)) != 0; start = end) {
         c->taken += lines[start] == 'D';
+        coins_note_line(&c->coins, lines + start);
         if (lines[start] != 'T')
             continue;
         struct message *m = next_place(&x->queue);
@@ -99,22 +131,34 @@ static bool send_again(struct session *x, uint64_t p, const uint8_t *lines, size
         uint64_t answer = pack_restore(state, PACK_STATE_WORDS, lines, end, m->bytes, sizeof m->bytes);
         if (pack_refusal_of(answer) != PACK_ACCEPTED)
             return refused("restore", p, answer);
-        if (pack_length_of(answer) != 0)
-            put(&x->queue, p, pack_length_of(answer), c->taken);
+        if (pack_length_of(answer) == 0)
+            continue;
+        put(&x->queue, p, pack_length_of(answer), c->taken);
+        if (!note_sent(x, p, m->bytes))
+            return false;
     }
     return true;
 }
 
 /*
- * The order of sending: all take their turns between the same deliveries, one concentrator after another, and so did the
- * journals put their messages.
+ * The order of delivery: all take their turns between the same deliveries, and what they send there goes out one
+ * concentrator after another. So the journals alone tell the order.
  */
 static int by_sending(const void *one, const void *other)
 {
     const struct message *a = one, *b = other;
     if (a->taken != b->taken)
         return a->taken < b->taken ? -1 : 1;
+    if (a->sender != b->sender)
+        return a->sender < b->sender ? -1 : 1;
     return a->place < b->place ? -1 : a->place > b->place;
+}
+
+/* Puts the messages that were not delivered yet into their order. */
+static void sort(struct queue *q)
+{
+    if (q->next < q->count)
+        qsort(q->items + q->next, q->count - q->next, sizeof *q->items, by_sending);
 }
 
 /* Goes on from a journal that was read, if its first line is that of the opening. */
@@ -144,7 +188,7 @@ static bool open_one(struct session *x, uint64_t p, const uint32_t *coins)
     struct concentrator *c = &x->all[p - 1];
     uint8_t line[PACK_LINE_BYTES];
     uint64_t answer = pack_open(c->state, PACK_STATE_WORDS, o->n, o->ta, o->ts, p, o->session, o->inputs[p - 1], coins,
-                                o->n, o->weights, o->n, line, sizeof line);
+                                o->n, o->weights, o->n, o->boxed ? PACK_BOXED : PACK_PRINTED, line, sizeof line);
     size_t length = pack_length_of(answer);
     if (pack_refusal_of(answer) != PACK_ACCEPTED)
         return refused("opening", p, answer);
@@ -159,16 +203,22 @@ static bool open_one(struct session *x, uint64_t p, const uint32_t *coins)
     return done;
 }
 
+/* Opens the box where there is one, and then the session; the coins are in the one or in the other. */
 static bool open_all(struct session *x)
 {
-    uint32_t coins[PACK_CONCENTRATORS];
-    for (size_t i = 0; i < x->options.n; i++)
-        coins[i] = x->options.coin;
-    for (uint64_t p = 1; p <= x->options.n; p++)
-        if (!open_one(x, p, coins))
+    const struct options *o = &x->options;
+    uint32_t coins[PACK_CONCENTRATORS], none[PACK_CONCENTRATORS] = {0};
+    for (size_t i = 0; i < o->n; i++)
+        coins[i] = o->coin;
+    if (o->boxed) {
+        uint64_t answer = pack_box_open(x->coin_box, PACK_BOX_WORDS, o->n, o->ta, o->ts, coins, o->n, o->weights, o->n);
+        if (pack_refusal_of(answer) != PACK_ACCEPTED)
+            return refused("opening of the box", 0, answer);
+    }
+    for (uint64_t p = 1; p <= o->n; p++)
+        if (!open_one(x, p, o->boxed ? none : coins))
             return false;
-    if (x->queue.count != 0)
-        qsort(x->queue.items, x->queue.count, sizeof *x->queue.items, by_sending);
+    sort(&x->queue);
     return true;
 }
 
@@ -190,9 +240,59 @@ static bool take_turns(struct session *x, uint64_t p)
             return false;
         if (pack_outcome_of(answer) == PACK_IN_FORCE)
             c->closed = true;
-        if (pack_outcome_of(answer) == PACK_SENT)
-            put(&x->queue, p, pack_length_of(answer), c->taken);
+        if (pack_outcome_of(answer) != PACK_SENT)
+            continue;
+        put(&x->queue, p, pack_length_of(answer), c->taken);
+        if (!note_sent(x, p, m->bytes))
+            return false;
     }
+    return true;
+}
+
+/* Records what the box tells of a vote at concentrator p, once its line is stored, too. */
+static bool record(struct session *x, uint64_t p, uint64_t vote, uint64_t bit)
+{
+    struct concentrator *c = &x->all[p - 1];
+    uint8_t line[PACK_LINE_BYTES];
+    uint64_t round = coins_round(&c->coins, vote);
+    uint64_t answer = pack_record(c->state, PACK_STATE_WORDS, vote, round, bit, line, sizeof line);
+    if (pack_refusal_of(answer) != PACK_ACCEPTED)
+        return refused("recording", p, answer);
+    coins_note_line(&c->coins, line);
+    return journal_add(&c->journal, line, pack_length_of(answer));
+}
+
+/* Concentrator p asks again for the coins that it waits for, and records those that it is told. */
+static bool record_coins(struct session *x, uint64_t p, bool *recorded)
+{
+    struct concentrator *c = &x->all[p - 1];
+    bool told;
+    uint64_t bit;
+    for (uint64_t v = 0; !c->closed && (v = coins_waiting(&c->coins, v + 1)) != 0;) {
+        if (!request(x, p, v, &told, &bit) || (told && !record(x, p, v, bit)))
+            return false;
+        *recorded = *recorded || told;
+    }
+    return true;
+}
+
+/*
+ * All take their turns until idle, and then those that wait for coins record what the box tells them, as long as it tells
+ * any. So what is done between the same deliveries does not depend on when a box is asked.
+ */
+static bool act(struct session *x)
+{
+    bool recorded = true;
+    while (recorded) {
+        recorded = false;
+        for (uint64_t p = 1; p <= x->options.n; p++)
+            if (!take_turns(x, p))
+                return false;
+        for (uint64_t p = 1; x->options.boxed && p <= x->options.n; p++)
+            if (!record_coins(x, p, &recorded))
+                return false;
+    }
+    sort(&x->queue);
     return true;
 }
 
@@ -239,9 +339,8 @@ static bool run(struct session *x)
     if (among_deliveries(x) && !deliver_all(x))
         return false;
     do {
-        for (uint64_t p = 1; p <= x->options.n; p++)
-            if (!take_turns(x, p))
-                return false;
+        if (!act(x))
+            return false;
         if (x->queue.next == x->queue.count)
             return true;
     } while (deliver_all(x));

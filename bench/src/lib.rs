@@ -4,8 +4,10 @@ pub mod masks;
 pub mod plain;
 pub mod trace;
 
+use pack_reference::box_engine::BoxEngine;
 use pack_reference::c_engine::{words, CEngine, Words};
-use pack_reference::engine::Engine;
+use pack_reference::coin_box::BoxOpening;
+use pack_reference::engine::{Coin, Engine};
 use pack_reference::journal::{Line, LINE_BYTES};
 use pack_reference::message::LONGEST;
 use pack_reference::Opening;
@@ -44,6 +46,26 @@ impl Engine for Masks {
     fn restore(&self, state: &mut Words, journal: &[u8], message: &mut [u8]) -> u64 {
         restore(state, journal, message)
     }
+
+    fn record(&self, state: &mut Words, coin: Coin, line: &mut [u8]) -> u64 {
+        masks::record_coin(state, coin, line)
+    }
+}
+
+impl BoxEngine for Masks {
+    type CoinBox = Words;
+
+    fn blank_box(&self) -> Words {
+        words(&[0; masks::coin_box::BOX_WORDS])
+    }
+
+    fn open_box(&self, coin_box: &mut Words, opening: &BoxOpening) -> u64 {
+        masks::coin_box::open(coin_box, opening)
+    }
+
+    fn request(&self, coin_box: &mut Words, requester: u64, vote: u64, round: u64) -> u64 {
+        masks::coin_box::request(coin_box, requester, vote, round)
+    }
 }
 
 /// The calls of a journal's lines, made by the masks; the lines are read by the reference.
@@ -81,6 +103,9 @@ fn apply(words: &mut [u64], first: bool, line: Option<Line>, sent: &mut [u8]) ->
     let answer = match (line?, first) {
         (Line::Opening(opening), true) => masks::open(words, &opening.opening(), lent),
         (Line::Delivery { link, message }, false) => masks::deliver(words, link, &message, lent),
+        (Line::Recording { vote, round, bit }, false) => {
+            masks::record_coin(words, Coin { vote, round, bit }, lent)
+        }
         (Line::Turn, false) => {
             let answer = masks::turn(words, sent, lent);
             return (answer > 0xff).then_some((answer >> 16) as usize);

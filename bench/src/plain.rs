@@ -1,9 +1,9 @@
 //! The engines as they are timed: no guards, no copies.
 
 use pack_reference::c_engine::calls::{
-    pack_deliver, pack_open, pack_report, pack_restore, pack_turn,
+    pack_deliver, pack_open, pack_record, pack_report, pack_restore, pack_turn,
 };
-use pack_reference::engine::Engine;
+use pack_reference::engine::{Coin, Engine};
 use pack_reference::Opening;
 
 use crate::{masks, restore};
@@ -25,7 +25,7 @@ impl Engine for Archive {
     }
 
     fn open(&self, state: &mut Vec<u64>, opening: &Opening, line: &mut [u8]) -> u64 {
-        let Opening { n, ta, ts, own, session, input, coins, weights } = *opening;
+        let Opening { n, ta, ts, own, session, input, coins, weights, boxed } = *opening;
         let (words, count) = (state.as_mut_ptr(), state.len());
         let (coins, coin_words) = (coins.as_ptr(), coins.len());
         let (weights, weight_count) = (weights.as_ptr(), weights.len());
@@ -43,6 +43,7 @@ impl Engine for Archive {
                 coin_words,
                 weights,
                 weight_count,
+                boxed,
                 line.as_mut_ptr(),
                 line.len(),
             )
@@ -72,6 +73,12 @@ impl Engine for Archive {
         let (words, count) = (state.as_mut_ptr(), state.len());
         let (bytes, capacity) = (message.as_mut_ptr(), message.len());
         unsafe { pack_restore(words, count, journal.as_ptr(), journal.len(), bytes, capacity) }
+    }
+
+    fn record(&self, state: &mut Vec<u64>, coin: Coin, line: &mut [u8]) -> u64 {
+        let (words, count) = (state.as_mut_ptr(), state.len());
+        let Coin { vote, round, bit } = coin;
+        unsafe { pack_record(words, count, vote, round, bit, line.as_mut_ptr(), line.len()) }
     }
 }
 
@@ -108,5 +115,9 @@ impl Engine for PlainMasks {
 
     fn restore(&self, state: &mut Vec<u64>, journal: &[u8], message: &mut [u8]) -> u64 {
         restore(state, journal, message)
+    }
+
+    fn record(&self, state: &mut Vec<u64>, coin: Coin, line: &mut [u8]) -> u64 {
+        masks::record_coin(state, coin, line)
     }
 }

@@ -85,7 +85,7 @@ impl Trace {
         let (n, ta, ts) = (self.n, self.tolerated, self.tolerated);
         let input = if self.kind == Kind::Equal { 5 } else { 100 + own };
         let (coins, weights) = (&self.coins[..], &self.weights[..]);
-        Opening { n, ta, ts, own, session: SESSION, input, coins, weights }
+        Opening { n, ta, ts, own, session: SESSION, input, coins, weights, boxed: 0 }
     }
 
     pub fn deliveries(&self) -> usize {

@@ -1,12 +1,15 @@
 /*
- * Opening, delivery, turn and report under libFuzzer: the input bytes open a feeder of up to four concentrators and make a
- * list of calls on their states, with messages as sent, forged, damaged or of any bytes, and with planted words. Then the
- * journal of each state without planted words must give it back.
+ * Opening, delivery, turn, report, recording and the coin box under libFuzzer: the input bytes open a feeder of up to four
+ * concentrators and make a list of calls on their states, with messages as sent, forged, damaged or of any bytes, with bits
+ * from a box or any others, and with planted words. Then the journal of each state without planted words must give it back.
  * The archive is not instrumented, so what the fuzzer follows are the answers (see `note`).
  */
+#include "box.h"
+#include "counters.h"
 #include "input.h"
 #include "kept.h"
 #include "lent.h"
+#include "opening.h"
 #include "pack_agreement.h"
 
 #define STATES 4
@@ -27,20 +30,6 @@ static size_t sent_count;
 /* Words were planted, or a state was opened again: what one state sends may then be refused by another. */
 static bool irregular;
 
-/* Calls made and accepted, told at the end. */
-static unsigned long calls_made, calls_accepted;
-
-__attribute__((destructor)) static void tell_calls(void)
-{
-    fprintf(stderr, "calls: %lu made, %lu accepted\n", calls_made, calls_accepted);
-}
-
-/* libFuzzer takes these as coverage. */
-__attribute__((section("__libfuzzer_extra_counters"))) static uint8_t counters[4096];
-
-/* Tells the fuzzer of an answer of one of eight kinds, with what makes it different from others. */
-static void note(unsigned kind, unsigned detail) { counters[(kind * 512 + detail) % sizeof counters] = 1; }
-
 static uint64_t *words_of(unsigned p) { return (uint64_t *)(void *)lent_start(&state[p]); }
 
 /* Lends state p; mostly all its words, else fewer of them, or one more before them. */
@@ -58,12 +47,12 @@ static uint8_t *lend_line(uint8_t choice)
     return lend_filled(&line_lent, (choice & 0xf0) != 0xe0 ? PACK_LINE_BYTES : counts[choice & 7], 0xa5);
 }
 
-/* The line of an accepted opening or delivery. */
+/* The line of an accepted opening, delivery or recording. */
 static void take_line(unsigned p, uint64_t answer, char letter)
 {
     size_t length = pack_length_of(answer);
-    require(answer == (uint64_t)length << 16 && line_lent.size >= PACK_LINE_BYTES, "the answer of an opening or delivery");
-    require(lent_kept(&line_lent, length) && lent_start(&line_lent)[0] == letter, "the line of an opening or delivery");
+    require(answer == (uint64_t)length << 16 && line_lent.size >= PACK_LINE_BYTES, "the answer of a call with a line");
+    require(lent_kept(&line_lent, length) && lent_start(&line_lent)[0] == letter, "the line of a call");
     keep(&kept[p], lent_start(&line_lent), length, NULL, 0);
 }
 
@@ -74,7 +63,7 @@ static uint64_t *words_from(unsigned p, size_t words) { return words_of(p) - (wo
 static bool accepted(unsigned p, size_t words, uint64_t answer)
 {
     unsigned refusal = pack_refusal_of(answer);
-    require(refusal <= PACK_HELD, "a refusal that is not in the list");
+    require(refusal <= PACK_HELD || refusal == PACK_COIN, "a refusal that is not in the list");
     require(words == PACK_STATE_WORDS || refusal == PACK_NO_STATE, "a state of another length is taken");
     require(refusal == PACK_ACCEPTED || answer == refusal, "a refusal with other bits");
     require(lent_kept(&state[p], refusal == PACK_ACCEPTED ? STATE_BYTES : 0), "a refusal changed the state");
@@ -82,14 +71,6 @@ static bool accepted(unsigned p, size_t words, uint64_t answer)
     calls_accepted += refusal == PACK_ACCEPTED;
     return refusal == PACK_ACCEPTED;
 }
-
-struct opening {
-    uint64_t n, ta, ts, input;
-    uint32_t session, coins[PACK_CONCENTRATORS + 1];
-    size_t coin_words;
-    uint8_t weights[PACK_CONCENTRATORS + 1];
-    size_t weight_count;
-};
 
 static void open_state(const struct opening *opening, unsigned p, uint64_t own, uint8_t choice)
 {
@@ -102,7 +83,7 @@ static void open_state(const struct opening *opening, unsigned p, uint64_t own, 
     uint8_t *line = lend_line(choice);
     uint64_t answer = pack_open(words_from(p, words), words, opening->n, opening->ta, opening->ts, own, opening->session,
                                 opening->input + p % 3 * (opening->input & 1), opening->coins, opening->coin_words,
-                                count == 0 ? NULL : weights, count, line, line_lent.size);
+                                count == 0 ? NULL : weights, count, opening->boxed, line, line_lent.size);
     require(memcmp(before, opening->coins, sizeof before) == 0, "an opening changed the coins");
     require(lent_kept(&weights_lent, 0), "an opening changed the weights");
     if (accepted(p, words, answer))
@@ -112,37 +93,42 @@ static void open_state(const struct opening *opening, unsigned p, uint64_t own, 
     note(0, pack_refusal_of(answer));
 }
 
-/* n weights, or another number of them; each mostly 1 to 4. */
-static void take_weights(struct input *in, struct opening *opening)
+/* A bit recorded at state p. In an open boxed session one of the layout is taken, unless the other bit is there. */
+static uint64_t record(unsigned p, uint64_t vote, uint64_t round, uint64_t bit, uint8_t choice)
 {
-    static const uint8_t outside[4] = {0, PACK_WEIGHT_MAX + 1, 9, 255};
-    uint8_t count = take(in);
-    bool as_many = count < 0xf0 && opening->n <= PACK_CONCENTRATORS;
-    opening->weight_count = as_many ? opening->n : count % (PACK_CONCENTRATORS + 2);
-    for (size_t i = 0; i < opening->weight_count; i++) {
-        uint8_t weight = take(in);
-        opening->weights[i] = weight < 0xf0 ? 1 + weight % PACK_WEIGHT_MAX : outside[weight & 3];
+    size_t words = lend_state(p, choice);
+    uint8_t *line = lend_line(choice);
+    uint64_t answer = pack_record(words_from(p, words), words, vote, round, bit, line_lent.size == 0 ? NULL : line,
+                                  line_lent.size);
+    if (accepted(p, words, answer)) {
+        require(vote >= 1 && vote <= words_of(p)[0] && round >= 1 && round <= PACK_ROUNDS && bit <= 1, "a coin is taken");
+        take_line(p, answer, 'K');
+    } else
+        require(lent_kept(&line_lent, 0), "a refused recording wrote a line");
+    note(5, pack_refusal_of(answer));
+    return pack_refusal_of(answer);
+}
+
+/* Any bit; where it is taken, again it is taken too, and the other one is not. */
+static void record_any(struct input *in, unsigned p)
+{
+    uint64_t vote = take_number(in), round = take_number(in), bit = take_number(in);
+    if (record(p, vote, round, bit, take(in)) == PACK_ACCEPTED) {
+        require(record(p, vote, round, 1 - bit, 0) == PACK_COIN, "two bits for one coin");
+        require(irregular || record(p, vote, round, bit, 0) == PACK_ACCEPTED, "a repeat is refused");
     }
 }
 
-static struct opening take_opening(struct input *in)
+/* All states ask the box for the coins of some rounds, and record what they are told. */
+static void record_told(const struct opening *opening, uint64_t rounds)
 {
-    struct opening opening;
-    memset(&opening, 0, sizeof opening);
-    opening.n = take_number(in);
-    opening.ta = take_number(in);
-    opening.ts = take_number(in);
-    opening.session = take(in);
-    opening.input = take(in);
-    uint8_t coins = take(in);
-    opening.coin_words = coins < 0xf0 && opening.n <= PACK_CONCENTRATORS ? opening.n : coins % (PACK_CONCENTRATORS + 2);
-    for (size_t i = 0; i < opening.coin_words; i++)
-        opening.coins[i] = coins & 1 ? UINT32_MAX : coins & 2 ? 0x55555555u << (i & 1) : coins * 2654435761u >> i;
-    memset(opening.weights, 1, sizeof opening.weights);
-    opening.weight_count = opening.n <= PACK_CONCENTRATORS ? opening.n : PACK_CONCENTRATORS + 1;
-    if (coins & 4)
-        take_weights(in, &opening);
-    return opening;
+    for (uint64_t vote = 1; vote <= opening->n && vote <= PACK_CONCENTRATORS; vote++)
+        for (uint64_t round = 1; round <= rounds; round++)
+            for (unsigned p = 0; p < STATES; p++) {
+                uint64_t told = box_request(p + 1, vote, round);
+                if (pack_told_of(told))
+                    record(p, vote, round, pack_bit_of(told), 0);
+            }
 }
 
 /* Answers the refusal. */
@@ -316,12 +302,12 @@ static void deliver_raw(struct input *in)
     deliver(0, link, raw, length, take(in));
 }
 
-/* A word of a state: anywhere, or one of the numbers, marks and weights before word 142. */
+/* A word of a state: anywhere, or one of the numbers, marks and settings before word 143. */
 static void plant(struct input *in)
 {
     unsigned p = take(in) % STATES;
     size_t at = take(in);
-    if (at >= 142)
+    if (at >= 143)
         at = (at << 8 | take(in)) % PACK_STATE_WORDS;
     words_of(p)[at] = take(in) & 1 ? take_word(in) : take_number(in);
     kept[p].whole = false;
@@ -334,6 +320,17 @@ static void reopen(struct input *in, struct opening *opening, unsigned p)
     uint64_t own = take_number(in);
     open_state(opening, p, own, take(in));
     irregular = true;
+}
+
+/* Bits from the box, any bit, or any request. */
+static void record_coins(struct input *in, const struct opening *opening, uint8_t code)
+{
+    switch (code >> 4 & 3) {
+    case 0: record_told(opening, 1 + (code >> 6) * 10); break;
+    case 1: record_any(in, code >> 6); break;
+    case 2: box_request_any(in); break;
+    default: box_plant(in); break;
+    }
 }
 
 static void call(struct input *in, struct opening *opening)
@@ -349,7 +346,8 @@ static void call(struct input *in, struct opening *opening)
     case 9: choice = take(in); report(code >> 4 & 3, words[choice & 7], words[choice >> 3 & 7], take(in)); break;
     case 10: deliver_raw(in); break;
     case 11: copy_from_all(in); break;
-    case 12: case 13: plant(in); break;
+    case 12: plant(in); break;
+    case 13: record_coins(in, opening, code); break;
     case 14: reopen(in, opening, code >> 4 & 3); break;
     default:
         for (unsigned turns = 0; turns < 1600 && turn(code >> 4 & 3, PACK_MESSAGE_BYTES, 0); turns++) {
@@ -368,6 +366,7 @@ int LLVMFuzzerInitialize(int *count, char ***arguments)
     lent_make(&line_lent);
     lent_make(&named_lent);
     lent_make(&in_force_lent);
+    lent_make(&box_lent);
     return 0;
 }
 
@@ -377,6 +376,7 @@ int LLVMFuzzerTestOneInput(const uint8_t *data, size_t size)
     struct opening opening = take_opening(&in);
     sent_count = 0;
     irregular = false;
+    box_open(opening.n, opening.ta, opening.ts, opening.weights, opening.weight_count);
     for (unsigned p = 0; p < STATES; p++) {
         lend_filled(&state[p], STATE_BYTES, 0);
         kept[p].whole = false;

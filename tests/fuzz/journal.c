@@ -3,6 +3,7 @@
  * a refusal leaves everything and names a line; what was restored goes on as a session, and its next lines follow the
  * journal. The archive is not instrumented, so what the fuzzer follows are the answers and the lines reached.
  */
+#include "counters.h"
 #include "lent.h"
 #include "pack_agreement.h"
 
@@ -11,18 +12,6 @@
 #define JOURNAL_MOST (LENT_ROOM - LENT_GUARD - PACK_LINE_BYTES)
 
 static struct lent first_lent, second_lent, journal_lent, message_lent, other_lent;
-
-/* libFuzzer takes these as coverage. */
-__attribute__((section("__libfuzzer_extra_counters"))) static uint8_t counters[4096];
-
-static void note(unsigned kind, unsigned detail) { counters[(kind * 1024 + detail % 1024) % sizeof counters] = 1; }
-
-static unsigned long calls_made, calls_accepted;
-
-__attribute__((destructor)) static void tell_calls(void)
-{
-    fprintf(stderr, "calls: %lu made, %lu accepted\n", calls_made, calls_accepted);
-}
 
 /* Restores the bytes onto a buffer that was filled so. What every restore owes is checked. */
 static uint64_t restore(struct lent *state, const uint8_t *bytes, size_t length, uint8_t fill, struct lent *message)
@@ -115,6 +104,27 @@ static bool turn_on(uint8_t *bytes, size_t *length)
     return true;
 }
 
+/*
+ * A recording at the first state: its line behind the journal gives the same words. Which bits are taken depends on those
+ * that are there, and in a printed session none is.
+ */
+static void record_on(uint8_t *bytes, size_t *length, uint64_t vote, uint64_t round, uint64_t bit)
+{
+    uint8_t line[PACK_LINE_BYTES];
+    uint64_t *words = (uint64_t *)(void *)lent_start(&first_lent);
+    uint64_t answer = pack_record(words, PACK_STATE_WORDS, vote, round, bit, line, sizeof line);
+    unsigned refusal = pack_refusal_of(answer);
+    require(refusal == PACK_ACCEPTED || refusal == PACK_COIN || refusal == PACK_CLOSED, "a recording on what was restored");
+    note(3, refusal);
+    if (refusal == PACK_ACCEPTED) {
+        memcpy(bytes + *length, line, pack_length_of(answer));
+        *length += pack_length_of(answer);
+        uint64_t restored = restore(&second_lent, bytes, *length, 0x55, &other_lent);
+        require(restored == (uint64_t)*length << 32 && same_words(), "the line of a recording gives other words");
+        require(pack_record(words, PACK_STATE_WORDS, vote, round, 1 - bit, line, sizeof line) == PACK_COIN, "the other bit");
+    }
+}
+
 static void check_report(void)
 {
     uint64_t named[PACK_SET_WORDS], in_force[PACK_SET_WORDS], *words = (uint64_t *)(void *)lent_start(&first_lent);
@@ -156,6 +166,9 @@ int LLVMFuzzerTestOneInput(const uint8_t *data, size_t size)
     length = complete;
     for (unsigned turns = 0; turns < 4 && turn_on(bytes, &length); turns++) {
     }
+    record_on(bytes, &length, 1, 1, lines & 1);
+    record_on(bytes, &length, 1 + lines % PACK_CONCENTRATORS, 1 + lines % PACK_ROUNDS, lines >> 1 & 1);
+    turn_on(bytes, &length);
     check_short(bytes, length);
     return 0;
 }

@@ -1,4 +1,4 @@
-/* The five calls as C makes them: refusals, null buffers, and what a call leaves alone. */
+/* The calls as C makes them: refusals, null buffers, and what a call leaves alone. */
 #include <stdbool.h>
 #include <stdio.h>
 #include <string.h>
@@ -19,18 +19,21 @@ static uint64_t state[PACK_STATE_WORDS];
 static const uint32_t coins[PACK_CONCENTRATORS] = {1, 1, 1, 1};
 static const uint8_t weights[PACK_CONCENTRATORS] = {1, 1, 1, 1, 1};
 static uint8_t line[PACK_LINE_BYTES];
-static const char opening_line[] = "O\t1\t4\t1\t1\t1\t7\t0000000000000005\t00000001\t00000001\t00000001\t00000001\t1\t1\t1\t1\n";
+static const char opening_line[] =
+    "O\t1\t4\t1\t1\t1\t7\t0000000000000005\t00000001\t00000001\t00000001\t00000001\t1\t1\t1\t1\t0\n";
 
 /* The refusal of an opening of one of four, in session 7 with input 5 and weights of 1. */
 static uint64_t open_four(size_t words, uint64_t ta, uint64_t ts, uint64_t own)
 {
-    return pack_open(words == 0 ? NULL : state, words, 4, ta, ts, own, 7, 5, coins, 4, weights, 4, line, sizeof line) & 0xff;
+    return pack_open(words == 0 ? NULL : state, words, 4, ta, ts, own, 7, 5, coins, 4, weights, 4, PACK_PRINTED, line,
+                     sizeof line) & 0xff;
 }
 
 /* The same of concentrator 1 with other weights. */
 static uint64_t open_weighted(uint64_t ta, uint64_t ts, const uint8_t *list, size_t count)
 {
-    return pack_open(state, PACK_STATE_WORDS, 4, ta, ts, 1, 7, 5, coins, 4, list, count, line, sizeof line) & 0xff;
+    return pack_open(state, PACK_STATE_WORDS, 4, ta, ts, 1, 7, 5, coins, 4, list, count, PACK_PRINTED, line,
+                     sizeof line) & 0xff;
 }
 
 static void open_first(void)
@@ -46,11 +49,11 @@ static void test_opening(void)
     memcpy(old, state, sizeof old);
     expect(open_four(0, 1, 1, 1) == PACK_NO_STATE, "opening, no words");
     expect(open_four(PACK_STATE_WORDS - 1, 1, 1, 1) == PACK_NO_STATE, "opening, a word short");
-    expect(pack_open(state, PACK_STATE_WORDS, 4, 1, 1, 1, 7, 5, NULL, 0, weights, 4, NULL, 0) == PACK_SETTINGS,
+    expect(pack_open(state, PACK_STATE_WORDS, 4, 1, 1, 1, 7, 5, NULL, 0, weights, 4, 0, NULL, 0) == PACK_SETTINGS,
            "opening, no coins before no line");
     expect(open_four(PACK_STATE_WORDS, 1, 1, 5) == PACK_SETTINGS, "opening, own above n");
     expect(open_four(PACK_STATE_WORDS, 1, UINT64_MAX, 1) == PACK_SETTINGS, "opening, huge ts");
-    expect(pack_open(state, PACK_STATE_WORDS, 4, 1, 1, 1, 7, 5, coins, 4, weights, 4, line, 511) == PACK_SHORT,
+    expect(pack_open(state, PACK_STATE_WORDS, 4, 1, 1, 1, 7, 5, coins, 4, weights, 4, 0, line, 511) == PACK_SHORT,
            "opening, 511 bytes for the line");
     expect(memcmp(old, state, sizeof old) == 0, "a refused opening leaves the state");
 }
@@ -61,7 +64,7 @@ static void test_opening_line(void)
     size_t length = sizeof opening_line - 1;
     memset(line, 0xa5, sizeof line);
     memcpy(old, line, sizeof old);
-    expect(pack_open(state, PACK_STATE_WORDS, 4, 1, 1, 1, 7, 5, coins, 4, weights, 4, line, sizeof line) == length << 16,
+    expect(pack_open(state, PACK_STATE_WORDS, 4, 1, 1, 1, 7, 5, coins, 4, weights, 4, 0, line, sizeof line) == length << 16,
            "the answer of an opening");
     expect(memcmp(line, opening_line, length) == 0, "the line of an opening");
     expect(memcmp(old + length, line + length, sizeof old - length) == 0, "an opening writes no other bytes");
@@ -197,6 +200,71 @@ static void test_restore(void)
     expect(memcmp(sent, bytes, sizeof bytes) == 0, "the message again, and no other bytes");
 }
 
+/* The refusal of an opening of four with these coins. */
+static uint64_t open_with_coins(const uint32_t *words, uint64_t boxed)
+{
+    return pack_open(state, PACK_STATE_WORDS, 4, 1, 1, 1, 7, 5, words, 4, weights, 4, boxed, line, sizeof line) & 0xff;
+}
+
+static uint64_t record(uint64_t vote, uint64_t round, uint64_t bit)
+{
+    return pack_record(state, PACK_STATE_WORDS, vote, round, bit, line, sizeof line);
+}
+
+static void test_recording(void)
+{
+    static const uint32_t none[4] = {0}, last[4] = {0, 0, 0, 1};
+    static const char coin_line[] = "K\t4\t32\t1\n";
+    uint64_t old[PACK_STATE_WORDS];
+    expect(open_with_coins(none, 2) == PACK_SETTINGS, "opening, neither printed nor boxed");
+    expect(open_with_coins(none, (uint64_t)1 << 32) == PACK_SETTINGS, "opening, a flag that would wrap");
+    expect(open_with_coins(last, PACK_BOXED) == PACK_SETTINGS, "opening, boxed with a coin");
+    expect(open_with_coins(none, PACK_PRINTED) == PACK_ACCEPTED && record(1, 1, 0) == PACK_COIN, "recording, printed");
+    expect(open_with_coins(none, PACK_BOXED) == PACK_ACCEPTED, "opening, boxed");
+    memcpy(old, state, sizeof old);
+    memset(line, 0xa5, sizeof line);
+    expect(pack_record(NULL, 0, 1, 1, 0, NULL, 0) == PACK_NO_STATE, "recording, no state");
+    expect(record(0, 1, 0) == PACK_COIN && record(5, 1, 0) == PACK_COIN, "recording, vote");
+    expect(record(1, 0, 0) == PACK_COIN && record(1, 33, 0) == PACK_COIN, "recording, round");
+    expect(record(1, 1, 2) == PACK_COIN && record(257, 1, 0) == PACK_COIN, "recording, bit, and a vote that would wrap");
+    expect(pack_record(state, PACK_STATE_WORDS, 5, 1, 0, NULL, 0) == PACK_COIN, "recording, vote before short");
+    expect(pack_record(state, PACK_STATE_WORDS, 4, 32, 1, line, 511) == PACK_SHORT, "recording, 511 bytes for the line");
+    expect(memcmp(old, state, sizeof old) == 0 && line[0] == 0xa5, "a refused recording leaves everything");
+    expect(record(4, 32, 1) == (sizeof coin_line - 1) << 16, "recording is accepted");
+    expect(memcmp(line, coin_line, sizeof coin_line - 1) == 0 && line[sizeof coin_line - 1] == 0xa5, "its line alone");
+    expect(record(4, 32, 0) == PACK_COIN, "recording, against the one there");
+    expect(record(4, 32, 1) == (sizeof coin_line - 1) << 16, "recording, a repeat");
+}
+
+static void test_box(void)
+{
+    static uint64_t box[PACK_BOX_WORDS], old[PACK_BOX_WORDS];
+    static const uint8_t heavy[4] = {1, 2, 1, 1};
+    memset(box, 0xa5, sizeof box);
+    memcpy(old, box, sizeof old);
+    expect(pack_box_open(NULL, 0, 0, 0, 0, NULL, 0, NULL, 0) == PACK_NO_STATE, "box, no words before settings");
+    expect(pack_box_open(box, PACK_BOX_WORDS - 1, 4, 1, 1, coins, 4, weights, 4) == PACK_NO_STATE, "box, a word short");
+    expect(pack_box_open(box, PACK_BOX_WORDS, 3, 1, 1, coins, 3, weights, 3) == PACK_SETTINGS, "box, settings");
+    expect(pack_box_open(box, PACK_BOX_WORDS, 4, 1, 1, NULL, 0, weights, 4) == PACK_SETTINGS, "box, no coins");
+    expect(pack_box_request(box, PACK_BOX_WORDS, 1, 1, 1) == PACK_COIN, "request to what is no box");
+    expect(pack_box_request(NULL, 0, 1, 1, 1) == PACK_COIN, "request to nothing");
+    expect(memcmp(old, box, sizeof old) == 0, "refused calls leave the box");
+    expect(pack_box_open(box, PACK_BOX_WORDS, 4, PACK_UNNAMED, 1, coins, 4, heavy, 4) == 0, "box, opened");
+    memcpy(old, box, sizeof old);
+    expect(pack_box_request(box, PACK_BOX_WORDS, 0, 1, 1) == PACK_COIN, "request of nobody");
+    expect(pack_box_request(box, PACK_BOX_WORDS, 5, 1, 1) == PACK_COIN, "request of 5 of 4");
+    expect(pack_box_request(box, PACK_BOX_WORDS, 1, 5, 1) == PACK_COIN, "request for vote 5");
+    expect(pack_box_request(box, PACK_BOX_WORDS, 1, 1, PACK_ROUNDS + 1) == PACK_COIN, "request for round 33");
+    expect(memcmp(old, box, sizeof old) == 0, "refused requests leave the box");
+    expect(pack_box_request(box, PACK_BOX_WORDS, 1, 4, 1) == 0, "the first request is sealed");
+    expect(pack_box_request(box, PACK_BOX_WORDS, 1, 4, 1) == 0, "a repeat counts once");
+    uint64_t told = pack_box_request(box, PACK_BOX_WORDS, 3, 4, 1);
+    expect(told == (1u << 16 | 1u << 8) && pack_told_of(told) && pack_bit_of(told) == 1, "the second is told");
+    expect(pack_box_request(box, PACK_BOX_WORDS, 1, 4, 1) == told, "so is the first, later");
+    told = pack_box_request(box, PACK_BOX_WORDS, 2, 4, 2);
+    expect(told == 1u << 8 && pack_told_of(told) && pack_bit_of(told) == 0, "a heavy one alone is told");
+}
+
 /* One concentrator alone: five turns, and the set {input} is in force. */
 static void test_session(void)
 {
@@ -205,7 +273,7 @@ static void test_session(void)
     memset(named, 0xa5, sizeof named);
     memset(in_force, 0xa5, sizeof in_force);
     memset(untouched, 0xa5, sizeof untouched);
-    answer = pack_open(state, PACK_STATE_WORDS, 1, 0, 0, 1, 7, UINT64_MAX, coins, 1, weights, 1, line, sizeof line);
+    answer = pack_open(state, PACK_STATE_WORDS, 1, 0, 0, 1, 7, UINT64_MAX, coins, 1, weights, 1, PACK_PRINTED, line, sizeof line);
     expect(pack_refusal_of(answer) == PACK_ACCEPTED, "opening alone");
     while (pack_refusal_of(answer = take_turn(bytes)) == PACK_ACCEPTED && pack_outcome_of(answer) == PACK_SENT) {
         size_t length = pack_length_of(answer);
@@ -215,6 +283,7 @@ static void test_session(void)
     expect(answer == PACK_IN_FORCE << 8, "the last turn is in force");
     expect(pack_turn(state, PACK_STATE_WORDS, bytes, 0, NULL, 0) == PACK_CLOSED, "turn, closed before short");
     expect(deliver_changed(0, 1, 2, 20) == PACK_CLOSED, "delivery, closed");
+    expect(pack_record(state, PACK_STATE_WORDS, 9, 9, 9, NULL, 0) == PACK_CLOSED, "recording, closed");
     expect(pack_report(state, PACK_STATE_WORDS, named, 15, in_force, 16) == PACK_SHORT, "report, a word short");
     expect(pack_report(state, PACK_STATE_WORDS, named, 16, NULL, 0) == PACK_SHORT, "report, no words in force");
     expect(pack_report(NULL, 0, NULL, 0, NULL, 0) == PACK_NO_STATE, "report, no state before short");
@@ -234,6 +303,8 @@ int main(void)
     test_turn();
     test_delivery();
     test_restore();
+    test_recording();
+    test_box();
     test_session();
     return failures == 0 ? 0 : 1;
 }

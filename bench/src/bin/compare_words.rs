@@ -6,11 +6,14 @@ use std::process::ExitCode;
 use std::time::Instant;
 
 use pack_bench::Masks;
+use pack_reference::box_engine::BoxEngine;
 use pack_reference::c_engine::{CEngine, Words};
+use pack_reference::coin_box::BoxOpening;
 use pack_reference::compare::{
-    damaged_deliveries, foreign_calls, random_calls, restores, unnamed_openings,
+    damaged_deliveries, edge_recordings, foreign_boxes, foreign_calls, random_boxes, random_calls,
+    restores, unnamed_openings,
 };
-use pack_reference::engine::Engine;
+use pack_reference::engine::{Coin, Engine};
 use pack_reference::Opening;
 
 /// Both engines in lockstep; their words are compared after each call.
@@ -76,6 +79,38 @@ impl Engine for SameWords {
         same(state);
         answer
     }
+
+    fn record(&self, state: &mut Self::State, coin: Coin, line: &mut [u8]) -> u64 {
+        let mut copy = line.to_vec();
+        let answer = CEngine.record(&mut state.0, coin, line);
+        let other = Masks.record(&mut state.1, coin, &mut copy);
+        assert_eq!((answer, &*line), (other, &*copy), "recordings differ");
+        same(state);
+        answer
+    }
+}
+
+impl BoxEngine for SameWords {
+    type CoinBox = (Words, Words);
+
+    fn blank_box(&self) -> Self::CoinBox {
+        (CEngine.blank_box(), Masks.blank_box())
+    }
+
+    fn open_box(&self, coin_box: &mut Self::CoinBox, opening: &BoxOpening) -> u64 {
+        let answer = CEngine.open_box(&mut coin_box.0, opening);
+        assert_eq!(answer, Masks.open_box(&mut coin_box.1, opening), "openings of boxes differ");
+        same(coin_box);
+        answer
+    }
+
+    fn request(&self, coin_box: &mut Self::CoinBox, requester: u64, vote: u64, round: u64) -> u64 {
+        let answer = CEngine.request(&mut coin_box.0, requester, vote, round);
+        let other = Masks.request(&mut coin_box.1, requester, vote, round);
+        assert_eq!(answer, other, "requests differ");
+        same(coin_box);
+        answer
+    }
 }
 
 fn main() -> ExitCode {
@@ -93,8 +128,11 @@ fn main() -> ExitCode {
     note("damaged messages", &damaged_deliveries(&SameWords));
     note("ta unnamed", &unnamed_openings(&SameWords, seed, 20));
     note("restores", &restores(&SameWords, seed, 12));
+    note("recordings", &edge_recordings(&SameWords));
+    note("boxes", &random_boxes(&SameWords, seed, calls));
     note("random calls", &random_calls(&SameWords, seed, calls));
     note("planted words", &foreign_calls(&CEngine, &Masks, seed, foreign));
+    note("planted boxes", &foreign_boxes(&CEngine, &Masks, seed, foreign));
     println!("no difference");
     ExitCode::SUCCESS
 }

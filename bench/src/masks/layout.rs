@@ -32,6 +32,10 @@ pub const SEND_MARKS: usize = 140;
 /// Four groups of 16 marks: as many of a concentrator's are set as it weighs.
 pub const WEIGHTS: usize = 141;
 
+/// 0 where coins are printed, 1 where they are boxed. A recorded 1 of round r is mark r of the coin word, as a printed one
+/// is; a recorded 0 is mark 32 + r.
+pub const BOXED: usize = 142;
+
 /// Rows of 16 words, one for each sender or place.
 pub const ECHO_VALUES: usize = 239;
 pub const READY_VALUES: usize = 495;

@@ -1,5 +1,6 @@
-//! The lines of opening and delivery.
+//! The lines of opening, delivery and recording.
 
+use pack_reference::engine::Coin;
 use pack_reference::Opening;
 
 pub const LINE_BYTES: usize = 512;
@@ -49,7 +50,7 @@ fn digit(half: u8) -> u8 {
 
 /// Writes the line of an opening that is accepted, and answers its length.
 pub fn opening(bytes: &mut [u8; LINE_BYTES], opening: &Opening) -> u64 {
-    let Opening { n, ta, ts, own, session, input, coins, weights } = *opening;
+    let Opening { n, ta, ts, own, session, input, coins, weights, boxed } = *opening;
     let mut line = Line { bytes, length: 0 };
     line.byte(b'O');
     for number in [1, n, ta, ts, own, u64::from(session)] {
@@ -58,6 +59,7 @@ pub fn opening(bytes: &mut [u8; LINE_BYTES], opening: &Opening) -> u64 {
     line.hexadecimal(input, 16);
     coins.iter().for_each(|&coin| line.hexadecimal(u64::from(coin), 8));
     weights.iter().for_each(|&weight| line.decimal(u64::from(weight)));
+    line.decimal(boxed);
     line.byte(b'\n');
     line.length as u64
 }
@@ -74,6 +76,15 @@ pub fn delivery(bytes: &mut [u8; LINE_BYTES], link: u64, message: &[u8]) -> u64 
         two.copy_from_slice(&[digit(byte >> 4), digit(byte & 15)]);
     }
     line.length += 2 * message.len();
+    line.byte(b'\n');
+    line.length as u64
+}
+
+/// The same of a recording.
+pub fn recording(bytes: &mut [u8; LINE_BYTES], coin: Coin) -> u64 {
+    let mut line = Line { bytes, length: 0 };
+    line.byte(b'K');
+    [coin.vote, coin.round, coin.bit].into_iter().for_each(|number| line.decimal(number));
     line.byte(b'\n');
     line.length as u64
 }

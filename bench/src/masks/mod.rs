@@ -2,6 +2,7 @@
 //! answers and lines of the C functions and is not proved; `compare-words` compares it with the engine. The calls are never
 //! inlined, as those of a library are not.
 
+pub mod coin_box;
 mod exits;
 mod layout;
 mod lines;
@@ -9,6 +10,7 @@ mod state;
 mod votes;
 mod wire;
 
+use pack_reference::engine::Coin;
 use pack_reference::Opening;
 
 use exits::{commits_held, set_leader, set_of, Named, Outputs};
@@ -31,6 +33,7 @@ pub mod refusal {
     pub const CLOSED: u64 = 10;
     pub const HELD: u64 = 11;
     pub const JOURNAL: u64 = 15;
+    pub const COIN: u64 = 16;
 }
 
 const IN_FORCE: u64 = 3 << 8;
@@ -43,13 +46,14 @@ pub fn open(state: &mut [u64], opening: &Opening, line: &mut [u8]) -> u64 {
     let Ok(words) = <&mut Words>::try_from(state) else {
         return refusal::NO_STATE;
     };
-    let Opening { n, ta, ts, own, session, input, coins, weights } = *opening;
+    let Opening { n, ta, ts, own, session, input, coins, weights, boxed } = *opening;
     let Some(weights) = weights_word(n, weights) else {
         return refusal::SETTINGS;
     };
     let ta = if ta == UNNAMED { largest_ta(weights, ts) } else { ta };
     let valid = Session::new(n, ta, ts, weights).is_some() && (1..=n).contains(&own);
-    if !valid || coins.len() as u64 != n {
+    let coins_fit = boxed == 0 || boxed == 1 && coins.iter().all(|&coin| coin == 0);
+    if !valid || coins.len() as u64 != n || !coins_fit {
         return refusal::SETTINGS;
     }
     let Some(line) = line.first_chunk_mut::<LINE_BYTES>() else {
@@ -58,6 +62,7 @@ pub fn open(state: &mut [u64], opening: &Opening, line: &mut [u8]) -> u64 {
     words.fill(0);
     words[..6].copy_from_slice(&[n, ta, ts, own, u64::from(session), input]);
     words[WEIGHTS] = weights;
+    words[BOXED] = boxed;
     for (word, &coin) in words[COINS + 1..].iter_mut().zip(coins) {
         *word = u64::from(coin);
     }
@@ -258,6 +263,30 @@ fn ready_due(words: &Words, session: &Session, i: usize) -> Option<u64> {
     let weights = session.weights;
     leading(row(words, ECHO_VALUES, i), echoes, weights, session.quorum())
         .or_else(|| leading(row(words, READY_VALUES, i), readies, weights, session.copy()))
+}
+
+/// Records the bit of a vote and round.
+#[inline(never)]
+pub fn record_coin(state: &mut [u64], coin: Coin, line: &mut [u8]) -> u64 {
+    let (words, session) = match unclosed(state) {
+        Ok(found) => found,
+        Err(number) => return number,
+    };
+    let Coin { vote, round, bit } = coin;
+    let in_layout = (1..=session.n).contains(&vote) & (1..=32).contains(&round) & (bit <= 1);
+    if !in_layout || words[BOXED] == 0 {
+        return refusal::COIN;
+    }
+    let word = &mut words[COINS + vote as usize & 31];
+    let marks = [1 << (31 + round), 1 << (round - 1)];
+    if *word & marks[1 - bit as usize] != 0 {
+        return refusal::COIN;
+    }
+    let Some(line) = line.first_chunk_mut::<LINE_BYTES>() else {
+        return refusal::SHORT;
+    };
+    *word |= marks[bit as usize];
+    lines::recording(line, coin) << 16
 }
 
 #[inline(never)]

@@ -63,6 +63,7 @@ impl Session {
         let session = Session::new(words[N], words[TA], words[TS], words[WEIGHTS])?;
         let n = session.n;
         let mut outside = !(1..=n).contains(&words[OWN]) | (99 * n + 3 < words[TURNS]);
+        outside |= 1 < words[BOXED];
         for i in 0..n as usize & 31 {
             outside |= 33 < words[ROUNDS + 1 + i];
             outside |= n < words[COMMIT_COUNTS + 1 + i];

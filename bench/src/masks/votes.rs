@@ -55,7 +55,7 @@ fn act_in_round(words: &mut Words, session: &Session, i: usize, r: usize, lent: 
     }
     let zero = if accepted[0] { aux_0 } else { 0 };
     let one = if accepted[1] { aux_1 } else { 0 };
-    if weights.weigh(zero | one) < session.vote_quorum() {
+    if weights.weigh(zero | one) < session.vote_quorum() || !coin_known(words, i, r) {
         return 0;
     }
     leave(words, i, r, [zero != 0, one != 0], lent)
@@ -79,6 +79,13 @@ fn relay(words: &Words, session: &Session, i: usize, last: usize) -> Option<(usi
         left &= left - 1;
     }
     None
+}
+
+/// Printed, or recorded.
+#[inline]
+fn coin_known(words: &Words, i: usize, r: usize) -> bool {
+    let coins = words[COINS + i];
+    words[BOXED] == 0 || (coins | coins >> 32) >> (r - 1) & 1 == 1
 }
 
 /// Moves out of round r; the accepted AUXs carry 0, 1 or both.

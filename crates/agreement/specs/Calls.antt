@@ -1,6 +1,6 @@
 -- Demand 3 as claims about a whole list of calls at the honest concentrators: "The list behind demand 3", with journals and restores (request
--- N10). The claims are made of any machine, then of the engine, whose calls are those that the contracts of the code cite.
-use Prim.Native.Nat.{ℕ, _≤_, _<_, _^_}
+-- N10) and recorded coins (N12). The claims are made of any machine; specs/EngineCalls.antt makes them of the engine.
+use Prim.Native.Nat.{ℕ, _≤_}
 use mathlib.Core.Bool.{Bool, true, false, cond}
 use mathlib.Core.List.{List, [], _∷_, _++_}
 use mathlib.Core.Logic.{_⊎_, _≢_}
@@ -8,37 +8,24 @@ use mathlib.Core.Option.{Option, none, some}
 use mathlib.Core.Path.{_≡_}
 use lib.Dec.{eqb, leb}
 use lib.ListN.{length, take}
-use Rattle.settings.specs.Settings.{settingsNamed}
 use Rattle.settings.specs.declared.Settings.{Settings}
-use Rattle.quorum.specs.Marks.{mark}
-use Rattle.records.specs.Words.{word}
-use Rattle.wire.specs.Message.{lengthOf}
-use Rattle.wire.specs.declared.Message as wire
-use Rattle.wire_laws.specs.Proper.{AllBytes}
-use Rattle.opening.specs.Given.{item, weightsWord}
-use Rattle.journal.specs.Lines.{openingLine, deliveryLine, turnLine}
-use Rattle.journal.specs.Journal.{openNumber, openedWords, deliverNumber, deliveredWords, turnedOutcome, turnedWords, turnedMessage}
-use Rattle.journal.specs.Journal as journal-calls
-use Rattle.restore.specs.Restoring.{accepted, restoreAnswer, restoredWords}
-use Rattle.turn.specs.declared.Outcome.the-variants as outcome
-use Rattle.report.specs.Report.{reportAnswer, reportNamed, reportInForce}
-use Rattle.report.specs.declared.Figures.{Figures}
-use Rattle.report.specs.declared.Answer.the-variants as answer
 use Rattle.agreement.specs.Evidence.{World, liars, Honest}
 use Rattle.agreement.specs.Moments.{Within, Before}
 
--- what the five calls of an engine take, answer and leave
+-- what the six calls of an engine take, answer and leave
 pub record Machine : Type 1 where
   -- what a state buffer holds
   pub Words : Type 0
   -- the arguments of an opening: the own number, the own input, and what the openings of a session agree in, which is "n, ts, session
-  -- number, coin words, and ta once 255 is read"
+  -- number, coin words, and ta once 255 is read", and with them the weights and "whether coins are printed or boxed"
   pub Opening : Type 0
   pub own : Opening → ℕ
   pub input : Opening → ℕ
   pub Session : Type 0
   pub session : Opening → Session
   pub settings : Session → Settings
+  -- "whether coins are printed or boxed, a session setting compared like the others", and the printed coin of a vote and a round
+  pub boxed : Session → Bool
   pub coin : Session → ℕ → ℕ → Bool
   -- whether an opening is accepted, and the words after it
   pub opens : Words → Opening → Bool
@@ -52,10 +39,18 @@ pub record Machine : Type 1 where
   pub acts : Words → Lent → Bool
   pub Sends : Words → Lent → Bytes → Type 0
   pub turned : Words → Lent → Words
+  -- what a recording is given and lent: a vote, a round and the bit of their coin; whether it is accepted, and the words after it
+  pub Recording : Type 0
+  pub vote : Recording → ℕ
+  pub round : Recording → ℕ
+  pub bit : Recording → ℕ
+  pub records : Words → Recording → Bool
+  pub recorded : Words → Recording → Words
   -- the bytes of the line that a call writes, where it is accepted or, being a turn, acts
   pub opening-line : Opening → List ℕ
   pub delivery-line : ℕ → Bytes → List ℕ
   pub turn-line : List ℕ
+  pub recording-line : Recording → List ℕ
   -- what a restore is lent beside the state buffer, the bytes of a journal among it; whether one onto words is accepted, and the words after it
   pub Restore : Type 0
   pub text : Restore → List ℕ
@@ -75,6 +70,7 @@ pub data Call (M : Machine) : Type 0 where
   turn : ℕ → M .Lent → Call M
   report : ℕ → M .LentSets → Call M
   restore : ℕ → M .Words → M .Restore → Call M
+  recording : ℕ → M .Recording → Call M
 
 -- A moment is the calls up to it, newest first. A journal is its lines, newest first; a line stands for the moment right after the call that
 -- wrote it.
@@ -84,9 +80,13 @@ Moment M = List (Call M)
 abbrev pub Journal : Machine → Type 0
 Journal M = List (List (Call M))
 
--- the session, and who is honest in it
+-- a session, who is honest in it, and the coins of its votes and rounds
+abbrev pub worldWith : (M : Machine) → M .Session → (ℕ → Bool) → (ℕ → ℕ → Bool) → World
+worldWith M S H κ = record { settings = M .settings S; honest = H; coin = κ }
+
+-- the session, and who is honest in it: nothing below reads coins
 abbrev pub world : (M : Machine) → M .Session → (ℕ → Bool) → World
-world M S H = record { settings = M .settings S; honest = H; coin = M .coin S }
+world M S H = worldWith M S H (M .coin S)
 
 module _ (M : Machine) where
   -- the concentrator of a call
@@ -96,6 +96,7 @@ module _ (M : Machine) where
   place (turn p l) = p
   place (report p r) = p
   place (restore p v r) = p
+  place (recording p x) = p
 
   -- the words that a call leaves there
   abbrev pub left : Call M → M .Words → M .Words
@@ -104,6 +105,7 @@ module _ (M : Machine) where
   left (turn p l) w = M .turned w l
   left (report p r) w = w
   left (restore p v r) w = M .restored v r
+  left (recording p x) w = M .recorded w x
 
   -- a set is named or in force
   abbrev pub Shows : M .Words → List ℕ → Type 0
@@ -116,6 +118,7 @@ module _ (M : Machine) where
   line (turn p l) = M .turn-line
   line (report p r) = []
   line (restore p v r) = []
+  line (recording p x) = M .recording-line x
 
   abbrev pub newest : Moment M → List ℕ
   newest [] = []
@@ -139,8 +142,10 @@ module _ (M : Machine) where
   wrote (delivery p m b) w here js = cond (M .accepts w m b) (here ∷ js) js
   wrote (turn p l) w here js = cond (M .acts w l) (here ∷ js) js
   wrote (report p r) w here js = js
-  -- .. and after a restore the complete lines that it read: what comes next is written behind them
+  -- .. after a restore the complete lines that it read: what comes next is written behind them ..
   wrote (restore p v r) w here js = cond (M .restores v r) (complete (length (M .text r)) js) js
+  -- .. and "each accepted recording, a repeat too, becomes a `K` line of the journal"
+  wrote (recording p x) w here js = cond (M .records w x) (here ∷ js) js
 
 -- the line of d stands in a journal
 pub record Stands (M : Machine) (d : Moment M) (js : Journal M) : Type 0 where
@@ -168,6 +173,7 @@ module _ (M : Machine) (start : ℕ → M .Words) where
   lastTurn (turn p l ∷ cs) = some (words cs p, l)
   lastTurn (report p r ∷ cs) = none
   lastTurn (restore p v r ∷ cs) = none
+  lastTurn (recording p x ∷ cs) = none
 
   -- "Opened: its opening, under its own number, was accepted."
   pub record Opened (cs : List (Call M)) (p : ℕ) : Type 0 where
@@ -204,6 +210,14 @@ module _ (M : Machine) (start : ℕ → M .Words) where
     -- and of every message that left the line is among those that it keeps
     pub kept : (b : M .Bytes) → Departed cs p b → Sent (restore p v r ∷ cs) p b
 
+  -- p, opened, accepted the recording x. What was recorded in lines that were lost counts, since what was named there does; what was recorded
+  -- before the opening does not.
+  pub record Recorded (cs : List (Call M)) (p : ℕ) (x : M .Recording) : Type 0 where
+    pub past : List (Call M)
+    pub within : Within (recording p x ∷ past) cs
+    pub opened : Opened past p
+    pub accepted : M .records (words past p) x ≡ true
+
   -- the conditions of demand 3 on a list of calls, beside the number of liars
   pub record Conditions (S : M .Session) (H : ℕ → Bool) (cs : List (Call M)) : Type 0 where
     -- "Honest are any chosen numbers from 1 to n; the others are the liars, and their own calls are not listed."
@@ -220,6 +234,8 @@ module _ (M : Machine) (start : ℕ → M .Words) where
     -- .. or, where the restore is refused and so leaves the buffer, it had lost nothing. One that lost its words has no state until a restore is
     -- accepted, and what is refused on the way changes nothing: it is not listed.
     pub not-lost : (p : ℕ) (v : M .Words) (r : M .Restore) (ds : List (Call M)) → Within (restore p v r ∷ ds) cs → Opened ds p → M .restores v r ≡ false → v ≡ words ds p
+    -- "the honest ones' recorded bits must agree": in a boxed session any two of one vote and round are one bit
+    pub coins : M .boxed S ≡ true → (p q : ℕ) (x y : M .Recording) → Recorded cs p x → Recorded cs q y → M .vote x ≡ M .vote y → M .round x ≡ M .round y → M .bit x ≡ M .bit y
 
   -- "Put in: the own input given at that opening."
   abbrev pub PutIn : ℕ → List (Call M) → Type 0
@@ -270,117 +286,3 @@ pub record DemandThree (M : Machine) : Type 0 where
   pub one-set : OneSet M
   pub named-first : NamedFirst M
   pub only-input : OnlyInput M
-
--- ---- the engine
-
--- the arguments of an opening, and how many bytes it is lent for its line: the code takes 32 bits for the session number and each coin word, and
--- 64 for the own input; weights are any numbers
-pub record Arguments : Type 0 where
-  pub n : ℕ
-  pub ta : ℕ
-  pub ts : ℕ
-  pub own : ℕ
-  pub session : ℕ
-  pub input : ℕ
-  pub coins : List ℕ
-  pub weights : List ℕ
-  pub line : ℕ
-  pub session-fits : session < 2 ^ 32
-  pub input-fits : input < 2 ^ 64
-  pub coins-fit : (i : ℕ) → word coins i < 2 ^ 32
-
--- the weights as one word
-abbrev pub weightsOf : Arguments → ℕ
-weightsOf o = weightsWord (o .n) (o .weights)
-
--- "All these openings agree in n, ts, session number, coin words, and ta once 255 is read"; the weights are "compared like them" (N11)
-pub record Agreed : Type 0 where
-  pub settings : Settings
-  pub number : ℕ
-  pub coins : List ℕ
-
-abbrev pub agreed : Arguments → Agreed
-agreed o =
-    record {
-      settings = settingsNamed (o .n) (o .ta) (o .ts) (weightsOf o);
-      number = o .session;
-      coins = o .coins;
-    }
-
--- the bytes of a message, and how many bytes their delivery is lent for its line
-pub record Bytes : Type 0 where
-  pub list : List ℕ
-  pub line : ℕ
-  pub each : AllBytes list
-
--- the bytes that a turn is lent for a message, and how many for its line
-pub record TurnLent : Type 0 where
-  pub message : List ℕ
-  pub line : ℕ
-
--- the turn answers that a message is sent, and b are its bytes
-pub record SendsBytes (w : List ℕ) (l : TurnLent) (b : Bytes) : Type 0 where
-  pub message : wire.Message
-  pub outcome : turnedOutcome w (length (l .message)) (l .line) ≡ outcome.Sent message
-  pub bytes : b .list ≡ take (lengthOf message) (turnedMessage w (l .message) (l .line))
-
--- the bytes of a journal, and those lent for the message of its last line
-pub record RestoreLent : Type 0 where
-  pub journal : List ℕ
-  pub message : List ℕ
-
--- "a report lent 16 words for each set would give the set as the exits'"
-pub record ReportNames (w X : List ℕ) : Type 0 where
-  pub lent : List ℕ
-  pub room : length lent ≡ 16
-  pub figures : Figures
-  pub given : reportAnswer w 16 16 ≡ answer.Given figures
-  pub exit : figures .exit ≢ 0
-  pub set : X ≡ take (figures .named) (reportNamed w lent 16)
-
--- ".. or as in force"
-pub record ReportEnforces (w X : List ℕ) : Type 0 where
-  pub lent : List ℕ
-  pub room : length lent ≡ 16
-  pub figures : Figures
-  pub given : reportAnswer w 16 16 ≡ answer.Given figures
-  pub some : figures .in_force ≢ 0
-  pub set : X ≡ take (figures .in_force) (reportInForce w 16 lent)
-
--- the five calls, by the definitions that their contracts cite; a buffer holds any numbers. Opening, delivery and turn are lent bytes for their
--- line: with fewer than 512 they are refused by 8, after every other number, so what is accepted is written.
-abbrev pub engine : Machine
-engine =
-    record {
-      Words = List ℕ;
-      Opening = Arguments;
-      own = λ o. o .own;
-      input = λ o. o .input;
-      Session = Agreed;
-      session = agreed;
-      settings = λ S. S .settings;
-      coin = λ S i r. mark (item (S .coins) i) r;
-      opens = λ w o. eqb (openNumber (length w) (o .n) (o .ta) (o .ts) (o .own) (o .coins) (o .weights) (o .line)) 0;
-      opened = λ w o. openedWords w (o .n) (o .ta) (o .ts) (o .own) (o .session) (o .input) (o .coins) (o .weights) (o .line);
-      Bytes = Bytes;
-      accepts = λ w m b. eqb (deliverNumber w m (b .list) (b .line)) 0;
-      delivered = λ w m b. deliveredWords w m (b .list) (b .line);
-      Lent = TurnLent;
-      acts = λ w l. journal-calls.acts (turnedOutcome w (length (l .message)) (l .line));
-      Sends = SendsBytes;
-      turned = λ w l. turnedWords w (length (l .message)) (l .line);
-      opening-line = λ o. openingLine (o .n) (o .ta) (o .ts) (o .own) (o .session) (o .input) (o .coins) (o .weights);
-      delivery-line = λ m b. deliveryLine m (b .list);
-      turn-line = turnLine;
-      Restore = RestoreLent;
-      text = λ r. r .journal;
-      restores = λ v r. accepted (restoreAnswer v (r .journal) (length (r .message)));
-      restored = λ v r. restoredWords v (r .journal) (length (r .message));
-      LentSets = List ℕ × List ℕ;
-      Names = ReportNames;
-      InForce = ReportEnforces;
-    }
-
--- demand 3 of the engine
-abbrev pub EngineAgrees : Type 0
-EngineAgrees = DemandThree engine

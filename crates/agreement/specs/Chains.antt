@@ -12,7 +12,7 @@ use Rattle.agreement.specs.History.{Act, History, by, Lawful}
 use Rattle.held.specs.Held.{Message}
 use Rattle.agreement.specs.Moments.{Within, now, after, within-cases}
 use Rattle.agreement.specs.Runs.{Gone, Inv, inv-keep}
-use Rattle.agreement.specs.Calls.{Machine, Call, opening, delivery, turn, report, restore, Moment, Journal, world, place, left, words, bytes, journal, lastTurn, Departed}
+use Rattle.agreement.specs.Calls.{Machine, Call, opening, delivery, turn, report, restore, recording, Moment, Journal, worldWith, place, left, words, bytes, journal, lastTurn, Departed}
 use Rattle.agreement.specs.Laws.{Reading, Ran}
 use Rattle.agreement.specs.Openings.{did, tell, status, history}
 
@@ -25,6 +25,7 @@ module _ (M : Machine) (R : Reading M) (start : ℕ → M .Words) where
   noted (turn p l ∷ cs) = R .act (words M start cs p) l
   noted (report p r ∷ cs) = none
   noted (restore p v r ∷ cs) = none
+  noted (recording p x ∷ cs) = none
 
   -- a stands in a journal
   abbrev pub Noted : Journal M → Act → Type 0
@@ -48,10 +49,10 @@ module _ (M : Machine) (R : Reading M) (start : ℕ → M .Words) where
   history-within now = now
   history-within (after {cs = cs} c w) = tell-within (place M c) (did M R c (words M start cs (place M c)) (status M R start cs (place M c))) (history M R start cs) (history-within w)
 
--- calls: the whole list
-module _ (M : Machine) (R : Reading M) (H : ℕ → Bool) (start : ℕ → M .Words) (S : M .Session) (calls : List (Call M)) where
+-- calls: the whole list; κ: its coins
+module _ (M : Machine) (R : Reading M) (H : ℕ → Bool) (κ : ℕ → ℕ → Bool) (start : ℕ → M .Words) (S : M .Session) (calls : List (Call M)) where
   abbrev W : World
-  W = world M S H
+  W = worldWith M S H κ
 
   -- the message x of m left
   pub record Left (m : ℕ) (x : Message) : Type 0 where
@@ -93,9 +94,9 @@ module _ (M : Machine) (R : Reading M) (H : ℕ → Bool) (start : ℕ → M .Wo
 
 -- ---- what a live one has
 
-module _ {M : Machine} {R : Reading M} {H : ℕ → Bool} {start : ℕ → M .Words} {S : M .Session} {calls : List (Call M)} {o : M .Opening} {h : History} {p : ℕ} where
-  module _ {w : M .Words} {js : Journal M} (live : Live M R H start S calls o h p w js) where
-    newest-point : Point M R H start S calls o h p (live .last) (live .older)
+module _ {M : Machine} {R : Reading M} {H : ℕ → Bool} {κ : ℕ → ℕ → Bool} {start : ℕ → M .Words} {S : M .Session} {calls : List (Call M)} {o : M .Opening} {h : History} {p : ℕ} where
+  module _ {w : M .Words} {js : Journal M} (live : Live M R H κ start S calls o h p w js) where
+    newest-point : Point M R H κ start S calls o h p (live .last) (live .older)
     newest-point = live .chain (live .last) (live .older) (rw (live .ends) now)
 
     pub belongs : R .Belongs o w
@@ -104,17 +105,17 @@ module _ {M : Machine} {R : Reading M} {H : ℕ → Bool} {start : ℕ → M .Wo
     pub ran : Ran M (bytes M js) w (lastTurn M start (live .last))
     ran = rw (live .same, live .ends) (newest-point .ran)
 
-    pub keeps : Keeps M R H start S calls h (Noted M R start js) p w
+    pub keeps : Keeps M R H κ start S calls h (Noted M R start js) p w
     keeps = rw (live .same, live .ends) (newest-point .keeps)
 
-  point-keep : (x : Option Act) (q : ℕ) (d : Moment M) (ks : Journal M) → Point M R H start S calls o h p d ks → Point M R H start S calls o (tell M R q x h) p d ks
+  point-keep : (x : Option Act) (q : ℕ) (d : Moment M) (ks : Journal M) → Point M R H κ start S calls o h p d ks → Point M R H κ start S calls o (tell M R q x h) p d ks
   point-keep none q d ks x = x
   point-keep (some a) q d ks x =
-      record { belongs = x .belongs; ran = x .ran; keeps = inv-keep (world M S H) (R .seen) (Left M R H start S calls) (by q a) h (Noted M R start (d ∷ ks)) p (words M start d p) (x .keeps) }
+      record { belongs = x .belongs; ran = x .ran; keeps = inv-keep (worldWith M S H κ) (R .seen) (Left M R H κ start S calls) (by q a) h (Noted M R start (d ∷ ks)) p (words M start d p) (x .keeps) }
 
-  module _ {w : M .Words} {js : Journal M} (live : Live M R H start S calls o h p w js) where
+  module _ {w : M .Words} {js : Journal M} (live : Live M R H κ start S calls o h p w js) where
     -- whatever is done, by whomever
-    pub live-keep : (x : Option Act) (q : ℕ) → Live M R H start S calls o (tell M R q x h) p w js
+    pub live-keep : (x : Option Act) (q : ℕ) → Live M R H κ start S calls o (tell M R q x h) p w js
     live-keep x q =
         record {
           session = live .session;
@@ -128,7 +129,7 @@ module _ {M : Machine} {R : Reading M} {H : ℕ → Bool} {start : ℕ → M .Wo
         }
 
     -- one more line
-    pub live-line : (x : Option Act) (d : Moment M) (v : M .Words) → words M start d p ≡ v → Point M R H start S calls o (tell M R p x h) p d js → Live M R H start S calls o (tell M R p x h) p v (d ∷ js)
+    pub live-line : (x : Option Act) (d : Moment M) (v : M .Words) → words M start d p ≡ v → Point M R H κ start S calls o (tell M R p x h) p d js → Live M R H κ start S calls o (tell M R p x h) p v (d ∷ js)
     live-line x d v e new =
         record {
           session = live .session;
@@ -141,18 +142,18 @@ module _ {M : Machine} {R : Reading M} {H : ℕ → Bool} {start : ℕ → M .Wo
           chain = λ f ks u. at f ks (within-cases d js u);
         }
       where
-        at : (f : Moment M) (ks : Journal M) → (f ∷ ks ≡ d ∷ js) ⊎ Within (f ∷ ks) js → Point M R H start S calls o (tell M R p x h) p f ks
+        at : (f : Moment M) (ks : Journal M) → (f ∷ ks ≡ d ∷ js) ⊎ Within (f ∷ ks) js → Point M R H κ start S calls o (tell M R p x h) p f ks
         at f ks (inl q) =
             let a : f ≡ d = cc in
             let b : ks ≡ js = cc in
             rw (a, b) new
         at f ks (inr u) = point-keep x p f ks (live .chain f ks u)
 
-module _ (M : Machine) (R : Reading M) (H : ℕ → Bool) (start : ℕ → M .Words) (S : M .Session) (calls : List (Call M)) where
-  pub elsewhere : (st : Option (M .Opening)) (x : Option Act) (h : History) (p q : ℕ) (w : M .Words) (js : Journal M) → At M R H start S calls st h q w js → At M R H start S calls st (tell M R p x h) q w js
+module _ (M : Machine) (R : Reading M) (H : ℕ → Bool) (κ : ℕ → ℕ → Bool) (start : ℕ → M .Words) (S : M .Session) (calls : List (Call M)) where
+  pub elsewhere : (st : Option (M .Opening)) (x : Option Act) (h : History) (p q : ℕ) (w : M .Words) (js : Journal M) → At M R H κ start S calls st h q w js → At M R H κ start S calls st (tell M R p x h) q w js
   elsewhere none x h p q w js g = tt
   elsewhere (some o) x h p q w js g = live-keep g x p
 
   -- one that is opened is live
-  pub known-live : (cs : List (Call M)) → Good M R H start S calls cs → (p : ℕ) (o : M .Opening) → status M R start cs p ≡ some o → Live M R H start S calls o (history M R start cs) p (words M start cs p) (journal M start cs p)
+  pub known-live : (cs : List (Call M)) → Good M R H κ start S calls cs → (p : ℕ) (o : M .Opening) → status M R start cs p ≡ some o → Live M R H κ start S calls o (history M R start cs) p (words M start cs p) (journal M start cs p)
   known-live cs g p o e = rw e at (g .each p)

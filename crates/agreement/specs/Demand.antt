@@ -13,39 +13,40 @@ use Rattle.agreement.specs.Runs as Runs
 use Rattle.held.specs.Held.{Message, COMMIT}
 use Rattle.agreement.specs.Runs.{HeldFrom, OutputsHeld, Inv, Due, backing, shows-named, shows-force}
 use Rattle.agreement.specs.Agreement.{Shown, agreement, validity}
-use Rattle.agreement.specs.Calls.{Machine, Call, world, place, words, journal, Shows, Opened, Conditions, PutIn, Earlier, OneSet, NamedFirst, OnlyInput, DemandThree}
+use Rattle.agreement.specs.Calls.{Machine, Call, worldWith, place, words, journal, Shows, Opened, Conditions, PutIn, Earlier, OneSet, NamedFirst, OnlyInput, DemandThree}
 use Rattle.agreement.specs.Laws.{Reading, Active, Laws}
+use Rattle.agreement.specs.Coins.{Coined, coinsOf, agreeing-coined}
 use Rattle.agreement.specs.Openings.{did, tell, status, history, opened-known, known-opened, TurnDid, did-turn}
 use Rattle.agreement.specs.Chains.{Noted, history-within, Left, Live, Good, belongs, keeps, known-live}
 use Rattle.agreement.specs.Lists.{all-good, left-single}
 
--- calls: the whole list
-module _ (M : Machine) (R : Reading M) (H : ℕ → Bool) (laws : Laws M R H) (start : ℕ → M .Words) (S : M .Session) (calls : List (Call M)) (conditions : Conditions M start S H calls) where
+-- calls: the whole list; κ: its coins
+module _ (M : Machine) (R : Reading M) (H : ℕ → Bool) (κ : ℕ → ℕ → Bool) (laws : Laws M R H κ) (start : ℕ → M .Words) (S : M .Session) (calls : List (Call M)) (coined : Coined M start S κ calls) (conditions : Conditions M start S H calls) where
   abbrev W : World
-  W = world M S H
+  W = worldWith M S H κ
 
   -- a moment of it
   abbrev Here : List (Call M) → Type 0
   Here cs = Within cs calls
 
   abbrev Gone : ℕ → Message → Type 0
-  Gone m x = Left M R H start S calls m x
+  Gone m x = Left M R H κ start S calls m x
 
   abbrev told : List (Call M) → History
   told cs = history M R start cs
 
-  good : (cs : List (Call M)) → Here cs → Good M R H start S calls cs
-  good cs k = all-good M R H laws start S calls calls now conditions cs k
+  good : (cs : List (Call M)) → Here cs → Good M R H κ start S calls cs
+  good cs k = all-good M R H κ laws start S calls coined calls now conditions cs k
 
   -- an opened one
   record Open (cs : List (Call M)) (p : ℕ) : Type 0 where
     by-opening : M .Opening
-    live : Live M R H start S calls by-opening (told cs) p (words M start cs p) (journal M start cs p)
+    live : Live M R H κ start S calls by-opening (told cs) p (words M start cs p) (journal M start cs p)
 
   open-at : (cs : List (Call M)) → Here cs → (p : ℕ) → Opened M start cs p → Open cs p
   open-at cs k p o =
       let x = opened-known M R start cs p o in
-      record { by-opening = x .by-opening; live = known-live M R H start S calls cs (good cs k) p (x .by-opening) (x .known) }
+      record { by-opening = x .by-opening; live = known-live M R H κ start S calls cs (good cs k) p (x .by-opening) (x .known) }
 
   -- ---- what the words of an opened one show
 
@@ -80,10 +81,10 @@ module _ (M : Machine) (R : Reading M) (H : ℕ → Bool) (laws : Laws M R H) (s
     sound-at L b f = sound W L (x .live .ruled) b f
 
   -- a turn that did a
-  active : (cs : List (Call M)) → Here cs → (p : ℕ) (a : Act) (d : TurnDid M R start (words M start cs p) (status M R start cs p) a) → Active M R H (d .by-opening) (words M start cs p) (d .lent) a
+  active : (cs : List (Call M)) → Here cs → (p : ℕ) (a : Act) (d : TurnDid M R start (words M start cs p) (status M R start cs p) a) → Active M R H κ (d .by-opening) (words M start cs p) (d .lent) a
   active cs k p a d =
-      let live = known-live M R H start S calls cs (good cs k) p (d .by-opening) (d .known) in
-      rw (d .acts) at (laws .turn-told (d .by-opening) (words M start cs p) (owned cs p (record { by-opening = d .by-opening; live = live })) (d .lent))
+      let live = known-live M R H κ start S calls cs (good cs k) p (d .by-opening) (d .known) in
+      rw (d .acts) at (laws .turn-told (d .by-opening) (words M start cs p) (owned cs p (record { by-opening = d .by-opening; live = live })) (inv cs p (record { by-opening = d .by-opening; live = live }) .coins) (d .lent))
 
   -- ---- none is in force that exits had not named before
 
@@ -104,8 +105,8 @@ module _ (M : Machine) (R : Reading M) (H : ℕ → Bool) (laws : Laws M R H) (s
         later : Here cs
         later = within-tail c k
 
-        live : Live M R H start S calls (d .by-opening) (told cs) p (words M start cs p) (journal M start cs p)
-        live = known-live M R H start S calls cs (good cs later) p (d .by-opening) (d .known)
+        live : Live M R H κ start S calls (d .by-opening) (told cs) p (words M start cs p) (journal M start cs p)
+        live = known-live M R H κ start S calls cs (good cs later) p (d .by-opening) (d .known)
 
         due : Due W (R .seen) (words M start cs p) (commit X) → Then (c ∷ cs)
         due (inl n) =
@@ -166,34 +167,44 @@ module _ (M : Machine) (R : Reading M) (H : ℕ → Bool) (laws : Laws M R H) (s
 
 -- ---- the claims
 
-module _ (M : Machine) (R : Reading M) (laws : (H : ℕ → Bool) → Laws M R H) where
+module _ (M : Machine) (R : Reading M) (laws : (H : ℕ → Bool) (κ : ℕ → ℕ → Bool) → Laws M R H κ) where
+  -- the coins of a list that meets the conditions
+  coins : (S : M .Session) (H : ℕ → Bool) (start : ℕ → M .Words) (cs : List (Call M)) → Conditions M start S H cs → Coined M start S (coinsOf M R start S cs) cs
+  coins S H start cs k = agreeing-coined M R start (λ w x e. laws H (M .coin S) .record-binary w x e) S cs (k .coins)
+
   one-set : OneSet M
   unfolding OneSet
   one-set S H few start cs k ds es a b p q x y X Y s t =
-      let l = laws H in
-      let u = open-at M R H l start S cs k ds a p x in
-      let v = open-at M R H l start S cs k es b q y in
-      let so = sound-at M R H l start S cs k ds p u (M .settings S .ta) (u .live .ruled .ordered) few in
-      agreement (world M S H) (Runs.Gone (world M S H) (R .seen) (Left M R H start S cs)) so (left-single M R H l start S cs k) (history M R start cs) (good M R H l start S cs k cs now .lawful)
+      let κ = coinsOf M R start S cs in
+      let l = laws H κ in
+      let c = coins S H start cs k in
+      let u = open-at M R H κ l start S cs c k ds a p x in
+      let v = open-at M R H κ l start S cs c k es b q y in
+      let so = sound-at M R H κ l start S cs c k ds p u (M .settings S .ta) (u .live .ruled .ordered) few in
+      agreement (worldWith M S H κ) (Runs.Gone (worldWith M S H κ) (R .seen) (Left M R H κ start S cs)) so (left-single M R H κ l start S cs c k) (history M R start cs) (good M R H κ l start S cs c k cs now .lawful)
       (history-within M R start a) (history-within M R start b) X Y
-      (show M R H l start S cs k ds p u X s) (show M R H l start S cs k es q v Y t)
+      (show M R H κ l start S cs c k ds p u X s) (show M R H κ l start S cs c k es q v Y t)
 
   named-first : NamedFirst M
   unfolding NamedFirst
   named-first S H few start cs k ds a p x X f =
-      let l = laws H in
-      let u = open-at M R H l start S cs k ds a p x in
-      force-earlier M R H l start S cs k (sound-at M R H l start S cs k ds p u (M .settings S .ts) (omega arith) few) X ds a p x f
+      let κ = coinsOf M R start S cs in
+      let l = laws H κ in
+      let c = coins S H start cs k in
+      let u = open-at M R H κ l start S cs c k ds a p x in
+      force-earlier M R H κ l start S cs c k (sound-at M R H κ l start S cs c k ds p u (M .settings S .ts) (omega arith) few) X ds a p x f
 
   only-input : OnlyInput M
   unfolding OnlyInput
   only-input S H few start cs k v i ds a p x X s =
-      let l = laws H in
-      let u = open-at M R H l start S cs k ds a p x in
-      let so = sound-at M R H l start S cs k ds p u (M .settings S .ts) (omega arith) few in
+      let κ = coinsOf M R start S cs in
+      let l = laws H κ in
+      let c = coins S H start cs k in
+      let u = open-at M R H κ l start S cs c k ds a p x in
+      let so = sound-at M R H κ l start S cs c k ds p u (M .settings S .ts) (omega arith) few in
       let j : PutIn M start v ds = λ q o es w. i q o es (within-trans w a) in
-      validity (world M S H) (Runs.Gone (world M S H) (R .seen) (Left M R H start S cs)) (M .settings S .ts) so (history M R start ds) (good M R H l start S cs k ds a .lawful) v
-      (λ q r hq d. sent-input M R H l start S cs k v ds a j q r d) X (show M R H l start S cs k ds p u X s)
+      validity (worldWith M S H κ) (Runs.Gone (worldWith M S H κ) (R .seen) (Left M R H κ start S cs)) (M .settings S .ts) so (history M R start ds) (good M R H κ l start S cs c k ds a .lawful) v
+      (λ q r hq d. sent-input M R H κ l start S cs c k v ds a j q r d) X (show M R H κ l start S cs c k ds p u X s)
 
   pub demand-three : DemandThree M
   demand-three = record { one-set = one-set; named-first = named-first; only-input = only-input }

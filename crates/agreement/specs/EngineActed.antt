@@ -1,19 +1,17 @@
 -- What a turn of the engine changes: nothing that is held, no mark of an ECHO or AUX vanishes, a new decision is that of the move.
 use Prim.Native.Nat.{ℕ, _+_, _≤_}
-use mathlib.Core.Bool.{Bool, true, false, not, _&&_, false≢true}
+use mathlib.Core.Bool.{Bool, true, false, not, false≢true}
 use mathlib.Core.List.{List}
 use mathlib.Core.Logic.{_⊎_, inl, inr}
 use mathlib.Core.Option.{Option, none, some}
 use mathlib.Core.Path.{_≡_, refl, sym, ap, _∙_}
 use native.Mathlib.Omega.{arith}
 use lib.Dec.{eqb}
-use lib.ListN.{length}
 use borrow.Author.Tests.{eqb-true}
 use Rattle.quorum.specs.Bools.{and-right}
 use Rattle.settings.specs.Laws.{Ruled}
 use Rattle.settings.specs.declared.Settings.{Settings}
-use Rattle.quorum.specs.Marks.{mark}
-use Rattle.records.specs.Words.{word, marked}
+use Rattle.records.specs.Words.{marked}
 use Rattle.records.specs.Records.{echoSent, auxSent, decided, decidedZero, decidedOne}
 use Rattle.records.specs.Records as records
 use Rattle.acts.specs.declared.Act as acts
@@ -21,18 +19,19 @@ use Rattle.acts.specs.declared.Act.the-variants as act
 use Rattle.acts.specs.declared.View.{View}
 use Rattle.acts.specs.declared.View.the-variants.{Only, Both}
 use Rattle.votes.specs.Votes.{coinValue, estimate, decides}
-use Rattle.opening.specs.Given.{item}
+use Rattle.votes.specs.Told.{MoveTold}
 use Rattle.turn.specs.Turn.{newDecision, applied}
 use Rattle.turn.specs.Told.{ActTold}
 use Rattle.turn.specs.Frame.{Placed, told-placed, length-applied, applied-kept}
-use Rattle.turn.specs.Marks.{MarkWord, keeps-applied, echo-marked, aux-marked}
+use Rattle.turn.specs.Marks.{keeps-applied, echo-marked, aux-marked}
 use Rattle.turn.specs.Decisions.{DecidedBy, decided-zero-came, decided-one-came}
 use Rattle.agreement.specs.Evidence.{World}
-use Rattle.agreement.specs.History.{Act, send, echo, ready, start, relay, aux, move, commit, Decision, zero, one}
-use Rattle.held.specs.Held.{Message, Numbered}
-use Rattle.held.specs.Keeping.{held-back}
-use Rattle.agreement.specs.Runs.{Decides, Changed, Kept, Acted}
-use Rattle.agreement.specs.Calls.{Arguments, agreed, engine, world}
+use Rattle.agreement.specs.History.{Act, echo, aux, move, Decision, zero, one}
+use Rattle.held.specs.Held.{Numbered}
+use Rattle.held.specs.Keeping.{kept-holding, held-back}
+use Rattle.agreement.specs.Runs.{Decides, Changed, Kept, Acted, CoinsAre}
+use Rattle.agreement.specs.Calls.{worldWith}
+use Rattle.agreement.specs.EngineCalls.{Arguments, agreed, engine}
 use Rattle.agreement.specs.EngineSeen.{engineSeen}
 use Rattle.agreement.specs.EngineReading.{Belongs, shownAct}
 
@@ -47,22 +46,25 @@ coin-is true false e = refl
 coin-is false true e = refl
 coin-is false false e = absurd (false≢true (sym e))
 
-module _ (o : Arguments) (H : ℕ → Bool) (w : List ℕ) (x : Belongs o w) where
+module _ (o : Arguments) (H : ℕ → Bool) (κ : ℕ → ℕ → Bool) (w : List ℕ) (x : Belongs o w) (coins : CoinsAre (worldWith engine (agreed o) H κ) engineSeen w) where
   abbrev W : World
-  W = world engine (agreed o) H
+  W = worldWith engine (agreed o) H κ
 
-  -- the stored coins are those of the opening
-  pub coin-same : (i r : ℕ) → 1 ≤ i → i ≤ o .n → records.coin w i r ≡ W .coin i r
-  unfolding records.coin marked
-  coin-same i r low high = ap (λ (k : ℕ). mark k r) (x .is-coin i low high)
+  -- the coin that a move reads is the world's
+  pub coin-same : (g : Settings) (i r : ℕ) (v : View) → 1 ≤ i → i ≤ o .n → MoveTold g w i r v → records.coin w i r ≡ W .coin i r
+  coin-same g i r v low high t = coins i r (records.coin w i r) (record { low = low; high = omega (arith, high, x .is-n); first = t .low; last = t .high; known = t .known; same = refl })
 
   -- the value that vote i is decided: 0 for true
   abbrev valueOf : Bool → ℕ
   valueOf z = coinValue (not z)
 
-  decided-by : (a : acts.Act) (b : Act) (i : ℕ) (z : Bool) → 1 ≤ i → i ≤ o .n → ((r : ℕ) (v : View) → a ≡ act.Move i r v → b ≡ move i r v) → DecidedBy w a i z → Decides W b i (valueOf z)
+  -- where a is a move b is that move, and it was due
+  abbrev SameMove : Settings → acts.Act → Act → ℕ → Type 0
+  SameMove g a b i = (r : ℕ) (v : View) → a ≡ act.Move i r v → (b ≡ move i r v) × MoveTold g w i r v
+
+  decided-by : (g : Settings) (a : acts.Act) (b : Act) (i : ℕ) (z : Bool) → 1 ≤ i → i ≤ o .n → SameMove g a b i → DecidedBy w a i z → Decides W b i (valueOf z)
   unfolding newDecision
-  decided-by a b i z low high same d = of (decides-only k (d .view) (and-right (not (decided w i)) (decides k (d .view)) (d .new)))
+  decided-by g a b i z low high same d = of (decides-only k (d .view) (and-right (not (decided w i)) (decides k (d .view)) (d .new)))
     where
       k : Bool
       k = records.coin w i (d .round)
@@ -70,10 +72,11 @@ module _ (o : Arguments) (H : ℕ → Bool) (w : List ℕ) (x : Belongs o w) whe
       of : d .view ≡ Only (coinValue k) → Decides W b i (valueOf z)
       of e =
           let c : coinValue k ≡ valueOf z = coin-is k z (ap (λ (v : View). eqb (estimate k v) 0) (sym e) ∙ d .value) in
+          let is = same (d .round) (d .view) (d .is-move) in
           record {
             round = d .round;
-            moves = same (d .round) (d .view) (d .is-move) ∙ ap (move i (d .round)) (e ∙ ap Only c);
-            coin = sym c ∙ ap coinValue (coin-same i (d .round) low high);
+            moves = is .0 ∙ ap (move i (d .round)) (e ∙ ap Only c);
+            coin = sym c ∙ ap coinValue (coin-same g i (d .round) (d .view) low high (is .1));
           }
 
   module _ (a : acts.Act) (p : Placed a) where
@@ -103,7 +106,7 @@ module _ (o : Arguments) (H : ℕ → Bool) (w : List ℕ) (x : Belongs o w) whe
     pub changed : (decision : ℕ → ℕ → Type 0) → ((i : ℕ) (z : Bool) → 1 ≤ i → i ≤ o .n → DecidedBy w a i z → decision i (valueOf z)) → Changed W engineSeen w t (λ m y. ⊥) decision
     changed decision by =
         record {
-          held = λ m y low high h. inl (held-back w t (x .size) (length-applied w a) (applied-kept w a p) m y low (omega (arith, x .ruled .few)) h);
+          held = λ m y low high h. inl (held-back w t (x .size) (length-applied w a) (kept-holding w t (applied-kept w a p)) m y low (omega (arith, x .ruled .few)) h);
           echoed = echoes-stay;
           auxed = λ i r e. (e .0, auxes-stay i r (e .1));
           decs = decs-came decision by;
@@ -124,10 +127,10 @@ module _ (o : Arguments) (H : ℕ → Bool) (w : List ℕ) (x : Belongs o w) whe
   ShownActed a (some b) = Acted W engineSeen w (applied w a) b
 
   -- neither ECHO nor AUX
-  plain : (a : acts.Act) (b : Act) → Placed a → ((i r : ℕ) (v : View) → a ≡ act.Move i r v → b ≡ move i r v) → ((i v : ℕ) → b ≡ echo i v → ⊥) → ((i r c : ℕ) → b ≡ aux i r c → ⊥) → Acted W engineSeen w (applied w a) b
-  plain a b p same no-echo no-aux =
+  plain : (g : Settings) (a : acts.Act) (b : Act) → Placed a → ((i : ℕ) → SameMove g a b i) → ((i v : ℕ) → b ≡ echo i v → ⊥) → ((i r c : ℕ) → b ≡ aux i r c → ⊥) → Acted W engineSeen w (applied w a) b
+  plain g a b p same no-echo no-aux =
       record {
-        changed = changed a p (Decides W b) (λ i z low high d. decided-by a b i z low high (same i) d);
+        changed = changed a p (Decides W b) (λ i z low high d. decided-by g a b i z low high (same i) d);
         echoes = λ i v e. absurd (no-echo i v e);
         auxes = λ i r c e. absurd (no-aux i r c e);
       }
@@ -136,25 +139,25 @@ module _ (o : Arguments) (H : ℕ → Bool) (w : List ℕ) (x : Belongs o w) whe
     pub shown-acted : (a : acts.Act) → ActTold g w a → ShownActed a (shownAct g w a)
     shown-acted act.Idle h = tt
     shown-acted act.InForce h = tt
-    shown-acted (act.Commit k) h = plain (act.Commit k) _ tt (λ i r v e. absurd (let z : _≡_ {A = ℕ} 0 1 = cc in omega arith)) (λ i v e. let z : _≡_ {A = ℕ} 0 1 = cc in omega arith) (λ i r c e. let z : _≡_ {A = ℕ} 0 1 = cc in omega arith)
-    shown-acted (act.Send u) h = plain (act.Send u) _ tt (λ i r v e. absurd (let z : _≡_ {A = ℕ} 0 1 = cc in omega arith)) (λ i v e. let z : _≡_ {A = ℕ} 0 1 = cc in omega arith) (λ i r c e. let z : _≡_ {A = ℕ} 0 1 = cc in omega arith)
+    shown-acted (act.Commit k) h = plain g (act.Commit k) _ tt (λ i r v e. absurd (let z : _≡_ {A = ℕ} 0 1 = cc in omega arith)) (λ i v e. let z : _≡_ {A = ℕ} 0 1 = cc in omega arith) (λ i r c e. let z : _≡_ {A = ℕ} 0 1 = cc in omega arith)
+    shown-acted (act.Send u) h = plain g (act.Send u) _ tt (λ i r v e. absurd (let z : _≡_ {A = ℕ} 0 1 = cc in omega arith)) (λ i v e. let z : _≡_ {A = ℕ} 0 1 = cc in omega arith) (λ i r c e. let z : _≡_ {A = ℕ} 0 1 = cc in omega arith)
     shown-acted (act.Echo j u) h =
         record {
-          changed = changed (act.Echo j u) tt (Decides W (echo j u)) (λ i z low high d. decided-by (act.Echo j u) (echo j u) i z low high (λ r v e. absurd (let z : _≡_ {A = ℕ} 0 1 = cc in omega arith)) d);
+          changed = changed (act.Echo j u) tt (Decides W (echo j u)) (λ i z low high d. decided-by g (act.Echo j u) (echo j u) i z low high (λ r v e. absurd (let z : _≡_ {A = ℕ} 0 1 = cc in omega arith)) d);
           echoes = λ i v e. let same : j ≡ i = cc in rw (← same) (echo-marked w (x .size) j u (h .among .low) (omega (arith, h .among .high, ruled .few)));
           auxes = λ i r c e. absurd (let z : _≡_ {A = ℕ} 0 1 = cc in omega arith);
         }
-    shown-acted (act.Ready j u) h = plain (act.Ready j u) _ tt (λ i r v e. absurd (let z : _≡_ {A = ℕ} 0 1 = cc in omega arith)) (λ i v e. let z : _≡_ {A = ℕ} 0 1 = cc in omega arith) (λ i r c e. let z : _≡_ {A = ℕ} 0 1 = cc in omega arith)
-    shown-acted (act.Start j b) h = plain (act.Start j b) _ (told-placed g w ruled (act.Start j b) h) (λ i r v e. absurd (let z : _≡_ {A = ℕ} 0 1 = cc in omega arith)) (λ i v e. let z : _≡_ {A = ℕ} 0 1 = cc in omega arith) (λ i r c e. let z : _≡_ {A = ℕ} 0 1 = cc in omega arith)
-    shown-acted (act.Relay j q b) h = plain (act.Relay j q b) _ (told-placed g w ruled (act.Relay j q b) h) (λ i r v e. absurd (let z : _≡_ {A = ℕ} 0 1 = cc in omega arith)) (λ i v e. let z : _≡_ {A = ℕ} 0 1 = cc in omega arith) (λ i r c e. let z : _≡_ {A = ℕ} 0 1 = cc in omega arith)
+    shown-acted (act.Ready j u) h = plain g (act.Ready j u) _ tt (λ i r v e. absurd (let z : _≡_ {A = ℕ} 0 1 = cc in omega arith)) (λ i v e. let z : _≡_ {A = ℕ} 0 1 = cc in omega arith) (λ i r c e. let z : _≡_ {A = ℕ} 0 1 = cc in omega arith)
+    shown-acted (act.Start j b) h = plain g (act.Start j b) _ (told-placed g w ruled (act.Start j b) h) (λ i r v e. absurd (let z : _≡_ {A = ℕ} 0 1 = cc in omega arith)) (λ i v e. let z : _≡_ {A = ℕ} 0 1 = cc in omega arith) (λ i r c e. let z : _≡_ {A = ℕ} 0 1 = cc in omega arith)
+    shown-acted (act.Relay j q b) h = plain g (act.Relay j q b) _ (told-placed g w ruled (act.Relay j q b) h) (λ i r v e. absurd (let z : _≡_ {A = ℕ} 0 1 = cc in omega arith)) (λ i v e. let z : _≡_ {A = ℕ} 0 1 = cc in omega arith) (λ i r c e. let z : _≡_ {A = ℕ} 0 1 = cc in omega arith)
     shown-acted (act.Aux j q b) h =
         let among = numbered j (h .0 .low) (h .0 .high) in
         record {
-          changed = changed (act.Aux j q b) (among .low, among .high) (Decides W (aux j q b)) (λ i z low high d. decided-by (act.Aux j q b) (aux j q b) i z low high (λ r v e. absurd (let z : _≡_ {A = ℕ} 0 1 = cc in omega arith)) d);
+          changed = changed (act.Aux j q b) (among .low, among .high) (Decides W (aux j q b)) (λ i z low high d. decided-by g (act.Aux j q b) (aux j q b) i z low high (λ r v e. absurd (let z : _≡_ {A = ℕ} 0 1 = cc in omega arith)) d);
           echoes = λ i v e. absurd (let z : _≡_ {A = ℕ} 0 1 = cc in omega arith);
           auxes = λ i r c e. let same : j ≡ i = cc in let same-round : q ≡ r = cc in rw (← same, ← same-round) (among, aux-marked w (x .size) j q b (among .high) (h .1 .low) (h .1 .high));
         }
       where
         numbered : (i : ℕ) → 1 ≤ i → i ≤ g .n → Numbered i
         numbered i low high = record { low = low; high = omega (arith, ruled .few) }
-    shown-acted (act.Move j q v) h = plain (act.Move j q v) _ (told-placed g w ruled (act.Move j q v) h) (λ i r u e. let same : j ≡ i = cc in let same-round : q ≡ r = cc in let same-view : v ≡ u = cc in rw (same, same-round, same-view)) (λ i u e. let z : _≡_ {A = ℕ} 0 1 = cc in omega arith) (λ i r c e. let z : _≡_ {A = ℕ} 0 1 = cc in omega arith)
+    shown-acted (act.Move j q v) h = plain g (act.Move j q v) _ (told-placed g w ruled (act.Move j q v) h) (λ i r u e. let same : j ≡ i = cc in let same-round : q ≡ r = cc in let same-view : v ≡ u = cc in (rw (same, same-round, same-view), rw (← same, ← same-round, ← same-view) (h .1))) (λ i u e. let z : _≡_ {A = ℕ} 0 1 = cc in omega arith) (λ i r c e. let z : _≡_ {A = ℕ} 0 1 = cc in omega arith)

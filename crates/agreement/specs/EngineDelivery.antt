@@ -10,7 +10,7 @@ use native.Mathlib.Nat.{mod-eq-of-lt}
 use lib.ListN.{length, drop}
 use borrow.Author.Tests.{eqb-true, eqb-false}
 use Rattle.quorum.specs.Marks.{mark}
-use Rattle.records.specs.Layout.{nAt, taAt, tsAt, ownAt, sessionAt, inputAt, weightsAt, coinAt, auxSentAt, echoSentAt, decidedZeroAt, decidedOneAt}
+use Rattle.records.specs.Layout.{nAt, taAt, tsAt, ownAt, sessionAt, inputAt, weightsAt, boxedAt, coinAt, auxSentAt, echoSentAt, decidedZeroAt, decidedOneAt}
 use Rattle.records.specs.Records.{commitSet, echoSent, auxSent, decidedZero, decidedOne}
 use Rattle.records.specs.Words.{word, marked}
 use Rattle.commits.specs.Sets.{set-length}
@@ -35,10 +35,10 @@ use Rattle.journal.specs.Laws.{line-taken, line-words, line-stays}
 use Rattle.agreement.specs.History.{Decision, zero, one}
 use Rattle.held.specs.Held.{Message, meaning}
 use Rattle.held.specs.Recording.{held-recorded}
-use Rattle.agreement.specs.Runs.{Delivered}
-use Rattle.agreement.specs.Calls.{Arguments, Agreed, Bytes, engine}
+use Rattle.agreement.specs.Runs.{Delivered, CoinsStay}
+use Rattle.agreement.specs.EngineCalls.{Arguments, Agreed, Bytes, engine}
 use Rattle.agreement.specs.Laws.{at, Delivery}
-use Rattle.agreement.specs.EngineSeen.{engineSeen}
+use Rattle.agreement.specs.EngineSeen.{engineSeen, coins-stay}
 use Rattle.agreement.specs.EngineReading.{Belongs, Sets, Belonging, Says, engineReading}
 
 -- the values of a message that is taken have 64 bits
@@ -62,17 +62,23 @@ module _ (o : Arguments) (w : List ℕ) (B : Belongs o w) (v : List ℕ) (p : �
         ruled = B .ruled;
         own-low = B .own-low;
         own-high = B .own-high;
+        kind = B .kind;
         size = length-recorded w v p m ∙ B .size;
         is-n = same nAt (inl (omega arith)) ∙ B .is-n;
         is-ta = same taAt (inl (omega arith)) ∙ B .is-ta;
         is-ts = same tsAt (inl (omega arith)) ∙ B .is-ts;
         is-weights = word-free w v p m weightsAt h (omega arith) (omega arith) ∙ B .is-weights;
+        is-boxed = word-free w v p m boxedAt h (omega arith) (omega arith) ∙ B .is-boxed;
         is-own = same ownAt (inl (omega arith)) ∙ B .is-own;
         is-session = same sessionAt (inl (omega arith)) ∙ B .is-session;
         is-input = same inputAt (inl (omega arith)) ∙ B .is-input;
-        is-coin = λ i lo hi. same (coinAt i) (inl (omega (arith, B .ruled .few))) ∙ B .is-coin i lo hi;
         fits = fit-recorded w v p m h f (B .fits);
       }
+
+  recorded-coins : CoinsStay engineSeen w (recorded w p m v)
+  recorded-coins =
+      coins-stay w (recorded w p m v) (omega (arith, B .is-n, B .ruled .few)) (same nAt (inl (omega arith))) (word-free w v p m boxedAt h (omega arith) (omega arith))
+      (λ i lo hi. same (coinAt i) (inl (omega arith)))
 
   -- a set as messages have it
   abbrev Right : List ℕ → Type 0
@@ -113,9 +119,9 @@ module _ (o : Arguments) (w : List ℕ) (B : Belongs o w) (v : List ℕ) (p : �
   recorded-decided i b (zero e) = zero (sym (same-mark decidedZeroAt i (inr (omega arith, omega arith))) ∙ e)
   recorded-decided i b (one e) = one (sym (same-mark decidedOneAt i (inr (omega arith, omega arith))) ∙ e)
 
-  recorded-delivered : (H : ℕ → Bool) → placeHeld w p m ≡ false → Delivered (at engine engineReading H o) engineSeen w (recorded w p m v) p (meaning m (values (countOf m) v))
+  recorded-delivered : (H : ℕ → Bool) (κ : ℕ → ℕ → Bool) → placeHeld w p m ≡ false → Delivered (at engine engineReading H κ o) engineSeen w (recorded w p m v) p (meaning m (values (countOf m) v))
   unfolding echoSent auxSent
-  recorded-delivered H free =
+  recorded-delivered H κ free =
       record {
         held = λ k y lo hi x. held-recorded w v p m (B .size) h free k (record { low = lo; high = omega (arith, B .ruled .few) }) y x;
         echoed = λ i e. same-mark echoSentAt i (inr (omega arith, omega arith)) ∙ e;
@@ -136,7 +142,7 @@ module _ (o : Arguments) (w : List ℕ) (B : Belongs o w) (S : Sets o w) (p : �
       ∙ ap (λ (x : ℕ). readMessage (o .n) x p (b .list)) number)
       ∙ a .taken
 
-  module _ (H : ℕ → Bool) (t : Taking w p (b .list)) where
+  module _ (H : ℕ → Bool) (κ : ℕ → ℕ → Bool) (t : Taking w p (b .list)) where
     message-accepting : Accepting w p (b .list) (t .message)
     message-accepting = accepting w p (b .list) (t .message) (t .accepted)
 
@@ -155,7 +161,7 @@ module _ (o : Arguments) (w : List ℕ) (B : Belongs o w) (S : Sets o w) (p : �
     fits : ValueFits (t .message) (drop 12 (b .list))
     fits = value-fits (t .message) _ (drop 12 (b .list)) (encoded .proper .fits) (value-below (drop 12 (b .list)) (all-drop (b .list) 12 (b .each)))
 
-    taking-delivery : LINE-BYTES ≤ b .line → Delivery engine engineReading H o w p b
+    taking-delivery : LINE-BYTES ≤ b .line → Delivery engine engineReading H κ o w p b
     unfolding deliveredWords
     taking-delivery enough =
         let now = line-words (b .line) w _ enough ∙ t .words in
@@ -166,11 +172,12 @@ module _ (o : Arguments) (w : List ℕ) (B : Belongs o w) (S : Sets o w) (p : �
                 words = recorded-belongs o w B (drop 12 (b .list)) p (t .message) layout fits;
                 sets = recorded-sets o w B (drop 12 (b .list)) p (t .message) layout S (form .rising) (form .layout);
               });
+          coins = subst (λ (x : List ℕ). CoinsStay engineSeen w x) (sym now) (recorded-coins o w B (drop 12 (b .list)) p (t .message) layout);
           said = meaning (t .message) (values (countOf (t .message)) (drop 12 (b .list)));
           says = record { message = t .message; taken = read; means = refl };
           holds =
-              subst (λ (x : List ℕ). Delivered (at engine engineReading H o) engineSeen w x p (meaning (t .message) (values (countOf (t .message)) (drop 12 (b .list))))) (sym now)
-              (recorded-delivered o w B (drop 12 (b .list)) p (t .message) layout H (message-accepting .free));
+              subst (λ (x : List ℕ). Delivered (at engine engineReading H κ o) engineSeen w x p (meaning (t .message) (values (countOf (t .message)) (drop 12 (b .list))))) (sym now)
+              (recorded-delivered o w B (drop 12 (b .list)) p (t .message) layout H κ (message-accepting .free));
         }
 
 -- ---- the laws
@@ -187,8 +194,8 @@ pub deliver-refused : (w : List ℕ) (m : ℕ) (b : Bytes) → engine .accepts w
 unfolding deliverNumber deliveredWords
 deliver-refused w m b e = line-stays _ (b .line) w _ e (λ f. answer-refused w m (b .list) (eqb-false (deliverAnswer w m (b .list)) 0 f))
 
-pub deliver-accepted : (H : ℕ → Bool) (o : Arguments) (w : List ℕ) → Belonging o w → (m : ℕ) (b : Bytes) → engine .accepts w m b ≡ true → Delivery engine engineReading H o w m b
-deliver-accepted H o w B m b e = taking-delivery o w (B .words) (B .sets) m b H (answer-accepted w m (b .list) (without-line w m b e .0)) (without-line w m b e .1)
+pub deliver-accepted : (H : ℕ → Bool) (κ : ℕ → ℕ → Bool) (o : Arguments) (w : List ℕ) → Belonging o w → (m : ℕ) (b : Bytes) → engine .accepts w m b ≡ true → Delivery engine engineReading H κ o w m b
+deliver-accepted H κ o w B m b e = taking-delivery o w (B .words) (B .sets) m b H κ (answer-accepted w m (b .list) (without-line w m b e .0)) (without-line w m b e .1)
 
 same-taken : (a b : wire-message.Message) → Taken a ≡ Taken b → a ≡ b
 same-taken a b e = cc

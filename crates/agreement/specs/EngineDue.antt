@@ -4,36 +4,34 @@ use mathlib.Core.Bool.{Bool, true, false, _&&_, _||_, and-false, true≢false}
 use mathlib.Core.List.{List}
 use mathlib.Core.Logic.{_⊎_, inl, inr}
 use mathlib.Core.Option.{Option, none, some}
-use mathlib.Core.Path.{_≡_, refl, sym, ap, _∙_}
+use mathlib.Core.Path.{_≡_, refl, sym, _∙_}
 use native.Mathlib.Omega.{arith}
-use lib.Dec.{eqb, leb}
+use lib.Dec.{eqb}
 use lib.ListN.{length}
 use borrow.Author.Tests.{eqb-true, leb-true}
 use Rattle.quorum.specs.Bools.{and-left, and-right}
-use Rattle.settings.specs.Settings.{quorum, copy, voteQuorum, relay, accept}
+use Rattle.settings.specs.Settings.{quorum, copy, relay, accept}
 use Rattle.settings.specs.Laws.{Ruled}
 use Rattle.settings.specs.declared.Settings.{Settings}
-use Rattle.records.specs.Records.{echoHeld, echoValue, readyHeld, readyValue, estHeld, auxHeld, auxSent, commitSet}
+use Rattle.records.specs.Records.{echoHeld, echoValue, readyHeld, readyValue, estHeld, auxHeld, commitSet}
 use Rattle.acts.specs.declared.Act as acts
 use Rattle.acts.specs.declared.Act.the-variants as act
 use Rattle.acts.specs.declared.View.{View}
 use Rattle.acts.specs.declared.View.the-variants.{Only, Both}
 use Rattle.broadcasts.specs.Leading.{holders}
-use Rattle.broadcasts.specs.Broadcasts.{output}
 use Rattle.broadcasts.specs.Laws.{ready-rests, output-holders}
-use Rattle.broadcasts.specs.declared.Output.the-variants.{Value}
 use Rattle.votes.specs.Votes.{estCount, accepted, carries, carriers, auxCount}
-use Rattle.votes.specs.Told.{Among, MoveTold, Shown}
+use Rattle.votes.specs.Told.{Among, MoveTold}
 use Rattle.commits.specs.Commits.{commitHeld, sameSet, setHolders}
 use Rattle.commits.specs.Sets.{same-set}
 use Rattle.session.specs.Session.{settingsOf}
 use Rattle.exits.specs.Now.{exitNow}
 use Rattle.turn.specs.Due.{commitDue}
 use Rattle.turn.specs.Told.{ActTold, SetHeld, Rests, on-exit, on-copies}
-use Rattle.agreement.specs.Evidence.{World, whole, Backed}
+use Rattle.agreement.specs.Evidence.{World, whole}
 use Rattle.agreement.specs.Thresholds.{by-quorum, by-vote-quorum, by-copy, by-relay, by-accept}
 use Rattle.agreement.specs.History.{Act, Occurs, Names}
-use Rattle.held.specs.Held.{Message, SEND, ECHO, READY, EST, AUX, COMMIT, Numbered, Voting}
+use Rattle.held.specs.Held.{ECHO, READY, EST, COMMIT, Numbered, Voting}
 use Rattle.agreement.specs.Runs.{HeldFrom, Carried, MoveDue, Due, OutputsHeld}
 use Rattle.agreement.specs.EngineSeen.{engineSeen}
 use Rattle.agreement.specs.EngineReading.{shownAct}

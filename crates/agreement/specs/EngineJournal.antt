@@ -11,17 +11,19 @@ use lib.ListN.{length}
 use Rattle.wire_laws.specs.Proper.{AllBytes}
 use Rattle.opening.specs.Opening.{openAnswer}
 use Rattle.text.specs.Fields.{LF}
-use Rattle.journal.specs.Lines.{openingText, deliveryText, turnText, withEnd}
+use Rattle.journal.specs.Lines.{openingText, deliveryText, turnText, recordingText, withEnd}
 use Rattle.journal.specs.Journal.{turnRoom}
 use Rattle.restore.specs.Complete.{linesOf, joined}
 use Rattle.restore.specs.Restoring.{Point, firstLine, nextLine, Replay, wrong, right, appliedOr, further, replay, replayAnswer, replayWords, lentAnswer, accepted, restoreAnswer, restoredWords}
 use Rattle.restore.specs.declared.Restored.the-variants as answer
 use Rattle.restore.specs.Written.{Without, AllWithout, lines-joined, joined-more, all-more, free-part, replay-one, replay-more}
-use Rattle.restore.specs.WrittenLines.{EachByte, opening-without, delivery-without, turn-without, first-reads, delivery-reads, turn-reads}
-use Rattle.agreement.specs.Calls.{Call, opening, delivery, turn, report, restore, line, Arguments, weightsOf, Bytes, TurnLent, RestoreLent, engine}
-use Rattle.agreement.specs.Laws.{Ran, by-opening, by-delivery, by-turn, Torn, nothing, part}
+use Rattle.restore.specs.WrittenLines.{EachByte, opening-without, delivery-without, turn-without, recording-without, first-reads, delivery-reads, turn-reads, recording-reads}
+use Rattle.agreement.specs.Calls.{Call, opening, delivery, turn, report, restore, recording, line}
+use Rattle.agreement.specs.EngineCalls.{Arguments, weightsOf, Bytes, TurnLent, RestoreLent, BitGiven, engine}
+use Rattle.agreement.specs.Laws.{Ran, by-opening, by-delivery, by-turn, by-recording, Torn, nothing, part}
 use Rattle.agreement.specs.EngineOpening.{without-line, told, opened-first}
 use Rattle.agreement.specs.EngineDelivery as deliveries
+use Rattle.agreement.specs.EngineRecording as recordings
 
 -- ---- each line, read back
 
@@ -38,12 +40,12 @@ abbrev pub point : List ℕ → Last → Point
 point w last = record { words = w; turned = wordsBefore last }
 
 abbrev openingBody : Arguments → List ℕ
-openingBody o = openingText (o .n) (o .ta) (o .ts) (o .own) (o .session) (o .input) (o .coins) (o .weights)
+openingBody o = openingText (o .n) (o .ta) (o .ts) (o .own) (o .session) (o .input) (o .coins) (o .weights) (o .boxed)
 
 open-again : (w : List ℕ) (o : Arguments) → engine .opens w o ≡ true → firstLine (openingBody o) ≡ some (point (engine .opened w o) none)
 open-again w o e =
-    let taken = ap (λ (k : ℕ). openAnswer k (o .n) (o .ta) (o .ts) (weightsOf o) (o .own) (length (o .coins))) (sym (told w o e .size)) ∙ without-line w o e .0 in
-    rw (opened-first w o e) (first-reads (o .n) (o .ta) (o .ts) (o .own) (o .session) (o .input) (o .coins) (o .weights) taken (o .session-fits) (o .input-fits) (o .coins-fit))
+    let taken = ap (λ (k : ℕ). openAnswer k (o .n) (o .ta) (o .ts) (weightsOf o) (o .own) (o .coins) (o .boxed)) (sym (told w o e .size)) ∙ without-line w o e .0 in
+    rw (opened-first w o e) (first-reads (o .n) (o .ta) (o .ts) (o .own) (o .session) (o .input) (o .coins) (o .weights) (o .boxed) taken (o .session-fits) (o .input-fits) (o .coins-fit))
 
 each-byte : (b : List ℕ) → AllBytes b → EachByte b
 each-byte [] h = tt
@@ -56,6 +58,11 @@ deliver-again w m b e =
 
 turn-again : (w : List ℕ) (l : TurnLent) → engine .acts w l ≡ true → nextLine w turnText ≡ some (point (engine .turned w l) (some (w, l)))
 turn-again w l e = turn-reads w (turnRoom (length (l .message)) (l .line)) e
+
+record-again : (w : List ℕ) (x : BitGiven) → engine .records w x ≡ true → nextLine w (recordingText (x .vote) (x .round) (x .bit)) ≡ some (point (engine .recorded w x) none)
+record-again w x e =
+    let k = recordings.without-line w x e in
+    rw (recordings.recorded-words w x (k .1)) (recording-reads w (x .vote) (x .round) (x .bit) (k .0))
 
 -- ---- the lines of calls made one after another
 
@@ -83,12 +90,13 @@ ran-lines _ _ _ (by-opening w o e) =
     record {
       oldest = openingBody o;
       others = [];
-      free = (opening-without (o .n) (o .ta) (o .ts) (o .own) (o .session) (o .input) (o .coins) (o .weights), tt);
+      free = (opening-without (o .n) (o .ta) (o .ts) (o .own) (o .session) (o .input) (o .coins) (o .weights) (o .boxed), tt);
       text = refl;
       replays = replay-one (openingBody o) ∙ ap (appliedOr 1) (open-again w o e);
     }
 ran-lines _ _ _ (by-delivery t w last m b r e) = more t (point w last) (point (engine .delivered w m b) none) (deliveryText m (b .list)) (engine .delivery-line m b) (ran-lines t w last r) refl (delivery-without m (b .list)) (deliver-again w m b e)
 ran-lines _ _ _ (by-turn t w last l r e) = more t (point w last) (point (engine .turned w l) (some (w, l))) turnText (engine .turn-line) (ran-lines t w last r) refl turn-without (turn-again w l e)
+ran-lines _ _ _ (by-recording t w last x r e) = more t (point w last) (point (engine .recorded w x) none) (recordingText (x .vote) (x .round) (x .bit)) (engine .recording-line x) (ran-lines t w last r) refl (recording-without (x .vote) (x .round) (x .bit)) (record-again w x e)
 
 torn-free : (rest : List ℕ) → Torn engine rest → Without LF rest
 unfolding withEnd
@@ -100,11 +108,12 @@ torn-free rest (part c more e ne) = at c e
     none-left (x ∷ xs) f = absurd (let z : _≡_ {A = ℕ} 0 1 = cc in omega arith)
 
     at : (c : Call engine) → rest ++ more ≡ line engine c → Without LF rest
-    at (opening p o) f = free-part rest more (openingBody o) f ne (opening-without (o .n) (o .ta) (o .ts) (o .own) (o .session) (o .input) (o .coins) (o .weights))
+    at (opening p o) f = free-part rest more (openingBody o) f ne (opening-without (o .n) (o .ta) (o .ts) (o .own) (o .session) (o .input) (o .coins) (o .weights) (o .boxed))
     at (delivery p m b) f = free-part rest more (deliveryText m (b .list)) f ne (delivery-without m (b .list))
     at (turn p l) f = free-part rest more turnText f ne turn-without
     at (report p r) f = none-left rest f
     at (restore p v r) f = none-left rest f
+    at (recording p x) f = free-part rest more (recordingText (x .vote) (x .round) (x .bit)) f ne (recording-without (x .vote) (x .round) (x .bit))
 
 -- the complete lines of a cut are those lines, and they come to the words after the last of them
 pub record CutRead (text t w : List ℕ) (last : Last) : Type 0 where

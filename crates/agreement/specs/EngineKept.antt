@@ -1,4 +1,4 @@
--- The words after a turn belong to the session that they belonged to.
+-- The words after a turn belong to the session that they belonged to, and show no new coin.
 use Prim.Native.Nat.{ℕ, _+_, _≤_}
 use mathlib.Core.Bool.{Bool, true, false, cond}
 use mathlib.Core.List.{List}
@@ -21,7 +21,9 @@ use Rattle.turn.specs.Turn.{counted, entered, decidedAs, newDecision, moveDecid
 use Rattle.turn.specs.Turn as turn
 use Rattle.turn.specs.Told.{ActTold}
 use Rattle.turn.specs.Frame.{Placed, told-placed, setting, coins, beyond, length-applied, applied-kept}
-use Rattle.agreement.specs.Calls.{Arguments}
+use Rattle.agreement.specs.EngineCalls.{Arguments}
+use Rattle.agreement.specs.Runs.{CoinsStay}
+use Rattle.agreement.specs.EngineSeen.{engineSeen, coins-stay}
 use Rattle.agreement.specs.EngineReading.{Belongs}
 
 fit-entered : (s : List ℕ) (i r b : ℕ) → Fit s → r ≤ 33 → Fit (entered s i r b)
@@ -98,14 +100,20 @@ belongs-applied o g w x ruled a told few = of (told-placed g w ruled a told)
           ruled = x .ruled;
           own-low = x .own-low;
           own-high = x .own-high;
+          kind = x .kind;
           size = length-applied w a ∙ x .size;
           is-n = applied-kept w a p 0 (setting (omega arith)) ∙ x .is-n;
           is-ta = applied-kept w a p 1 (setting (omega arith)) ∙ x .is-ta;
           is-ts = applied-kept w a p 2 (setting (omega arith)) ∙ x .is-ts;
           is-weights = applied-kept w a p 141 (beyond (omega arith)) ∙ x .is-weights;
+          is-boxed = applied-kept w a p 142 (beyond (omega arith)) ∙ x .is-boxed;
           is-own = applied-kept w a p 3 (setting (omega arith)) ∙ x .is-own;
           is-session = applied-kept w a p 4 (setting (omega arith)) ∙ x .is-session;
           is-input = applied-kept w a p 5 (setting (omega arith)) ∙ x .is-input;
-          is-coin = λ i low high. applied-kept w a p (7 + i) (coins (omega arith) (omega (arith, x .ruled .few))) ∙ x .is-coin i low high;
           fits = fit-applied w a (told-ended g w a told) few (x .fits);
         }
+
+pub coins-applied : (o : Arguments) (w : List ℕ) → Belongs o w → (a : acts.Act) → Placed a → CoinsStay engineSeen w (applied w a)
+coins-applied o w x a p =
+    coins-stay w (applied w a) (omega (arith, x .is-n, x .ruled .few)) (applied-kept w a p 0 (setting (omega arith))) (applied-kept w a p 142 (beyond (omega arith)))
+    (λ i low high. applied-kept w a p (7 + i) (coins (omega arith) (omega arith)))

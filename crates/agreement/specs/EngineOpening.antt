@@ -1,51 +1,53 @@
 -- The engine keeps the laws of opening: an accepted one has settings within the rules, its words belong to the session and show nothing,
 -- and a refused one leaves the words.
-use Prim.Native.Nat.{ℕ, _≤_}
+use Prim.Native.Nat.{ℕ, _≤_, _<_}
 use mathlib.Core.Bool.{Bool, true, false, true≢false}
 use mathlib.Core.List.{List}
 use mathlib.Core.Path.{_≡_, sym, ap, subst, _∙_}
 use native.Mathlib.Omega.{arith}
-use lib.Dec.{leb}
+use native.Mathlib.Decide.{ℕ-discrete}
+use lib.Dec.{eqb, leb}
 use lib.ListN.{length}
-use borrow.Author.Tests.{eqb-true, leb-true}
+use borrow.Author.Tests.{eqb-true, ne-eqb, leb-true}
 use Rattle.quorum.specs.Bools.{and-left, and-right}
 use Rattle.settings.specs.Laws.{Ruled, valid-rules, whole-few}
 use Rattle.settings.specs.Settings.{namedTa}
 use Rattle.quorum.specs.Marks.{mark}
 use Rattle.quorum.specs.MarkLaws.{mark-zero}
-use Rattle.records.specs.Layout.{commitCountAt}
-use Rattle.records.specs.Records.{sendHeld, echoHeld, readyHeld, estHeld, auxHeld, decidedZero, decidedOne, commitCount, commitSet}
+use Rattle.records.specs.Layout.{boxedAt, coinAt, zeroMark, commitCountAt}
+use Rattle.records.specs.Records.{printed, coin, coinRecorded, coinKnown, sendHeld, echoHeld, readyHeld, estHeld, auxHeld, decidedZero, decidedOne, commitCount, commitSet}
 use Rattle.records.specs.Words.{word, marked}
 use Rattle.commits.specs.Commits.{commitHeld}
 use Rattle.session.specs.Session.{numbered}
 use Rattle.wire.specs.Bytes.{rises}
 use Rattle.opening.specs.Cases.{Accepted, accepted}
-use Rattle.opening.specs.GivenLaws.{weights-fit}
-use Rattle.opening.specs.Laws.{coin-below, length-first, first-n, first-ta, first-ts, first-own, first-session, first-input, first-coin, first-weights, first-zero, fit-first}
+use Rattle.opening.specs.Given.{item}
+use Rattle.opening.specs.GivenLaws.{weights-fit, CoinsGiven, coins-given}
+use Rattle.opening.specs.Laws.{coin-below, length-first, first-n, first-ta, first-ts, first-own, first-session, first-input, first-coin, first-weights, first-boxed, first-zero, fit-first}
 use Rattle.opening.specs.Opening.{openAnswer, openWords, opened}
 use Rattle.journal.specs.Journal.{LINE-BYTES, openNumber, openedWords}
 use Rattle.journal.specs.Laws.{line-taken, line-words, line-stays}
 use Rattle.agreement.specs.History.{Decision, zero, one}
 use Rattle.held.specs.Held.{Message, SEND, ECHO, READY, EST, AUX, COMMIT, holds}
 use Rattle.agreement.specs.Runs.{Blank}
-use Rattle.agreement.specs.Calls.{Arguments, weightsOf, agreed, engine}
+use Rattle.agreement.specs.EngineCalls.{Arguments, weightsOf, agreed, engine}
 use Rattle.agreement.specs.Laws.{at}
-use Rattle.agreement.specs.EngineSeen.{engineSeen}
+use Rattle.agreement.specs.EngineSeen.{CoinShown, engineSeen}
 use Rattle.agreement.specs.EngineReading.{Belongs, Sets, Belonging, engineReading}
 
 -- the words after an accepted opening
 abbrev pub first : Arguments → List ℕ
-first o = openWords (o .n) (o .ta) (o .ts) (weightsOf o) (o .own) (o .session) (o .input) (o .coins)
+first o = openWords (o .n) (o .ta) (o .ts) (weightsOf o) (o .own) (o .session) (o .input) (o .coins) (o .boxed)
 
 -- ---- what an accepted opening tells
 
 module _ (w : List ℕ) (o : Arguments) (e : engine .opens w o ≡ true) where
-  pub without-line : (openAnswer (length w) (o .n) (o .ta) (o .ts) (weightsOf o) (o .own) (length (o .coins)) ≡ 0) × (LINE-BYTES ≤ o .line)
+  pub without-line : (openAnswer (length w) (o .n) (o .ta) (o .ts) (weightsOf o) (o .own) (o .coins) (o .boxed) ≡ 0) × (LINE-BYTES ≤ o .line)
   unfolding openNumber
   without-line = line-taken _ (o .line) (eqb-true _ 0 e)
 
-  pub told : Accepted (length w) (o .n) (o .ta) (o .ts) (weightsOf o) (o .own) (length (o .coins))
-  told = accepted (length w) (o .n) (o .ta) (o .ts) (weightsOf o) (o .own) (length (o .coins)) (without-line .0)
+  pub told : Accepted (length w) (o .n) (o .ta) (o .ts) (weightsOf o) (o .own) (o .coins) (o .boxed)
+  told = accepted (length w) (o .n) (o .ta) (o .ts) (weightsOf o) (o .own) (o .coins) (o .boxed) (without-line .0)
 
   pub own-within : (1 ≤ o .own) × (o .own ≤ o .n)
   unfolding numbered
@@ -53,6 +55,9 @@ module _ (w : List ℕ) (o : Arguments) (e : engine .opens w o ≡ true) where
       let low = leb 1 (o .own) in
       let high = leb (o .own) (o .n) in
       (leb-true 1 (o .own) (and-left low high (told .own-number)), leb-true (o .own) (o .n) (and-right low high (told .own-number)))
+
+  pub coins-told : CoinsGiven (o .n) (o .coins) (o .boxed)
+  coins-told = coins-given (o .n) (o .coins) (o .boxed) (told .given)
 
   pub opened-first : engine .opened w o ≡ first o
   unfolding openedWords opened
@@ -63,23 +68,24 @@ module _ (w : List ℕ) (o : Arguments) (e : engine .opens w o ≡ true) where
 
 -- ---- the words of a new state
 
-first-belongs : (o : Arguments) → Ruled (agreed o .settings) → 1 ≤ o .own → o .own ≤ o .n → Belongs o (first o)
-first-belongs o r lo hi =
+first-belongs : (o : Arguments) → Ruled (agreed o .settings) → 1 ≤ o .own → o .own ≤ o .n → o .boxed ≤ 1 → Belongs o (first o)
+first-belongs o r lo hi kind =
     record {
       ruled = r;
       own-low = lo;
       own-high = hi;
-      size = length-first (o .n) (o .ta) (o .ts) (weightsOf o) (o .own) (o .session) (o .input) (o .coins);
-      is-n = first-n (o .n) (o .ta) (o .ts) (weightsOf o) (o .own) (o .session) (o .input) (o .coins);
-      is-ta = first-ta (o .n) (o .ta) (o .ts) (weightsOf o) (o .own) (o .session) (o .input) (o .coins);
-      is-ts = first-ts (o .n) (o .ta) (o .ts) (weightsOf o) (o .own) (o .session) (o .input) (o .coins);
-      is-weights = first-weights (o .n) (o .ta) (o .ts) (weightsOf o) (o .own) (o .session) (o .input) (o .coins) (r .few);
-      is-own = first-own (o .n) (o .ta) (o .ts) (weightsOf o) (o .own) (o .session) (o .input) (o .coins);
-      is-session = first-session (o .n) (o .ta) (o .ts) (weightsOf o) (o .own) (o .session) (o .input) (o .coins);
-      is-input = first-input (o .n) (o .ta) (o .ts) (weightsOf o) (o .own) (o .session) (o .input) (o .coins);
-      is-coin = first-coin (o .n) (o .ta) (o .ts) (weightsOf o) (o .own) (o .session) (o .input) (o .coins) (r .few);
+      kind = kind;
+      size = length-first (o .n) (o .ta) (o .ts) (weightsOf o) (o .own) (o .session) (o .input) (o .coins) (o .boxed);
+      is-n = first-n (o .n) (o .ta) (o .ts) (weightsOf o) (o .own) (o .session) (o .input) (o .coins) (o .boxed);
+      is-ta = first-ta (o .n) (o .ta) (o .ts) (weightsOf o) (o .own) (o .session) (o .input) (o .coins) (o .boxed);
+      is-ts = first-ts (o .n) (o .ta) (o .ts) (weightsOf o) (o .own) (o .session) (o .input) (o .coins) (o .boxed);
+      is-weights = first-weights (o .n) (o .ta) (o .ts) (weightsOf o) (o .own) (o .session) (o .input) (o .coins) (o .boxed) (r .few);
+      is-boxed = first-boxed (o .n) (o .ta) (o .ts) (weightsOf o) (o .own) (o .session) (o .input) (o .coins) (o .boxed) (r .few);
+      is-own = first-own (o .n) (o .ta) (o .ts) (weightsOf o) (o .own) (o .session) (o .input) (o .coins) (o .boxed);
+      is-session = first-session (o .n) (o .ta) (o .ts) (weightsOf o) (o .own) (o .session) (o .input) (o .coins) (o .boxed);
+      is-input = first-input (o .n) (o .ta) (o .ts) (weightsOf o) (o .own) (o .session) (o .input) (o .coins) (o .boxed);
       fits =
-          fit-first (o .n) (o .ta) (o .ts) (weightsOf o) (o .own) (o .session) (o .input) (o .coins)
+          fit-first (o .n) (o .ta) (o .ts) (weightsOf o) (o .own) (o .session) (o .input) (o .coins) (o .boxed)
           (omega (arith, r .few))
           (omega (arith, r .few, r .ordered, r .margin, whole-few (agreed o .settings) r))
           (omega (arith, r .few, r .margin, whole-few (agreed o .settings) r))
@@ -87,14 +93,15 @@ first-belongs o r lo hi =
           (omega (arith, o .session-fits))
           (o .input-fits)
           (weights-fit (o .n) (o .weights))
+          (omega (arith, kind))
           (λ i. coin-below (o .coins) i (o .coins-fit));
     }
 
 module _ (o : Arguments) (few : o .n ≤ 16) where
-  zero-at : (a : ℕ) → 24 ≤ a → (a ≡ 141 → ⊥) → word (first o) a ≡ 0
-  zero-at = first-zero (o .n) (o .ta) (o .ts) (weightsOf o) (o .own) (o .session) (o .input) (o .coins) few
+  zero-at : (a : ℕ) → 24 ≤ a → (a ≤ 142 → a < 141) → word (first o) a ≡ 0
+  zero-at = first-zero (o .n) (o .ta) (o .ts) (weightsOf o) (o .own) (o .session) (o .input) (o .coins) (o .boxed) few
 
-  no-mark : (a j : ℕ) → 24 ≤ a → (a ≡ 141 → ⊥) → marked (first o) a j ≡ true → ⊥
+  no-mark : (a j : ℕ) → 24 ≤ a → (a ≤ 142 → a < 141) → marked (first o) a j ≡ true → ⊥
   unfolding marked
   no-mark a j h ne e = true≢false (sym e ∙ ap (λ (x : ℕ). mark x j) (zero-at a h ne) ∙ mark-zero j)
 
@@ -124,19 +131,43 @@ module _ (o : Arguments) (few : o .n ≤ 16) where
   none-decided i b (zero e) = no-mark _ i (omega arith) (λ z. omega arith) e
   none-decided i b (one e) = no-mark _ i (omega arith) (λ z. omega arith) e
 
+  -- where coins are printed they stand there; where they are boxed none does
+  first-coins : CoinsGiven (o .n) (o .coins) (o .boxed) → (i r : ℕ) (c : Bool) → CoinShown (first o) i r c → (eqb (o .boxed) 1 ≡ false) × (c ≡ mark (item (o .coins) i) r)
+  unfolding coinKnown printed coinRecorded coin marked
+  first-coins given i r c k = go (ℕ-discrete (o .boxed) 0)
+    where
+      kind : word (first o) boxedAt ≡ o .boxed
+      kind = first-boxed (o .n) (o .ta) (o .ts) (weightsOf o) (o .own) (o .session) (o .input) (o .coins) (o .boxed) few
+
+      high : i ≤ o .n
+      high = omega (arith, k .high, first-n (o .n) (o .ta) (o .ts) (weightsOf o) (o .own) (o .session) (o .input) (o .coins) (o .boxed))
+
+      coin-word : word (first o) (coinAt i) ≡ item (o .coins) i
+      coin-word = first-coin (o .n) (o .ta) (o .ts) (weightsOf o) (o .own) (o .session) (o .input) (o .coins) (o .boxed) few i (k .low) high
+
+      none : (o .boxed ≡ 0 → ⊥) → coinKnown (first o) i r ≡ false
+      none z = rw (kind, ne-eqb (o .boxed) 0 z, coin-word, given .zero z i (k .low) high, mark-zero r, mark-zero (zeroMark r))
+
+      go : Dec (o .boxed ≡ 0) → (eqb (o .boxed) 1 ≡ false) × (c ≡ mark (item (o .coins) i) r)
+      go (yes z) = (rw z, sym (k .same) ∙ ap (λ (x : ℕ). mark x r) coin-word)
+      go (no z) = absurd (true≢false (sym (k .known) ∙ none z))
+
 -- ---- the laws
 
 pub open-belongs : (w : List ℕ) (o : Arguments) → engine .opens w o ≡ true → Belonging o (engine .opened w o)
 open-belongs w o e =
     let r = open-ruled w o e in
     subst (Belonging o) (sym (opened-first w o e))
-    (record { words = first-belongs o r (own-within w o e .0) (own-within w o e .1); sets = first-sets o (r .few) })
+    (record { words = first-belongs o r (own-within w o e .0) (own-within w o e .1) (coins-told w o e .kind); sets = first-sets o (r .few) })
 
-pub open-blank : (H : ℕ → Bool) (w : List ℕ) (o : Arguments) → engine .opens w o ≡ true → Blank (at engine engineReading H o) engineSeen (engine .opened w o)
-open-blank H w o e =
+pub open-blank : (H : ℕ → Bool) (κ : ℕ → ℕ → Bool) (w : List ℕ) (o : Arguments) → engine .opens w o ≡ true → Blank (at engine engineReading H κ o) engineSeen (engine .opened w o)
+open-blank H κ w o e =
     let few = open-ruled w o e .few in
-    subst (Blank (at engine engineReading H o) engineSeen) (sym (opened-first w o e))
+    subst (Blank (at engine engineReading H κ o) engineSeen) (sym (opened-first w o e))
     (record { held = λ m x lo hi h. none-held o few m x (omega (arith, few)) h; decs = λ i b lo hi d. none-decided o few i b d })
+
+pub open-coins : (w : List ℕ) (o : Arguments) → engine .opens w o ≡ true → (i r : ℕ) (c : Bool) → CoinShown (engine .opened w o) i r c → (engine .boxed (agreed o) ≡ false) × (c ≡ engine .coin (agreed o) i r)
+open-coins w o e i r c k = first-coins o (open-ruled w o e .few) (coins-told w o e) i r c (rw (opened-first w o e) at k)
 
 pub open-refused : (w : List ℕ) (o : Arguments) → engine .opens w o ≡ false → engine .opened w o ≡ w
 unfolding openNumber openedWords opened

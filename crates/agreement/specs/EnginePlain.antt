@@ -1,15 +1,25 @@
--- A list without restores that meets the conditions as they were before there were any meets those of specs/Calls.antt: nothing that demand 3
--- says of such lists is lost.
+-- In a session with printed coins the conditions as they were before there were recordings, and in lists without restores as they were before
+-- there were any, give those of specs/Calls.antt: nothing that demand 3 says of such lists is lost.
 use Prim.Native.Nat.{ℕ}
-use mathlib.Core.Bool.{Bool, true}
+use mathlib.Core.Bool.{Bool, true, false}
 use mathlib.Core.List.{List}
 use mathlib.Core.Path.{_≡_, ap}
 use Rattle.journal.specs.Journal.{acts}
-use Rattle.agreement.specs.Calls.{Call, engine, Agreed, Bytes, TurnLent, SendsBytes, Conditions}
-use Rattle.agreement.specs.Plain.{Plain, PlainConditions, plain-conditions}
+use Rattle.agreement.specs.Calls.{Call, Conditions}
+use Rattle.agreement.specs.EngineCalls.{engine, Agreed, Bytes, TurnLent, SendsBytes}
+use Rattle.agreement.specs.Plain.{PrintedConditions, printed-conditions, Plain, PlainConditions, plain-conditions}
 
+-- restores and recordings may stand in the list
+unfoldable pub PrintedMeets : Type 0
+PrintedMeets = (start : ℕ → List ℕ) (S : Agreed) (H : ℕ → Bool) (cs : List (Call engine)) → engine .boxed S ≡ false → PrintedConditions engine start S H cs → Conditions engine start S H cs
+
+pub printed-meets : PrintedMeets
+unfolding PrintedMeets
+printed-meets start S H cs = printed-conditions engine start S H cs
+
+-- recordings may stand in the list
 unfoldable pub PlainMeets : Type 0
-PlainMeets = (start : ℕ → List ℕ) (S : Agreed) (H : ℕ → Bool) (cs : List (Call engine)) → Plain engine cs → PlainConditions engine start S H cs → Conditions engine start S H cs
+PlainMeets = (start : ℕ → List ℕ) (S : Agreed) (H : ℕ → Bool) (cs : List (Call engine)) → engine .boxed S ≡ false → Plain engine cs → PlainConditions engine start S H cs → Conditions engine start S H cs
 
 -- a turn that sends acts
 sends-act : (w : List ℕ) (l : TurnLent) (b : Bytes) → SendsBytes w l b → engine .acts w l ≡ true

@@ -8,7 +8,7 @@ use lib.ListN.{length, drop}
 use Rattle.settings.specs.Laws.{Ruled}
 use Rattle.settings.specs.Settings.{namedTa}
 use Rattle.settings.specs.declared.Settings.{Settings}
-use Rattle.records.specs.Layout.{nAt, taAt, tsAt, ownAt, sessionAt, inputAt, weightsAt, coinAt}
+use Rattle.records.specs.Layout.{nAt, taAt, tsAt, ownAt, sessionAt, inputAt, weightsAt, boxedAt}
 use Rattle.records.specs.Words.{word}
 use Rattle.records.specs.Records.{commitCount, commitSet}
 use Rattle.acts.specs.declared.Act as acts
@@ -18,14 +18,13 @@ use Rattle.wire.specs.Message.{countOf}
 use Rattle.wire.specs.Reading.{readMessage}
 use Rattle.wire.specs.declared.Message as wire
 use Rattle.wire.specs.declared.Parsed.the-variants.{Taken}
-use Rattle.opening.specs.Given.{item}
 use Rattle.turn.specs.Due.{due, commitDue}
 use Rattle.turn.specs.Turn.{admits}
 use Rattle.turn.specs.declared.Admitted.{Admitted}
 use Rattle.turn.specs.declared.Admitted.the-variants as admitted
 use Rattle.held.specs.Held.{Message, meaning}
 use Rattle.agreement.specs.History.{Act, send, echo, ready, start, relay, aux, move, commit}
-use Rattle.agreement.specs.Calls.{Arguments, weightsOf, Agreed, agreed, Bytes, TurnLent, engine}
+use Rattle.agreement.specs.EngineCalls.{Arguments, weightsOf, Agreed, agreed, Bytes, TurnLent, engine}
 use Rattle.agreement.specs.Laws.{Reading}
 use Rattle.agreement.specs.EngineSeen.{engineSeen}
 use Rattle.agreement.specs.EngineLent.{forMessage}
@@ -35,15 +34,16 @@ pub record Belongs (o : Arguments) (w : List ℕ) : Type 0 where
   pub ruled : Ruled (agreed o .settings)
   pub own-low : 1 ≤ o .own
   pub own-high : o .own ≤ o .n
+  pub kind : o .boxed ≤ 1
   pub size : length w ≡ 2048
   pub is-n : word w nAt ≡ o .n
   pub is-ta : word w taAt ≡ namedTa (o .n) (o .ta) (o .ts) (weightsOf o)
   pub is-ts : word w tsAt ≡ o .ts
   pub is-weights : word w weightsAt ≡ weightsOf o
+  pub is-boxed : word w boxedAt ≡ o .boxed
   pub is-own : word w ownAt ≡ o .own
   pub is-session : word w sessionAt ≡ o .session
   pub is-input : word w inputAt ≡ o .input
-  pub is-coin : (i : ℕ) → 1 ≤ i → i ≤ o .n → word w (coinAt i) ≡ item (o .coins) i
   pub fits : (j : ℕ) → word w j < 2 ^ 64
 
 -- the COMMITs that are held are as messages have them

@@ -30,7 +30,8 @@ use Rattle.agreement.specs.Evidence.{World, whole}
 use Rattle.agreement.specs.History.{Act, Names}
 use Rattle.held.specs.Held.{COMMIT}
 use Rattle.agreement.specs.Runs.{HeldFrom, OutputsHeld}
-use Rattle.agreement.specs.Calls.{Arguments, agreed, TurnLent, ReportNames, ReportEnforces, engine, world}
+use Rattle.agreement.specs.Calls.{worldWith}
+use Rattle.agreement.specs.EngineCalls.{Arguments, agreed, TurnLent, ReportNames, ReportEnforces, engine}
 use Rattle.agreement.specs.EngineSeen.{engineSeen}
 use Rattle.agreement.specs.EngineLent.{forMessage}
 use Rattle.agreement.specs.EngineReading.{Belongs, admittedAct, actOf}
@@ -41,9 +42,9 @@ use Rattle.agreement.specs.EngineTurn.{settings-same}
 read-set : (k : ℕ) (xs old all X : List ℕ) → X ≡ take k all → all ≡ atFront xs old → k ≡ length xs → X ≡ xs
 read-set k xs old all X e f h = e ∙ ap (take k) f ∙ ap (λ (n : ℕ). take n (atFront xs old)) h ∙ front-read xs old
 
-module _ (o : Arguments) (H : ℕ → Bool) (w : List ℕ) (x : Belongs o w) where
+module _ (o : Arguments) (H : ℕ → Bool) (κ : ℕ → ℕ → Bool) (w : List ℕ) (x : Belongs o w) where
   abbrev W : World
-  W = world engine (agreed o) H
+  W = worldWith engine (agreed o) H κ
 
   -- what holds with the stored settings holds with those of the opening
   with-settings : (P : Settings → Type 0) → P (settingsOf w) → P (agreed o .settings)

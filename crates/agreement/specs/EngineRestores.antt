@@ -15,16 +15,19 @@ use Rattle.journal.specs.Laws.{acts-outcome}
 use Rattle.restore.specs.Restoring.{MESSAGE-BYTES, lengthAgain, bytesAgain, replayAnswer, replayWords, replayBytes, lentAnswer, restoreAnswer, restoredWords, restoredBytes}
 use Rattle.restore.specs.declared.Restored.the-variants as answer
 use Rattle.agreement.specs.Moments.{Within, now}
-use Rattle.agreement.specs.Calls.{Call, engine, Agreed, Arguments, Bytes, TurnLent, SendsBytes, Moment, Journal, words, bytes, complete, journal, lastTurn, Opened, Conditions}
+use Rattle.agreement.specs.Calls.{Call, Moment, Journal, words, bytes, complete, journal, lastTurn, Opened, Conditions}
+use Rattle.agreement.specs.EngineCalls.{engine, Agreed, Arguments, Bytes, TurnLent, SendsBytes}
 use Rattle.agreement.specs.Openings.{opened-known}
+use Rattle.agreement.specs.Coins.{coinsOf, agreeing-coined}
 use Rattle.agreement.specs.Journals.{cut-at, complete-within}
-use Rattle.agreement.specs.Laws.{Ran, by-opening, by-delivery, by-turn}
+use Rattle.agreement.specs.Laws.{Ran, by-opening, by-delivery, by-turn, by-recording}
 use Rattle.agreement.specs.Chains.{known-live}
 use Rattle.agreement.specs.Lists.{all-good}
 use Rattle.agreement.specs.EngineReading.{Belonging, engineReading}
 use Rattle.agreement.specs.EngineOpening.{open-belongs}
 use Rattle.agreement.specs.EngineDelivery.{deliver-accepted}
 use Rattle.agreement.specs.EngineTurn.{turn-belongs, sends-again}
+use Rattle.agreement.specs.EngineRecording.{record-accepted}
 use Rattle.agreement.specs.EngineJournal.{Last, wordsBefore, CutRead, cut-read}
 use Rattle.agreement.specs.EngineDemand.{engine-laws}
 
@@ -77,10 +80,13 @@ ran-ours : (t w : List ℕ) (last : Last) → Ran engine t w last → Ours w
 ran-ours _ _ _ (by-opening w o e) = record { by-opening = o; belongs = open-belongs w o e }
 ran-ours _ _ _ (by-delivery t w last m b r e) =
     let x = ran-ours t w last r in
-    record { by-opening = x .by-opening; belongs = deliver-accepted (λ p. true) (x .by-opening) w (x .belongs) m b e .belongs }
+    record { by-opening = x .by-opening; belongs = deliver-accepted (λ p. true) (λ i r. true) (x .by-opening) w (x .belongs) m b e .belongs }
 ran-ours _ _ _ (by-turn t w last l r e) =
     let x = ran-ours t w last r in
     record { by-opening = x .by-opening; belongs = turn-belongs (x .by-opening) w (x .belongs) l }
+ran-ours _ _ _ (by-recording t w last b r e) =
+    let x = ran-ours t w last r in
+    record { by-opening = x .by-opening; belongs = record-accepted (λ p. true) (λ i r. true) (x .by-opening) w (x .belongs) b e .belongs }
 
 -- a turn that wrote the last line acted, at words of a session
 record Acting (w : List ℕ) (l : TurnLent) : Type 0 where
@@ -95,6 +101,7 @@ ran-acted : (t w : List ℕ) (last : Last) → Ran engine t w last → Acted las
 ran-acted _ _ _ (by-opening w o e) = tt
 ran-acted _ _ _ (by-delivery t w last m b r e) = tt
 ran-acted _ _ _ (by-turn t w last l r e) = record { acted = e; ours = ran-ours t w last r }
+ran-acted _ _ _ (by-recording t w last x r e) = tt
 
 again-length : (last : Last) → Acted last → lengthAgain (wordsBefore last) ≡ sentAgain last
 unfolding lengthAgain
@@ -126,10 +133,12 @@ read-gives start p d lines text v lent a x size room =
 pub restore-gives : RestoreGives
 unfolding RestoreGives
 restore-gives S H start cs k p o text cut d ks e v lent size room =
-    let laws = engine-laws H in
-    let good = all-good engine engineReading H laws start S cs cs now k cs now in
+    let κ = coinsOf engine engineReading start S cs in
+    let laws = engine-laws H κ in
+    let coined = agreeing-coined engine engineReading start (λ w x e. laws .record-binary w x e) S cs (k .coins) in
+    let good = all-good engine engineReading H κ laws start S cs coined cs now k cs now in
     let x = opened-known engine engineReading start cs p o in
-    let live = known-live engine engineReading H start S cs cs good p (x .by-opening) (x .known) in
+    let live = known-live engine engineReading H κ start S cs cs good p (x .by-opening) (x .known) in
     let js = journal engine start cs p in
     let at = cut-at engine (length text) js in
     let inside : Within (d ∷ ks) js = rw e at (complete-within engine (length text) js) in

@@ -26,7 +26,7 @@ use Rattle.broadcasts.specs.Broadcasts.{output}
 use Rattle.broadcasts.specs.Laws.{holders-some, ready-rests, output-holders}
 use Rattle.broadcasts.specs.declared.Output.the-variants.{Value}
 use Rattle.votes.specs.Votes.{estimate}
-use Rattle.votes.specs.Told.{Shown}
+use Rattle.votes.specs.Told.{MoveTold, Shown}
 use Rattle.exits.specs.Exits.{Exit, outputsOfS}
 use Rattle.exits.specs.Stated.{singleExit, outputsExit}
 use Rattle.exits.specs.Exits.{noExit}
@@ -55,7 +55,9 @@ use Rattle.agreement.specs.Evidence.{World}
 use Rattle.agreement.specs.History.{Act, commit, move}
 use Rattle.held.specs.Held.{Message, EST, meaning}
 use Rattle.agreement.specs.Runs as runs
-use Rattle.agreement.specs.Calls.{Arguments, agreed, Bytes, engine, world}
+use Rattle.agreement.specs.Calls.{worldWith}
+use Rattle.agreement.specs.EngineCalls.{Arguments, agreed, Bytes, engine}
+use Rattle.agreement.specs.EngineSeen.{engineSeen}
 use Rattle.agreement.specs.EngineLent.{SendsPlain}
 use Rattle.agreement.specs.EngineReading.{Belongs, Sets, shownAct, Says}
 use Rattle.agreement.specs.EngineActed.{coin-same}
@@ -98,12 +100,12 @@ module _ (g : Settings) (s : List ℕ) (fit : Fit s) where
 
 -- ---- messages that may be sent
 
-module _ (o : Arguments) (H : ℕ → Bool) (w : List ℕ) (x : Belongs o w) (sets : Sets o w) where
+module _ (o : Arguments) (H : ℕ → Bool) (κ : ℕ → ℕ → Bool) (w : List ℕ) (x : Belongs o w) (coins : runs.CoinsAre (worldWith engine (agreed o) H κ) engineSeen w) (sets : Sets o w) where
   abbrev g : Settings
   g = agreed o .settings
 
   abbrev W : World
-  W = world engine (agreed o) H
+  W = worldWith engine (agreed o) H κ
 
   abbrev xs : List ℕ
   xs = commitDue g w
@@ -187,14 +189,14 @@ module _ (o : Arguments) (H : ℕ → Bool) (w : List ℕ) (x : Belongs o w) (se
         shows = rw all;
       }
 
-  move-sending : (i r : ℕ) (v : View) (m : wire.Message) → 1 ≤ i → i ≤ o .n → 1 ≤ r → estimate (records.coin w i r) v ≤ 1 → moveOutcome w i r v ≡ outcome.Sent m → Sending (some (move i r v)) m
+  move-sending : (i r : ℕ) (v : View) (m : wire.Message) → 1 ≤ i → i ≤ o .n → MoveTold g w i r v → estimate (records.coin w i r) v ≤ 1 → moveOutcome w i r v ≡ outcome.Sent m → Sending (some (move i r v)) m
   unfolding moveOutcome
-  move-sending i r v m lo hi begun bit e = go (ltb r 32) refl e
+  move-sending i r v m lo hi told bit e = go (ltb r 32) refl e
     where
       go : (b : Bool) → ltb r 32 ≡ b → cond b (outcome.Sent (message.Est i (r + 1) (estimate (records.coin w i r) v))) outcome.MovedOut ≡ outcome.Sent m → Sending (some (move i r v)) m
       go true l f =
           sending _ (message.Est i (r + 1) (estimate (records.coin w i r) v)) m f
-          (est-sending _ i (r + 1) (estimate (records.coin w i r) v) lo hi (omega arith) (omega (arith, ltb-true r 32 l)) bit (rw (coin-same o H w x i r lo hi) (ap (λ (q : ℕ). EST i q (estimate (W .coin i r) v)) (next r))))
+          (est-sending _ i (r + 1) (estimate (records.coin w i r) v) lo hi (omega arith) (omega (arith, ltb-true r 32 l)) bit (rw (coin-same o H κ w x coins g i r v lo hi told) (ap (λ (q : ℕ). EST i q (estimate (W .coin i r) v)) (next r))))
       go false l f = absurd (let z : _≡_ {A = ℕ} 0 1 = cc in omega arith)
 
   act-sending : (a : acts.Act) → ActTold g w a → (m : wire.Message) → outcomeOf (o .own) w a ≡ outcome.Sent m → Sending (shownAct g w a) m
@@ -214,7 +216,7 @@ module _ (o : Arguments) (H : ℕ → Bool) (w : List ℕ) (x : Belongs o w) (se
       sending _ (message.Aux i r b) m e
       (record { proper = single (message.Aux i r b) b (t .0 .low, t .0 .high, t .1 .low, t .1 .high, t .1 .bit) refl refl (omega (arith, t .1 .bit)); shows = refl })
   act-sending (act.Move i r v) t m e =
-      move-sending i r v m (t .0 .low) (t .0 .high) (t .1 .low) (estimate-bit (records.coin w i r) v (shown-bit i r v (t .1 .shown))) e
+      move-sending i r v m (t .0 .low) (t .0 .high) (t .1) (estimate-bit (records.coin w i r) v (shown-bit i r v (t .1 .shown))) e
 
   -- ---- the bytes of a turn that sends
 

@@ -36,12 +36,15 @@ use Rattle.journal.specs.Journal as journal
 use Rattle.journal.specs.Laws.{room-enough, acts-admitted}
 use Rattle.agreement.specs.Evidence.{World}
 use Rattle.agreement.specs.History.{Act, send}
-use Rattle.held.specs.Keeping.{count-back, set-back}
-use Rattle.agreement.specs.Calls.{Arguments, agreed, Bytes, TurnLent, SendsBytes, engine, world}
+use Rattle.held.specs.Keeping.{kept-holding, count-back, set-back}
+use Rattle.agreement.specs.Calls.{worldWith}
+use Rattle.agreement.specs.EngineCalls.{Arguments, agreed, Bytes, TurnLent, SendsBytes, engine}
+use Rattle.agreement.specs.Runs.{CoinsAre, CoinsStay}
 use Rattle.agreement.specs.Laws.{Turned}
+use Rattle.agreement.specs.EngineSeen.{engineSeen}
 use Rattle.agreement.specs.EngineLent.{forMessage, room-same, SendsPlain, sends-plain}
 use Rattle.agreement.specs.EngineReading.{Belongs, Sets, Belonging, shownAct, admittedAct, actOf, engineReading}
-use Rattle.agreement.specs.EngineKept.{belongs-applied}
+use Rattle.agreement.specs.EngineKept.{belongs-applied, coins-applied}
 use Rattle.agreement.specs.EngineDue.{ShownDue, shown-due}
 use Rattle.agreement.specs.EngineActed.{unchanged, kept-by, ShownActed, shown-acted}
 use Rattle.agreement.specs.EngineSent.{silent, shown-says, same-bytes}
@@ -100,8 +103,8 @@ module _ (o : Arguments) (w : List ℕ) (x : Belonging o w) (l : TurnLent) where
   sets-applied a told =
       let kept = applied-kept w a (told-placed g w (x .words .ruled) a told) in
       record {
-        rising = λ p lo hi. rw (set-back w (applied w a) (x .words .size) (length-applied w a) kept p lo (omega (arith, x .words .ruled .few))) (x .sets .rising p lo hi);
-        few = λ p lo hi. rw (count-back w (applied w a) (x .words .size) (length-applied w a) kept p lo (omega (arith, x .words .ruled .few))) (x .sets .few p lo hi);
+        rising = λ p lo hi. rw (set-back w (applied w a) (x .words .size) (length-applied w a) (kept-holding w (applied w a) kept) p lo (omega (arith, x .words .ruled .few))) (x .sets .rising p lo hi);
+        few = λ p lo hi. rw (count-back w (applied w a) (x .words .size) (length-applied w a) (kept-holding w (applied w a) kept) p lo (omega (arith, x .words .ruled .few))) (x .sets .few p lo hi);
       }
 
   pub turn-belongs : Belonging o (engine .turned w l)
@@ -116,11 +119,21 @@ module _ (o : Arguments) (w : List ℕ) (x : Belonging o w) (l : TurnLent) where
       go (admitted.Refused k) e = rw (refused-words o w (x .words) lent k e) x
       go (admitted.Open y) e = of (taken o w (x .words) lent y e)
 
+  coins-kept : CoinsStay engineSeen w (engine .turned w l)
+  coins-kept = rw (room-same l) (go (admits w (length lent)) refl)
+    where
+      of : Taken w lent (session o w (x .words)) → CoinsStay engineSeen w (turnWords w (length lent))
+      of t = rw (t .words) (coins-applied o w (x .words) (due g w) (told-placed g w (x .words .ruled) (due g w) (t .told)))
+
+      go : (v : Admitted) → admits w (length lent) ≡ v → CoinsStay engineSeen w (turnWords w (length lent))
+      go (admitted.Refused k) e = rw (refused-words o w (x .words) lent k e) (λ i r c y. y)
+      go (admitted.Open y) e = of (taken o w (x .words) lent y e)
+
   -- ---- what a turn tells
 
-  module _ (H : ℕ → Bool) where
+  module _ (H : ℕ → Bool) (κ : ℕ → ℕ → Bool) (coins : CoinsAre (worldWith engine (agreed o) H κ) engineSeen w) where
     abbrev W : World
-    W = world engine (agreed o) H
+    W = worldWith engine (agreed o) H κ
 
     due-shown : (a : acts.Act) → ActTold g w a → ShownDue W w (shownAct g w a)
     due-shown =
@@ -142,33 +155,36 @@ module _ (o : Arguments) (w : List ℕ) (x : Belonging o w) (l : TurnLent) where
     hidden : (a : acts.Act) → shownAct g w a ≡ none → (i r : ℕ) (v : View) → a ≡ act.Move i r v → ⊥
     hidden a e i r v f = let z : none ≡ shownAct g w (act.Move i r v) = sym e ∙ ap (shownAct g w) f in let y : _≡_ {A = ℕ} 0 1 = cc in omega arith
 
-    told-by : Taken w lent (session o w (x .words)) → (c : Option Act) → shownAct g w (due g w) ≡ c → ShownDue W w c → ShownActed o H w (x .words) (due g w) c → Turned engine engineReading H o w l c
+    told-by : Taken w lent (session o w (x .words)) → (c : Option Act) → shownAct g w (due g w) ≡ c → ShownDue W w c → ShownActed o H κ w (x .words) coins (due g w) c → Turned engine engineReading H κ o w l c
     told-by t none e d k =
         record {
-          kept = rw (room-same l, t .words) (kept-by o H w (x .words) (due g w) (told-placed g w (x .words .ruled) (due g w) (t .told)) (hidden (due g w) e));
-          silent = λ b h. silent o H w (x .words) (x .sets) lent t b (sends-plain w l b h) e;
+          kept = rw (room-same l, t .words) (kept-by o H κ w (x .words) coins (due g w) (told-placed g w (x .words .ruled) (due g w) (t .told)) (hidden (due g w) e));
+          coins = coins-kept;
+          silent = λ b h. silent o H κ w (x .words) coins (x .sets) lent t b (sends-plain w l b h) e;
         }
     told-by t (some a) e d k =
         record {
           due = d;
           acted = rw (room-same l, t .words) k;
-          says = λ b h. shown-says o H w (x .words) (x .sets) lent t b (sends-plain w l b h) a e;
+          coins = coins-kept;
+          says = λ b h. shown-says o H κ w (x .words) coins (x .sets) lent t b (sends-plain w l b h) a e;
           input = λ v f. input-shown (due g w) (t .told) v (e ∙ ap some f);
         }
 
-    pub turn-told : Turned engine engineReading H o w l (actOf w l)
+    pub turn-told : Turned engine engineReading H κ o w l (actOf w l)
     unfolding actOf admittedAct
     turn-told = go (admits w (length lent)) refl
       where
-        open-told : (y : Session) → admits w (length lent) ≡ admitted.Open y → Taken w lent (session o w (x .words)) → Turned engine engineReading H o w l (shownAct (y .settings) w (due (y .settings) w))
+        open-told : (y : Session) → admits w (length lent) ≡ admitted.Open y → Taken w lent (session o w (x .words)) → Turned engine engineReading H κ o w l (shownAct (y .settings) w (due (y .settings) w))
         open-told y e t =
             rw (taken-session o w (x .words) lent y e)
-            (told-by t (shownAct g w (due g w)) refl (due-shown (due g w) (t .told)) (shown-acted o H w (x .words) g (x .words .ruled) (due g w) (t .told)))
+            (told-by t (shownAct g w (due g w)) refl (due-shown (due g w) (t .told)) (shown-acted o H κ w (x .words) coins g (x .words .ruled) (due g w) (t .told)))
 
-        go : (v : Admitted) → admits w (length lent) ≡ v → Turned engine engineReading H o w l (admittedAct v w)
+        go : (v : Admitted) → admits w (length lent) ≡ v → Turned engine engineReading H κ o w l (admittedAct v w)
         go (admitted.Refused k) e =
             record {
-              kept = rw (room-same l, refused-words o w (x .words) lent k e) (unchanged o H w (x .words));
+              kept = rw (room-same l, refused-words o w (x .words) lent k e) (unchanged o H κ w (x .words) coins);
+              coins = coins-kept;
               silent = λ b h. refused-silent o w (x .words) lent k e b (sends-plain w l b h);
             }
         go (admitted.Open y) e = open-told y e (taken o w (x .words) lent y e)
@@ -216,4 +232,4 @@ module _ (o : Arguments) (w : List ℕ) (x : Belonging o w) (l : TurnLent) (b : 
       at : (v : Admitted) → admits w (length (forMessage l)) ≡ v → take (lengthOf (plain .message)) (turnBytes w (forMessage l)) ≡ take (lengthOf (plain .message)) (turnBytes w lent)
       at (admitted.Refused k) e = absurd (refused-silent o w (x .words) (forMessage l) k e b plain)
       at (admitted.Open y) e =
-          same-bytes o (λ p. true) w (x .words) (x .sets) (forMessage l) lent (taken o w (x .words) (forMessage l) y e) (taken o w (x .words) lent y (same-admitted ∙ e)) (plain .message) (plain .outcome)
+          same-bytes o (λ p. true) (coin w) w (x .words) (λ i r c k. sym (k .same)) (x .sets) (forMessage l) lent (taken o w (x .words) (forMessage l) y e) (taken o w (x .words) lent y (same-admitted ∙ e)) (plain .message) (plain .outcome)

@@ -11,7 +11,7 @@ use lib.ListN.{length, take, drop, length-append, length-drop, take-append-drop}
 use lib.Seq.{take-all, take-nil, take-append-le, take-append-add}
 use borrow.Author.Tests.{eqb-true, leb-true, leb-false, le-leb}
 use Rattle.agreement.specs.Moments.{Within, now, after, within-tail, within-trans, within-cases, within-none}
-use Rattle.agreement.specs.Calls.{Machine, Call, opening, delivery, turn, report, restore, Moment, Journal, place, words, newest, bytes, complete, wrote, Stands, journal, Opened, Sent, Departed, Conditions, world}
+use Rattle.agreement.specs.Calls.{Machine, Call, opening, delivery, turn, report, restore, recording, Moment, Journal, place, words, newest, bytes, complete, wrote, Stands, journal, Opened, Sent, Departed, Recorded, Conditions, world}
 use Rattle.agreement.specs.Evidence.{Honest}
 use Rattle.agreement.specs.Laws.{Torn, nothing, part}
 
@@ -81,6 +81,9 @@ module _ (M : Machine) where
               }
 
 module _ (M : Machine) (start : ℕ → M .Words) (S : M .Session) (H : ℕ → Bool) where
+  recorded-within : {ds cs : List (Call M)} (p : ℕ) (x : M .Recording) → Within ds cs → Recorded M start ds p x → Recorded M start cs p x
+  recorded-within p x v a = record { past = a .past; within = within-trans (a .within) v; opened = a .opened; accepted = a .accepted }
+
   pub conditions-within : {ds cs : List (Call M)} → Within ds cs → Conditions M start S H cs → Conditions M start S H ds
   conditions-within v k =
       record {
@@ -90,6 +93,7 @@ module _ (M : Machine) (start : ℕ → M .Words) (S : M .Session) (H : ℕ → 
         credited = λ p m b es w. k .credited p m b es (within-trans w v);
         falls-back = λ p u r es w. k .falls-back p u r es (within-trans w v);
         not-lost = λ p u r es w. k .not-lost p u r es (within-trans w v);
+        coins = λ boxed p q x y a b. k .coins boxed p q x y (recorded-within p x v a) (recorded-within q y v b);
       }
 
 module _ (M : Machine) (start : ℕ → M .Words) where
@@ -130,6 +134,7 @@ module _ (M : Machine) (start : ℕ → M .Words) where
       call (turn q l) v = by-call (M .acts w l) v
       call (report q r) v = old v
       call (restore q u r) v = by-restore (M .restores u r) (length (M .text r)) v
+      call (recording q x) v = by-call (M .records w x) v
 
   pub journal-within : (cs : List (Call M)) (p : ℕ) (d : Moment M) (ks : Journal M) → Within (d ∷ ks) (journal M start cs p) → Within d cs
   unfolding journal
@@ -170,6 +175,7 @@ module _ (M : Machine) (start : ℕ → M .Words) where
     sent-step (delivery q n a) cs k falls s true e = moved (delivery q n a) cs s (rw e (by-line (turn m (s .lent) ∷ s .past) (delivery q n a ∷ cs) (journal M start cs m) (s .stands) (M .accepts (words M start cs m) n a)))
     sent-step (turn q l) cs k falls s true e = moved (turn q l) cs s (rw e (by-line (turn m (s .lent) ∷ s .past) (turn q l ∷ cs) (journal M start cs m) (s .stands) (M .acts (words M start cs m) l)))
     sent-step (report q r) cs k falls s true e = moved (report q r) cs s (rw e (s .stands))
+    sent-step (recording q x) cs k falls s true e = moved (recording q x) cs s (rw e (by-line (turn m (s .lent) ∷ s .past) (recording q x ∷ cs) (journal M start cs m) (s .stands) (M .records (words M start cs m) x)))
     sent-step (restore q v r) cs k falls s true e = go (M .restores v r) refl
       where
         go : (t : Bool) → M .restores v r ≡ t → Sent M start (restore q v r ∷ cs) m b

@@ -10,10 +10,13 @@ pub mod Calls
 pub mod Laws
 pub mod Openings
 pub mod Journals
+pub mod Coins
 pub mod Plain
 pub mod Chains
+pub mod Recordings
 pub mod Lists
 pub mod Demand
+pub mod EngineCalls
 pub mod EngineSeen
 pub mod EngineLent
 pub mod EngineReading
@@ -25,6 +28,7 @@ pub mod EngineActed
 pub mod EngineSent
 pub mod EngineTurn
 pub mod EngineReport
+pub mod EngineRecording
 pub mod EngineJournal
 pub mod EngineDemand
 pub mod EngineRestores

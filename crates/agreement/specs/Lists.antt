@@ -14,36 +14,42 @@ use Rattle.agreement.specs.Evidence.{World, Honest}
 use Rattle.agreement.specs.History.{Act, History, Did, Lawful, Single}
 use Rattle.held.specs.Held.{Message, ECHO, AUX}
 use Rattle.agreement.specs.Moments.{Within, now, after, within-tail, within-trans, within-cases, within-none}
-use Rattle.agreement.specs.Runs.{Said, message, echo-of, aux-of, said-of, Gone, Credit, due-guard, inv-blank, inv-fewer, inv-kept, inv-delivered, inv-acted}
-use Rattle.agreement.specs.Calls.{Machine, Call, opening, delivery, turn, report, restore, Moment, Journal, world, place, left, words, wrote, bytes, complete, journal, lastTurn, Sent, FallsBack, Conditions}
+use Rattle.agreement.specs.Runs.{Said, message, echo-of, aux-of, said-of, Gone, Credit, CoinsAre, due-guard, inv-blank, inv-fewer, inv-kept, inv-delivered, inv-acted}
+use Rattle.agreement.specs.Calls.{Machine, Call, opening, delivery, turn, report, restore, recording, Moment, Journal, world, worldWith, place, left, words, wrote, bytes, complete, journal, lastTurn, Sent, FallsBack, Conditions}
 use Rattle.agreement.specs.Laws.{Reading, Turned, Laws, by-opening, by-delivery, by-turn}
 use Rattle.agreement.specs.Openings.{none-some, becomes, did, tell, status, history, Known, opened-known, known-opened}
+use Rattle.agreement.specs.Coins.{Coined}
 use Rattle.agreement.specs.Journals.{cut-at, complete-within, journal-within, opened-within, conditions-within, departed-sent}
 use Rattle.agreement.specs.Chains.{noted, Noted, noted-within, words-here, history-within, belongs, ran, keeps, live-keep, live-line, elsewhere, known-live}
 use Rattle.agreement.specs.Chains as chains
+use Rattle.agreement.specs.Recordings.{first-coins, live-recording}
 
--- calls: the whole list
-module _ (M : Machine) (R : Reading M) (H : ℕ → Bool) (laws : Laws M R H) (start : ℕ → M .Words) (S : M .Session) (calls : List (Call M)) where
+-- calls: the whole list; κ: its coins
+module _ (M : Machine) (R : Reading M) (H : ℕ → Bool) (κ : ℕ → ℕ → Bool) (laws : Laws M R H κ) (start : ℕ → M .Words) (S : M .Session) (calls : List (Call M)) (coined : Coined M start S κ calls) where
   abbrev W : World
-  W = world M S H
+  W = worldWith M S H κ
+
+  -- who is honest does not turn on coins
+  listed : (m : ℕ) → Honest W m → Honest (world M S H) m
+  listed m h = record { low = h .low; high = h .high; fair = h .fair }
 
   abbrev Left : ℕ → Message → Type 0
-  Left = chains.Left M R H start S calls
+  Left = chains.Left M R H κ start S calls
 
   abbrev Keeps : History → (Act → Type 0) → ℕ → M .Words → Type 0
-  Keeps = chains.Keeps M R H start S calls
+  Keeps = chains.Keeps M R H κ start S calls
 
   abbrev Point : M .Opening → History → ℕ → Moment M → Journal M → Type 0
-  Point = chains.Point M R H start S calls
+  Point = chains.Point M R H κ start S calls
 
   abbrev Live : M .Opening → History → ℕ → M .Words → Journal M → Type 0
-  Live = chains.Live M R H start S calls
+  Live = chains.Live M R H κ start S calls
 
   abbrev At : Option (M .Opening) → History → ℕ → M .Words → Journal M → Type 0
-  At = chains.At M R H start S calls
+  At = chains.At M R H κ start S calls
 
   abbrev Good : List (Call M) → Type 0
-  Good = chains.Good M R H start S calls
+  Good = chains.Good M R H κ start S calls
 
   -- ---- what is credited was said
 
@@ -62,15 +68,15 @@ module _ (M : Machine) (R : Reading M) (H : ℕ → Bool) (laws : Laws M R H) (s
       within = journal-within M start cs m (turn m (sent .lent) ∷ sent .past) (sent .stands .older) (sent .stands .within)
 
       of : Known M R start (sent .past) m → SentAct cs m x (turn m (sent .lent) ∷ sent .past)
-      of k = go (R .act w (sent .lent)) refl (laws .turn-told (k .by-opening) w (belongs live) (sent .lent))
+      of k = go (R .act w (sent .lent)) refl (laws .turn-told (k .by-opening) w (belongs live) (keeps live .coins) (sent .lent))
         where
           w : M .Words
           w = words M start (sent .past) m
 
           live : Live (k .by-opening) (history M R start (sent .past)) m w (journal M start (sent .past) m)
-          live = known-live M R H start S calls (sent .past) (past (sent .past) (within-tail (turn m (sent .lent)) within)) m (k .by-opening) (k .known)
+          live = known-live M R H κ start S calls (sent .past) (past (sent .past) (within-tail (turn m (sent .lent)) within)) m (k .by-opening) (k .known)
 
-          go : (y : Option Act) → R .act w (sent .lent) ≡ y → Turned M R H (k .by-opening) w (sent .lent) y → SentAct cs m x (turn m (sent .lent) ∷ sent .past)
+          go : (y : Option Act) → R .act w (sent .lent) ≡ y → Turned M R H κ (k .by-opening) w (sent .lent) y → SentAct cs m x (turn m (sent .lent) ∷ sent .past)
           go none e q = absurd (q .silent b (sent .sends))
           go (some a) e q =
               let s : R .Says S m b (message W a) = rw (live .session, live .numbered) at (q .says b (sent .sends)) in
@@ -129,7 +135,7 @@ module _ (M : Machine) (R : Reading M) (H : ℕ → Bool) (laws : Laws M R H) (s
             record {
               belongs = rw here (laws .open-belongs w o t);
               ran = rw here (by-opening w o t);
-              keeps = rw here (inv-blank W (R .seen) Left h (Noted M R start (d ∷ [])) p (M .opened w o) nothing (rw same at (laws .open-blank w o t)));
+              keeps = rw here (inv-blank W (R .seen) Left h (Noted M R start (d ∷ [])) p (M .opened w o) nothing (rw same at (laws .open-blank w o t)) (first-coins M R H κ laws start S calls coined w o same t));
             }
           where
             nothing : (a : Act) → Noted M R start (d ∷ []) a → ⊥
@@ -195,11 +201,11 @@ module _ (M : Machine) (R : Reading M) (H : ℕ → Bool) (laws : Laws M R H) (s
             let says : R .Says S m b (x .said) = rw (live .session) at (x .says) in
             let credit : Honest W m → Credit W (R .seen) Left h m (x .said) =
             λ hm. record {
-              said = credit-said cs past m b (x .said) says (c .credited p m b cs now is-opened t hm);
+              said = credit-said cs past m b (x .said) says (c .credited p m b cs now is-opened t (listed m hm));
               gone = record { bytes = b; departed = record { who = p; past = cs; within = inside; opened = is-opened; accepted = t }; honest = hm; says = says };
             } in
             let here : words M start d p ≡ M .delivered w m b = words-here M R start (delivery p m b) cs in
-            let kept = inv-delivered W (R .seen) Left h (Noted M R start js) p w (M .delivered w m b) (keeps live) m (x .said) credit (rw (live .session) at (x .holds)) in
+            let kept = inv-delivered W (R .seen) Left h (Noted M R start js) p w (M .delivered w m b) (keeps live) (λ i r k y. keeps live .coins i r k (x .coins i r k y)) m (x .said) credit (rw (live .session) at (x .holds)) in
             live-line live none d (M .delivered w m b) here
             (record {
               belongs = rw here (x .belongs);
@@ -242,12 +248,12 @@ module _ (M : Machine) (R : Reading M) (H : ℕ → Bool) (laws : Laws M R H) (s
               keeps = rw here k;
             })
 
-        took : (o : M .Opening) → Live o h p w js → (x : Option Act) → R .act w l ≡ x → Turned M R H o w l x → Lawful W (Gone W (R .seen) Left) (tell M R p x h) × Live o (tell M R p x h) p (M .turned w l) (cond (M .acts w l) (d ∷ js) js)
+        took : (o : M .Opening) → Live o h p w js → (x : Option Act) → R .act w l ≡ x → Turned M R H κ o w l x → Lawful W (Gone W (R .seen) Left) (tell M R p x h) × Live o (tell M R p x h) p (M .turned w l) (cond (M .acts w l) (d ∷ js) js)
         took o live none e q = (
           good-now .lawful,
           written o live none
               (inv-fewer W (R .seen) Left h (Noted M R start js) (Noted M R start (d ∷ js)) p (M .turned w l) older
-              (inv-kept W (R .seen) Left h (Noted M R start js) p w (M .turned w l) (keeps live) (rw (live .session) at (q .kept))))
+              (inv-kept W (R .seen) Left h (Noted M R start js) p w (M .turned w l) (keeps live) (λ i r k y. keeps live .coins i r k (q .coins i r k y)) (rw (live .session) at (q .kept))))
               (M .acts w l) refl,
         )
           where
@@ -259,7 +265,7 @@ module _ (M : Machine) (R : Reading M) (H : ℕ → Bool) (laws : Laws M R H) (s
             let due = rw (live .session) at (q .due) in (
               (good-now .lawful, due-guard W (R .seen) Left h (Noted M R start js) p w (keeps live) outs a due),
               written o live (some a)
-                  (inv-acted W (R .seen) Left h (Noted M R start js) p w (M .turned w l) (keeps live) a due (rw (live .session) at (q .acted)) (Noted M R start (d ∷ js)) only)
+                  (inv-acted W (R .seen) Left h (Noted M R start js) p w (M .turned w l) (keeps live) (λ i r k y. keeps live .coins i r k (q .coins i r k y)) a due (rw (live .session) at (q .acted)) (Noted M R start (d ∷ js)) only)
                   (M .acts w l) refl,
             )
           where
@@ -267,10 +273,13 @@ module _ (M : Machine) (R : Reading M) (H : ℕ → Bool) (laws : Laws M R H) (s
             only b (inl f) = inl (let z : some a ≡ some b = sym e ∙ f in cc)
             only b (inr x) = inr x
 
+        coins-at : (o : M .Opening) (live : Live o h p w js) → CoinsAre (worldWith M (M .session o) H κ) (R .seen) w
+        coins-at o live = keeps live .coins
+
         go : (st : Option (M .Opening)) → At st h p w js → Placed (turn p l) st
         go none silent = record { lawful = good-now .lawful; at = tt }
         go (some o) live =
-            let x = took o live (R .act w l) refl (laws .turn-told o w (belongs live) l) in
+            let x = took o live (R .act w l) refl (laws .turn-told o w (belongs live) (coins-at o live) l) in
             record { lawful = x .0; at = x .1 }
 
     placed-restore : (p : ℕ) (v : M .Words) (r : M .Restore) → Conditions M start S H (restore p v r ∷ cs) → Placed (restore p v r) (now-status p)
@@ -311,12 +320,21 @@ module _ (M : Machine) (R : Reading M) (H : ℕ → Bool) (laws : Laws M R H) (s
         go none e silent = record { lawful = good-now .lawful; at = tt }
         go (some o) e live = record { lawful = good-now .lawful; at = verdict o e live (M .restores v r) refl }
 
+    placed-recording : (p : ℕ) (x : M .Recording) → Within (recording p x ∷ cs) calls → Placed (recording p x) (now-status p)
+    placed-recording p x inside = go (now-status p) refl (good-now .each p)
+      where
+        go : (st : Option (M .Opening)) → now-status p ≡ st → At st h p (now-words p) (now-journal p) → Placed (recording p x) st
+        go none e silent = record { lawful = good-now .lawful; at = tt }
+        go (some o) e live =
+            record { lawful = good-now .lawful; at = live-recording M R H κ laws start S calls coined cs p x inside (known-opened M R start cs p o e .is-opened) o h live (M .records (now-words p) x) refl }
+
     placed : (c : Call M) → Within (c ∷ cs) calls → Conditions M start S H (c ∷ cs) → Placed c (now-status (place M c))
     placed (opening p o) i c = placed-opening p o c
     placed (delivery p m b) i c = placed-delivery p m b i c
     placed (turn p l) i c = placed-turn p l
     placed (report p r) i c = record { lawful = good-now .lawful; at = good-now .each p }
     placed (restore p v r) i c = placed-restore p v r c
+    placed (recording p x) i c = placed-recording p x i
 
     step : (c : Call M) → Within (c ∷ cs) calls → Conditions M start S H (c ∷ cs) → Good (c ∷ cs)
     unfolding status history words journal
@@ -327,7 +345,7 @@ module _ (M : Machine) (R : Reading M) (H : ℕ → Bool) (laws : Laws M R H) (s
 
         at : (q : ℕ) → Dec (q ≡ place M c) → At (status M R start (c ∷ cs) q) (history M R start (c ∷ cs)) q (words M start (c ∷ cs) q) (journal M start (c ∷ cs) q)
         at q (yes e) = rw (e, eq-eqb (place M c) (place M c) refl) (here .at)
-        at q (no ne) = rw (ne-eqb q (place M c) ne) (elsewhere M R H start S calls (now-status q) (did M R c (now-words (place M c)) (now-status (place M c))) h (place M c) q (now-words q) (now-journal q) (good-now .each q))
+        at q (no ne) = rw (ne-eqb q (place M c) ne) (elsewhere M R H κ start S calls (now-status q) (did M R c (now-words (place M c)) (now-status (place M c))) h (place M c) q (now-words q) (now-journal q) (good-now .each q))
 
   -- ---- the whole list
 
@@ -358,10 +376,10 @@ module _ (M : Machine) (R : Reading M) (H : ℕ → Bool) (laws : Laws M R H) (s
 
     left-act : (m : ℕ) (x : Message) → Left m x → LeftAct m x
     left-act m x l =
-        let s = departed-sent M start S H m (l .bytes) calls conditions (l .honest) (l .departed) in
+        let s = departed-sent M start S H m (l .bytes) calls conditions (listed m (l .honest)) (l .departed) in
         let y = sent-act calls good m (l .bytes) x (l .says) s in
         let k = opened-known M R start calls m (opened-within M start m (within-tail (turn m (s .lent)) (journal-within M start calls m (turn m (s .lent) ∷ s .past) (s .stands .older) (s .stands .within))) (s .opened)) in
-        let live = known-live M R H start S calls calls (good calls now) m (k .by-opening) (k .known) in
+        let live = known-live M R H κ start S calls calls (good calls now) m (k .by-opening) (k .known) in
         record {
           act = y .act;
           says = y .says;

@@ -9,7 +9,7 @@ use lib.Dec.{eqb}
 use borrow.Author.Tests.{eq-eqb, eqb-true}
 use Rattle.agreement.specs.History.{Act, History, by}
 use Rattle.agreement.specs.Moments.{Within, now, after}
-use Rattle.agreement.specs.Calls.{Machine, Call, opening, delivery, turn, report, restore, place, words, Opened}
+use Rattle.agreement.specs.Calls.{Machine, Call, opening, delivery, turn, report, restore, recording, place, words, Opened}
 use Rattle.agreement.specs.Laws.{Reading}
 
 pub none-some : {A : Type 0} (x : A) → none ≡ some x → ⊥
@@ -23,6 +23,7 @@ module _ (M : Machine) (R : Reading M) where
   becomes (turn p l) w st = st
   becomes (report p r) w st = st
   becomes (restore p v r) w st = st
+  becomes (recording p x) w st = st
 
   -- the act of a call: only the turns of an opened one count
   abbrev pub did : Call M → M .Words → Option (M .Opening) → Option Act
@@ -32,6 +33,7 @@ module _ (M : Machine) (R : Reading M) where
   did (turn p l) w (some o) = R .act w l
   did (report p r) w st = none
   did (restore p v r) w st = none
+  did (recording p x) w st = none
 
   abbrev pub tell : ℕ → Option Act → History → History
   tell p none h = h
@@ -67,6 +69,7 @@ module _ (M : Machine) (R : Reading M) (start : ℕ → M .Words) where
       call (turn q l) w u = (u, refl)
       call (report q r) w u = (u, refl)
       call (restore q v r) w u = (u, refl)
+      call (recording q x) w u = (u, refl)
 
       at : (b : Bool) → eqb p (place M c) ≡ b → Known (c ∷ cs) p
       at true e =
@@ -121,6 +124,7 @@ module _ (M : Machine) (R : Reading M) (start : ℕ → M .Words) where
       call (turn q l) t s f rest = rest f
       call (report q r) t s f rest = rest f
       call (restore q v r) t s f rest = rest f
+      call (recording q x) t s f rest = rest f
 
       at : (b : Bool) → eqb p (place M c) ≡ b → cond b (becomes M R c (words M start cs p) (status cs p)) (status cs p) ≡ some o → (status cs p ≡ some o → OpenedBy (c ∷ cs) p o) → OpenedBy (c ∷ cs) p o
       at true x f rest = call c refl (eqb-true p (place M c) x) f rest
@@ -140,3 +144,4 @@ module _ (M : Machine) (R : Reading M) (start : ℕ → M .Words) where
   did-turn (turn p l) w (some o) a e = record { lent = l; by-opening = o; known = refl; acts = e }
   did-turn (report p r) w st a e = absurd (none-some a e)
   did-turn (restore p v r) w st a e = absurd (none-some a e)
+  did-turn (recording p x) w st a e = absurd (none-some a e)

@@ -1,13 +1,14 @@
--- Lists without restores: there the conditions are those of 01.
+-- Sessions with printed coins: there nothing is asked of recordings, which are refused, and in lists without restores the conditions are those
+-- of 01.
 use Prim.Native.Nat.{ℕ}
-use mathlib.Core.Bool.{Bool, true, false}
+use mathlib.Core.Bool.{Bool, true, false, false≢true}
 use mathlib.Core.List.{List, _∷_}
-use mathlib.Core.Path.{_≡_, refl, subst}
+use mathlib.Core.Path.{_≡_, refl, sym, subst, _∙_}
 use lib.Dec.{eqb}
 use borrow.Author.Tests.{eq-eqb}
 use Rattle.agreement.specs.Evidence.{Honest}
 use Rattle.agreement.specs.Moments.{Within, now, after, within-tail, within-trans}
-use Rattle.agreement.specs.Calls.{Machine, Call, opening, delivery, turn, report, restore, world, place, words, journal, Stands, Opened, Sent, Conditions}
+use Rattle.agreement.specs.Calls.{Machine, Call, opening, delivery, turn, report, restore, recording, world, place, words, journal, Stands, Opened, Sent, FallsBack, Conditions}
 use Rattle.agreement.specs.Journals.{sent-step}
 
 module _ (M : Machine) where
@@ -17,6 +18,7 @@ module _ (M : Machine) where
   NoRestore (turn p l) = Unit {0}
   NoRestore (report p r) = Unit {0}
   NoRestore (restore p v r) = ⊥
+  NoRestore (recording p x) = Unit {0}
 
   abbrev pub Plain : List (Call M) → Type 0
   Plain cs = (c : Call M) (ds : List (Call M)) → Within (c ∷ ds) cs → NoRestore c
@@ -33,6 +35,27 @@ module _ (M : Machine) (start : ℕ → M .Words) where
   -- none is accepted at an opened one
   abbrev pub Once : List (Call M) → Type 0
   Once cs = (p : ℕ) (o : M .Opening) (ds : List (Call M)) → Within (opening p o ∷ ds) cs → Opened M start ds p → M .opens (words M start ds p) o ≡ false
+
+  -- the conditions where coins are printed, with restores
+  pub record PrintedConditions (S : M .Session) (H : ℕ → Bool) (cs : List (Call M)) : Type 0 where
+    pub honest : (c : Call M) (ds : List (Call M)) → Within (c ∷ ds) cs → Honest (world M S H) (place M c)
+    pub agree : (p : ℕ) (o : M .Opening) (ds : List (Call M)) → Within (opening p o ∷ ds) cs → M .own o ≡ p → M .opens (words M start ds p) o ≡ true → M .session o ≡ S
+    pub once : Once cs
+    pub credited : (p m : ℕ) (b : M .Bytes) (ds : List (Call M)) → Within (delivery p m b ∷ ds) cs → Opened M start ds p → M .accepts (words M start ds p) m b ≡ true → Honest (world M S H) m → Sent M start ds m b
+    pub falls-back : (p : ℕ) (v : M .Words) (r : M .Restore) (ds : List (Call M)) → Within (restore p v r ∷ ds) cs → Opened M start ds p → M .restores v r ≡ true → FallsBack M start ds p v r
+    pub not-lost : (p : ℕ) (v : M .Words) (r : M .Restore) (ds : List (Call M)) → Within (restore p v r ∷ ds) cs → Opened M start ds p → M .restores v r ≡ false → v ≡ words M start ds p
+
+  pub printed-conditions : (S : M .Session) (H : ℕ → Bool) (cs : List (Call M)) → M .boxed S ≡ false → PrintedConditions S H cs → Conditions M start S H cs
+  printed-conditions S H cs printed k =
+      record {
+        honest = k .honest;
+        agree = k .agree;
+        once = k .once;
+        credited = k .credited;
+        falls-back = k .falls-back;
+        not-lost = k .not-lost;
+        coins = λ boxed. absurd (false≢true (sym printed ∙ boxed));
+      }
 
   -- the conditions of 01
   pub record PlainConditions (S : M .Session) (H : ℕ → Bool) (cs : List (Call M)) : Type 0 where
@@ -62,13 +85,14 @@ module _ (M : Machine) (start : ℕ → M .Words) where
             sent-step M start m b c ds (λ q u e. o q u ds (rw e now)) (λ v r e t. absurd (none v r (p c ds now) e))
             (go w (λ e es v. p e es (after c v)) (λ q u es v. o q u es (after c v))) (eqb m (place M c)) refl
 
-    pub plain-conditions : (S : M .Session) (H : ℕ → Bool) (cs : List (Call M)) → Plain M cs → PlainConditions S H cs → Conditions M start S H cs
-    plain-conditions S H cs plain k =
-        record {
+    pub plain-conditions : (S : M .Session) (H : ℕ → Bool) (cs : List (Call M)) → M .boxed S ≡ false → Plain M cs → PlainConditions S H cs → Conditions M start S H cs
+    plain-conditions S H cs printed plain k =
+        printed-conditions S H cs printed
+        (record {
           honest = k .honest;
           agree = k .agree;
           once = k .once;
           credited = λ p m b ds w o a h. let v = within-tail (delivery p m b) w in answered-sent ds (λ c es u. plain c es (within-trans u v)) (λ q u es z. k .once q u es (within-trans z v)) m b (k .credited p m b ds w o a h);
           falls-back = λ p v r ds w. absurd (plain (restore p v r) ds w);
           not-lost = λ p v r ds w. absurd (plain (restore p v r) ds w);
-        }
+        })

@@ -2,6 +2,7 @@
 -- one direction: nothing is held that was not delivered, no mark of an ECHO or AUX vanishes, a new decision is that of the move. Marks tell of
 -- the acts that are on record at the concentrator; the history may have more of its acts.
 use Prim.Native.Nat.{ℕ, suc, _+_, _*_, _≤_}
+use mathlib.Core.Bool.{Bool}
 use mathlib.Core.List.{List, _∷_}
 use mathlib.Core.Logic.{_⊎_, inl, inr}
 use mathlib.Core.Path.{_≡_, refl, sym, subst}
@@ -27,6 +28,8 @@ pub record Seen (St : Type 0) : Type 1 where
   pub auxed : St → ℕ → ℕ → Type 0
   -- outputs and decisions
   pub standing : St → Standing
+  -- the coin of a vote and a round stands there, printed or recorded
+  pub coin : St → ℕ → ℕ → Bool → Type 0
 
 module _ (W : World) where
   -- m has said x
@@ -129,6 +132,10 @@ module _ (W : World) {St : Type 0} (S : Seen St) where
 
   -- ---- what a state shows by itself, and what calls may change
 
+  -- the coins that stand there are the world's
+  abbrev pub CoinsAre : St → Type 0
+  CoinsAre s = (i r : ℕ) (c : Bool) → S .coin s i r c → c ≡ W .coin i r
+
   -- an output has its READYs
   abbrev pub OutputsHeld : St → Type 0
   OutputsHeld s = (i v : ℕ) → 1 ≤ i → i ≤ W .settings .n → S .standing s .out i ≡ Value v → HeldFrom s (whole W) (W .settings .ts) (READY i v)
@@ -159,6 +166,10 @@ module _ (W : World) {St : Type 0} (S : Seen St) where
     pub held : (m : ℕ) (x : Message) → 1 ≤ m → m ≤ W .settings .n → S .holds s m x → ⊥
     pub decs : (i b : ℕ) → 1 ≤ i → i ≤ W .settings .n → Decision (S .standing s) i b → ⊥
 
+-- no coin is new
+abbrev pub CoinsStay : {St : Type 0} → Seen St → St → St → Type 0
+CoinsStay S s t = (i r : ℕ) (c : Bool) → S .coin t i r c → S .coin s i r c
+
 -- Left m x: the message x of m was got by an honest one, at some time. J a: the act a is on record at p.
 module _ (W : World) {St : Type 0} (S : Seen St) (Left : ℕ → Message → Type 0) where
   -- the acts whose messages left
@@ -177,6 +188,7 @@ module _ (W : World) {St : Type 0} (S : Seen St) (Left : ℕ → Message → Typ
     pub echoes : (i v : ℕ) → J (echo i v) → S .echoed s i
     pub auxes : (i r b : ℕ) → J (aux i r b) → S .auxed s i r
     pub single : Single (λ q. J)
+    pub coins : CoinsAre W S s
     pub decs : (i b : ℕ) → 1 ≤ i → i ≤ W .settings .n → Decision (S .standing s) i b → Decided W h p i b
 
   module _ (h : History) (J : Act → Type 0) (p : ℕ) (s : St) (inv : Inv h J p s) (outs : OutputsHeld W S s) where
@@ -225,13 +237,14 @@ module _ (W : World) {St : Type 0} (S : Seen St) (Left : ℕ → Message → Typ
   -- ---- calls keep what holds
 
   -- p is opened, and no act is on record
-  pub inv-blank : (h : History) (J : Act → Type 0) (p : ℕ) (s : St) → ((a : Act) → J a → ⊥) → Blank W S s → Inv h J p s
-  inv-blank h J p s none b =
+  pub inv-blank : (h : History) (J : Act → Type 0) (p : ℕ) (s : St) → ((a : Act) → J a → ⊥) → Blank W S s → CoinsAre W S s → Inv h J p s
+  inv-blank h J p s none b coins =
       record {
         credit = λ m x hm t. absurd (b .held m x (hm .low) (hm .high) t);
         echoes = λ i v d. absurd (none (echo i v) d);
         auxes = λ i r c d. absurd (none (aux i r c) d);
         single = record { echo-one = λ q i u v d e. absurd (none (echo i u) d); aux-one = λ q i r b c d e. absurd (none (aux i r b) d) };
+        coins = coins;
         decs = λ i c lo hi e. absurd (b .decs i c lo hi e);
       }
 
@@ -243,6 +256,7 @@ module _ (W : World) {St : Type 0} (S : Seen St) (Left : ℕ → Message → Typ
         echoes = inv .echoes;
         auxes = inv .auxes;
         single = inv .single;
+        coins = inv .coins;
         decs = λ i b lo hi d. decided-keep W e h p i b (inv .decs i b lo hi d);
       }
 
@@ -254,10 +268,11 @@ module _ (W : World) {St : Type 0} (S : Seen St) (Left : ℕ → Message → Typ
         echoes = λ i v d. inv .echoes i v (f (echo i v) d);
         auxes = λ i r b d. inv .auxes i r b (f (aux i r b) d);
         single = record { echo-one = λ q i u v d e. inv .single .echo-one q i u v (f (echo i u) d) (f (echo i v) e); aux-one = λ q i r b c d e. inv .single .aux-one q i r b c (f (aux i r b) d) (f (aux i r c) e) };
+        coins = inv .coins;
         decs = inv .decs;
       }
 
-  module _ (h : History) (J : Act → Type 0) (p : ℕ) (s t : St) (inv : Inv h J p s) where
+  module _ (h : History) (J : Act → Type 0) (p : ℕ) (s t : St) (inv : Inv h J p s) (coins : CoinsAre W S t) where
     -- a call that is no act
     inv-changed : (new : ℕ → Message → Type 0) → ((m : ℕ) (x : Message) → Honest W m → new m x → Credit h m x) → Changed W S s t new (λ i b. ⊥) → Inv h J p t
     inv-changed new said c =
@@ -266,6 +281,7 @@ module _ (W : World) {St : Type 0} (S : Seen St) (Left : ℕ → Message → Typ
           echoes = λ i v d. c .echoed i (inv .echoes i v d);
           auxes = λ i r b d. c .auxed i r (inv .auxes i r b d);
           single = inv .single;
+          coins = coins;
           decs = λ i b lo hi e. decs i b lo hi (c .decs i b lo hi e);
         }
       where
@@ -291,6 +307,7 @@ module _ (W : World) {St : Type 0} (S : Seen St) (Left : ℕ → Message → Typ
           echoes = λ i v k. echoes i v (only (echo i v) k);
           auxes = λ i r b k. auxes i r b (only (aux i r b) k);
           single = record { echo-one = λ q i u v k l. echo-one q i u v (only (echo i u) k) (only (echo i v) l); aux-one = λ q i r b c k l. aux-one q i r b c (only (aux i r b) k) (only (aux i r c) l) };
+          coins = coins;
           decs = λ i b lo hi e. decs i b lo hi (d .changed .decs i b lo hi e);
         }
       where

@@ -1,10 +1,10 @@
 // Demand 3. The functions do nothing: their contracts state what is proved in specs/.
 ghost use Rattle.agreement.specs.Agreement.{Agree, Named, Valid};
-ghost use Rattle.agreement.specs.Calls.{EngineAgrees};
+ghost use Rattle.agreement.specs.EngineCalls.{EngineAgrees};
 ghost use Rattle.agreement.specs.EngineRestores.{RestoreGives};
-ghost use Rattle.agreement.specs.EnginePlain.{PlainMeets};
+ghost use Rattle.agreement.specs.EnginePlain.{PrintedMeets, PlainMeets};
 
-// Demand 3 of the engine, all of it: specs/Calls.antt states it of whole lists of calls.
+// Demand 3 of the engine, all of it: specs/Calls.antt states it of whole lists of calls, specs/EngineCalls.antt has the engine's.
 pub fn demand_three()
     ensures { λ _. ⌜ EngineAgrees ⌝ }
 {}
@@ -14,7 +14,12 @@ pub fn restore_gives()
     ensures { λ _. ⌜ RestoreGives ⌝ }
 {}
 
-// Where nobody is restored the conditions are those of the scope paper.
+// Where coins are printed nothing is asked of recordings: the conditions are those from before there were any.
+pub fn printed_sessions()
+    ensures { λ _. ⌜ PrintedMeets ⌝ }
+{}
+
+// Where, besides, nobody is restored they are those of the scope paper.
 pub fn without_restores()
     ensures { λ _. ⌜ PlainMeets ⌝ }
 {}

@@ -12,8 +12,10 @@ use Rattle.turn.specs.declared.Outcome.{Outcome}
 use Rattle.turn.specs.declared.Outcome.the-variants as outcome
 use Rattle.journal.specs.Journal.{openNumber, turnedOutcome, turnedMessage}
 use Rattle.restore.specs.Restoring.{MESSAGE-BYTES}
-use Rattle.agreement.specs.Calls.{Call, opening, delivery, turn, report, restore, engine, Arguments, Bytes, TurnLent, RestoreLent, Agreed, agreed}
+use Rattle.agreement.specs.Calls.{Call, opening, delivery, turn, report, restore, recording}
+use Rattle.agreement.specs.EngineCalls.{engine, Arguments, Bytes, TurnLent, BitGiven, RestoreLent, Agreed, agreed}
 use Rattle.agreement.specs.EngineOpening.{first}
+use Rattle.agreement_example.specs.Bits.{boxBit}
 
 -- a line of a journal: its bytes, the words after it, and the messages that its call sent, one or none
 pub record Line : Type 0 where
@@ -116,13 +118,14 @@ sameSession a b =
     && (eqb (a .settings .whole) (b .settings .whole)
     && (eqb (a .settings .weights) (b .settings .weights)
     && (eqb (a .number) (b .number)
-    && sameList (a .coins) (b .coins))))))
+    && (sameList (a .coins) (b .coins)
+    && eqb (a .boxed) (b .boxed)))))))
 
 -- an opening of 2,048 words is accepted
 unfoldable pub opens : Arguments → Bool
-opens o = eqb (openNumber stateWords (o .n) (o .ta) (o .ts) (o .own) (o .coins) (o .weights) (o .line)) 0
+opens o = eqb (openNumber stateWords (o .n) (o .ta) (o .ts) (o .own) (o .coins) (o .weights) (o .boxed) (o .line)) 0
 
--- the journal after an accepted opening, and after a delivery or a turn at the words w
+-- the journal after an accepted opening, and after a delivery, a turn or a recording at the words w
 unfoldable pub firstLines : Arguments → List Line
 firstLines o = record { text = engine .opening-line o; after = first o; sent = [] } ∷ []
 
@@ -132,10 +135,14 @@ deliveryLines m b w ls = cond (engine .accepts w m b) (record { text = engine .d
 unfoldable pub turnLines : TurnLent → List ℕ → List Line → List Line
 turnLines l w ls = cond (engine .acts w l) (record { text = engine .turn-line; after = engine .turned w l; sent = sentBy w l } ∷ ls) ls
 
+unfoldable pub recordingLines : BitGiven → List ℕ → List Line → List Line
+recordingLines y w ls = cond (engine .records w y) (record { text = engine .recording-line y; after = engine .recorded w y; sent = [] } ∷ ls) ls
+
 unfoldable pub statesAfter : Call engine → List Entry → List Entry
 statesAfter (opening p o) xs = cond (opens o) (record { who = p; list = first o; lines = firstLines o } ∷ xs) xs
 statesAfter (delivery p m b) xs = withEntry p (engine .delivered (wordsOf xs p) m b) (deliveryLines m b (wordsOf xs p) (linesOf xs p)) xs
 statesAfter (turn p l) xs = withEntry p (engine .turned (wordsOf xs p) l) (turnLines l (wordsOf xs p) (linesOf xs p)) xs
+statesAfter (recording p y) xs = withEntry p (engine .recorded (wordsOf xs p) y) (recordingLines y (wordsOf xs p) (linesOf xs p)) xs
 statesAfter (report p r) xs = withEntry p (wordsOf xs p) (linesOf xs p) xs
 statesAfter (restore p v r) xs =
     withEntry p (lastWords (completeOf (length (r .journal)) (linesOf xs p))) (completeOf (length (r .journal)) (linesOf xs p)) xs
@@ -144,6 +151,7 @@ unfoldable pub goneAfter : Call engine → List Entry → List Gone → List Gon
 goneAfter (opening p o) xs gs = gs
 goneAfter (delivery p m b) xs gs = cond (isOpened xs p && engine .accepts (wordsOf xs p) m b) (record { from = m; bytes = b .list } ∷ gs) gs
 goneAfter (turn p l) xs gs = gs
+goneAfter (recording p y) xs gs = gs
 goneAfter (report p r) xs gs = gs
 goneAfter (restore p v r) xs gs = gs
 
@@ -169,12 +177,17 @@ module _ (S : Agreed) (H : ℕ → Bool) (v : ℕ) where
   unfoldable pub deliveryRight : Bool → ℕ → List ℕ → List Line → Bool
   deliveryRight accepted m b ls = not accepted || (not (H m) || wasSent ls b)
 
+  -- a recording is refused, or its bit is that of the box
+  unfoldable pub recordingRight : Bool → BitGiven → Bool
+  recordingRight accepted y = not accepted || eqb (y .bit) (boxBit (y .vote) (y .round))
+
   unfoldable pub callRight : Call engine → List Entry → List Gone → Bool
   callRight (opening p o) xs gs = listed p && openingRight p o xs
   callRight (delivery p m b) xs gs =
       listed p && (not (isOpened xs p) || deliveryRight (engine .accepts (wordsOf xs p) m b) m (b .list) (linesOf xs m))
   callRight (turn p l) xs gs = listed p
   callRight (report p r) xs gs = listed p
+  callRight (recording p y) xs gs = listed p && (not (isOpened xs p) || recordingRight (engine .records (wordsOf xs p) y) y)
   callRight (restore p u r) xs gs =
       listed p && (isOpened xs p && (restoreRight r (linesOf xs p) && keeps gs p (completeOf (length (r .journal)) (linesOf xs p))))
 

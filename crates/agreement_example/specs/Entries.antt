@@ -6,7 +6,7 @@ use mathlib.Core.Path.{_≡_, refl, sym, ap, _∙_}
 use borrow.Author.Tests.{eqb-true}
 use lib.Dec.{eqb}
 use Rattle.quorum.specs.Bools.{and-left, and-right}
-use Rattle.agreement.specs.Calls.{Agreed}
+use Rattle.agreement.specs.EngineCalls.{Agreed}
 use Rattle.agreement_example.specs.Checking.{Line, Entry, isOpened, wordsOf, linesOf, withEntry, sameList, sameSession}
 
 -- one of two tests passed, and the first did not
@@ -35,6 +35,7 @@ same-session a b e =
     let e3 = and-right (eqb (a .settings .ts) (b .settings .ts)) _ e2 in
     let e4 = and-right (eqb (a .settings .whole) (b .settings .whole)) _ e3 in
     let e5 = and-right (eqb (a .settings .weights) (b .settings .weights)) _ e4 in
+    let e6 = and-right (eqb (a .number) (b .number)) _ e5 in
     same
     (eqb-true _ _ (and-left (eqb (a .settings .n) (b .settings .n)) _ e))
     (eqb-true _ _ (and-left (eqb (a .settings .ta) (b .settings .ta)) _ e1))
@@ -42,10 +43,11 @@ same-session a b e =
     (eqb-true _ _ (and-left (eqb (a .settings .whole) (b .settings .whole)) _ e3))
     (eqb-true _ _ (and-left (eqb (a .settings .weights) (b .settings .weights)) _ e4))
     (eqb-true _ _ (and-left (eqb (a .number) (b .number)) _ e5))
-    (same-list _ _ (and-right (eqb (a .number) (b .number)) _ e5))
+    (same-list _ _ (and-left (sameList (a .coins) (b .coins)) _ e6))
+    (eqb-true _ _ (and-right (sameList (a .coins) (b .coins)) _ e6))
   where
-    same : a .settings .n ≡ b .settings .n → a .settings .ta ≡ b .settings .ta → a .settings .ts ≡ b .settings .ts → a .settings .whole ≡ b .settings .whole → a .settings .weights ≡ b .settings .weights → a .number ≡ b .number → a .coins ≡ b .coins → a ≡ b
-    same n ta ts u w k c = λ i. record { settings = record { n = n i; ta = ta i; ts = ts i; whole = u i; weights = w i }; number = k i; coins = c i }
+    same : a .settings .n ≡ b .settings .n → a .settings .ta ≡ b .settings .ta → a .settings .ts ≡ b .settings .ts → a .settings .whole ≡ b .settings .whole → a .settings .weights ≡ b .settings .weights → a .number ≡ b .number → a .coins ≡ b .coins → a .boxed ≡ b .boxed → a ≡ b
+    same n ta ts u w k c x = λ i. record { settings = record { n = n i; ta = ta i; ts = ts i; whole = u i; weights = w i }; number = k i; coins = c i; boxed = x i }
 
 -- who is not opened has no journal
 pub lines-none : (xs : List Entry) (p : ℕ) → isOpened xs p ≡ false → linesOf xs p ≡ []

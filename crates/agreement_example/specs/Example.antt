@@ -15,7 +15,8 @@ use Rattle.report.specs.Report.{reportAnswer, reportNamed, reportInForce}
 use Rattle.report.specs.declared.Answer.{Answer}
 use Rattle.report.specs.declared.Answer.the-variants as answer
 use Rattle.agreement.specs.Evidence.{liars, Honest}
-use Rattle.agreement.specs.Calls.{Call, engine, Agreed, world, words, Opened, Conditions, PutIn, ReportNames, ReportEnforces}
+use Rattle.agreement.specs.Calls.{Call, world, words, Opened, Conditions, PutIn}
+use Rattle.agreement.specs.EngineCalls.{engine, Agreed, ReportNames, ReportEnforces}
 use Rattle.agreement_example.specs.Lists.{conditions-met, put-in-met}
 use Rattle.agreement_example.specs.Checking.{Run, isOpened, wordsOf, sameList, run}
 use Rattle.agreement_example.specs.Entries.{or-second, not-of-true, same-list}

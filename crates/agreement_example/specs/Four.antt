@@ -13,7 +13,8 @@ use Rattle.wire.specs.Message.{encode}
 use Rattle.wire.specs.declared.Message.{Message}
 use Rattle.wire.specs.declared.Message.the-variants.{Send, Echo, Ready, Commit}
 use Rattle.agreement.specs.Evidence.{Honest}
-use Rattle.agreement.specs.Calls.{Call, opening, delivery, report, engine, Agreed, world}
+use Rattle.agreement.specs.Calls.{Call, opening, delivery, report, world}
+use Rattle.agreement.specs.EngineCalls.{engine, Agreed}
 use Rattle.agreement_example.specs.Example.{Example, passes, passes-example}
 use Rattle.agreement_example.specs.Refusals.{refusals}
 use Rattle.agreement_example.specs.Tracking.{AllSized}
@@ -22,7 +23,7 @@ use Rattle.turn_bound.specs.Computing.{calls}
 use Rattle.agreement_example.specs.Computing.{checks}
 
 abbrev pub session : Agreed
-session = record { settings = record { n = 4; ta = 1; ts = 1; whole = 4; weights = 15 }; number = 7; coins = 0 ∷ 0 ∷ 0 ∷ 0 ∷ [] }
+session = record { settings = record { n = 4; ta = 1; ts = 1; whole = 4; weights = 15 }; number = 7; coins = 0 ∷ 0 ∷ 0 ∷ 0 ∷ []; boxed = 0 }
 
 abbrev pub firstThree : ℕ → Bool
 firstThree p = leb p 3

@@ -10,7 +10,8 @@ use lib.ListN.{length}
 use Rattle.quorum.specs.Bools.{and-left, and-right}
 use Rattle.records.specs.Layout.{stateWords}
 use Rattle.agreement.specs.Moments.{now, after}
-use Rattle.agreement.specs.Calls.{Call, turn, engine, Bytes, TurnLent, SendsBytes, Moment, Journal, newest, bytes, complete, Stands, words, journal, Opened, Sent}
+use Rattle.agreement.specs.Calls.{Call, turn, Moment, Journal, newest, bytes, complete, Stands, words, journal, Opened, Sent}
+use Rattle.agreement.specs.EngineCalls.{engine, Bytes, TurnLent, SendsBytes}
 use Rattle.agreement_example.specs.Checking.{Line, Gone, among, wasSent, textOf, completeOf, keeps}
 use Rattle.agreement_example.specs.Entries.{or-second, not-of-true}
 

@@ -1,3 +1,4 @@
+pub mod Bits
 pub mod Lists
 pub mod Checking
 pub mod Lengths
@@ -13,6 +14,6 @@ pub mod Computing
 pub mod One
 pub mod Four
 pub mod Weighted
-pub mod Lossy
+pub mod Boxed
 pub mod PowerLost
 pub mod LineLost

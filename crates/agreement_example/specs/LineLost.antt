@@ -13,7 +13,8 @@ use Rattle.wire.specs.Message.{encode}
 use Rattle.wire.specs.declared.Message.the-variants.{Send}
 use Rattle.agreement.specs.Evidence.{Honest}
 use Rattle.agreement.specs.Moments.{Within, now, within-cases, within-none}
-use Rattle.agreement.specs.Calls.{Call, opening, restore, turn, engine, Agreed, Bytes, TurnLent, Journal, newest, world, journal, Departed, Conditions}
+use Rattle.agreement.specs.Calls.{Call, opening, restore, turn, Journal, newest, world, journal, Departed, Conditions}
+use Rattle.agreement.specs.EngineCalls.{engine, Agreed, Bytes, TurnLent}
 use Rattle.agreement_example.specs.Messages.{bytesOf, openingOf, deliver, turnOf}
 use Rattle.agreement_example.specs.One.{session, everyone}
 use Rattle.agreement_example.specs.PowerLost.{firstLine, from}

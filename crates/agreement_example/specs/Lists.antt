@@ -3,10 +3,11 @@ use Prim.Native.Nat.{ℕ}
 use mathlib.Core.Bool.{Bool, true, false}
 use mathlib.Core.List.{List, [], _∷_}
 use mathlib.Core.Logic.{_⊎_, inl, inr}
-use mathlib.Core.Path.{_≡_, refl}
+use mathlib.Core.Path.{_≡_, refl, sym, _∙_}
 use Rattle.agreement.specs.Evidence.{Honest}
 use Rattle.agreement.specs.Moments.{Within, now, after, within-none}
-use Rattle.agreement.specs.Calls.{Machine, Call, opening, delivery, turn, report, restore, world, place, words, Opened, Sent, Departed, FallsBack, Conditions, PutIn}
+use Rattle.agreement.specs.Calls.{Machine, Call, opening, delivery, turn, report, restore, recording, world, place, words, Opened, Sent, Departed, FallsBack, Conditions, PutIn}
+use Rattle.agreement_example.specs.Bits.{boxBit}
 
 module _ (M : Machine) (start : ℕ → M .Words) where
   module _ {cs : List (Call M)} (c : Call M) where
@@ -27,6 +28,7 @@ module _ (M : Machine) (start : ℕ → M .Words) where
   NoOpening (turn p l) = Unit
   NoOpening (report p r) = Unit
   NoOpening (restore p v r) = Unit
+  NoOpening (recording p y) = Unit
 
   within-before : {c : Call M} {p : ℕ} {o : M .Opening} {ds cs : List (Call M)} → NoOpening c → Within (opening p o ∷ ds) (c ∷ cs) → Within (opening p o ∷ ds) cs
   within-before n now = absurd n
@@ -51,6 +53,7 @@ module _ (M : Machine) (start : ℕ → M .Words) where
   NoDelivery (turn p l) = Unit
   NoDelivery (report p r) = Unit
   NoDelivery (restore p v r) = Unit
+  NoDelivery (recording p y) = Unit
 
   got-before : {c : Call M} {q m : ℕ} {b : M .Bytes} {ds cs : List (Call M)} → NoDelivery c → Within (delivery q m b ∷ ds) (c ∷ cs) → Within (delivery q m b ∷ ds) cs
   got-before n now = absurd n
@@ -90,12 +93,17 @@ module _ (M : Machine) (start : ℕ → M .Words) where
       pub falls-back : Opened M start ds p → M .restores u r ≡ true → FallsBack M start ds p u r
       pub not-lost : Opened M start ds p → M .restores u r ≡ false → u ≡ words M start ds p
 
+    -- what makes `coins` hold: a bit that is recorded after the calls ds is the box's
+    pub record RecordingMeets (p : ℕ) (y : M .Recording) (ds : List (Call M)) : Type 0 where
+      pub told : Opened M start ds p → M .records (words M start ds p) y ≡ true → M .bit y ≡ boxBit (M .vote y) (M .round y)
+
     abbrev pub Meets : Call M → List (Call M) → Type 0
     Meets (opening p o) ds = OpeningMeets p o ds
     Meets (delivery p m b) ds = DeliveryMeets p m b ds
     Meets (turn p l) ds = Unit
     Meets (report p r) ds = Unit
     Meets (restore p u r) ds = RestoreMeets p u r ds
+    Meets (recording p y) ds = RecordingMeets p y ds
 
     abbrev pub AllMeet : List (Call M) → Type 0
     AllMeet [] = Unit
@@ -118,6 +126,7 @@ module _ (M : Machine) (start : ℕ → M .Words) where
           credited = λ p m b ds w. meets-within w x .credited;
           falls-back = λ p u r ds w. meets-within w x .falls-back;
           not-lost = λ p u r ds w. meets-within w x .not-lost;
+          coins = λ e p q y z a b i j. meets-within (a .within) x .told (a .opened) (a .accepted) ∙ rw (i, j) (sym (meets-within (b .within) x .told (b .opened) (b .accepted)));
         }
 
     pub put-in-met : (cs : List (Call M)) → AllMeet cs → PutIn M start v cs

@@ -9,7 +9,8 @@ use Rattle.wire.specs.Message.{encode}
 use Rattle.wire.specs.declared.Message.{Message}
 use Rattle.wire_laws.specs.Proper.{AllBytes}
 use Rattle.journal.specs.Journal.{LINE-BYTES}
-use Rattle.agreement.specs.Calls.{Call, delivery, turn, engine, Arguments, Bytes}
+use Rattle.agreement.specs.Calls.{Call, delivery, turn, recording}
+use Rattle.agreement.specs.EngineCalls.{engine, Arguments, Bytes}
 
 -- each number by its low 8 bits
 unfoldable pub lowBytes : List ℕ → List ℕ
@@ -38,8 +39,8 @@ coins-below (x ∷ xs) zero = omega arith
 coins-below (x ∷ xs) (suc i) = coins-below xs i
 
 -- an opening under the number p, with the input 5
-unfoldable pub openingWith : (n ta ts : ℕ) (coins weights : List ℕ) (p : ℕ) → Arguments
-openingWith n ta ts coins weights p =
+unfoldable pub openingWith : (n ta ts : ℕ) (coins weights : List ℕ) (boxed p : ℕ) → Arguments
+openingWith n ta ts coins weights boxed p =
     record {
       n = n;
       ta = ta;
@@ -49,15 +50,16 @@ openingWith n ta ts coins weights p =
       input = 5;
       coins = coinsOf coins;
       weights = weights;
+      boxed = boxed;
       line = LINE-BYTES;
       session-fits = omega arith;
       input-fits = omega arith;
       coins-fit = coins-below coins;
     }
 
--- .. with coin words of 0 and weights of 1
+-- .. with printed coin words of 0 and weights of 1
 unfoldable pub openingOf : (n ta ts p : ℕ) → Arguments
-openingOf n ta ts p = openingWith n ta ts (blank n) (onesGiven n) p
+openingOf n ta ts p = openingWith n ta ts (blank n) (onesGiven n) 0 p
 
 -- the message m of the link's concentrator p, with the values xs beside a COMMIT, delivered to q
 unfoldable pub deliver : (q p : ℕ) → Message → List ℕ → Call engine
@@ -66,3 +68,7 @@ deliver q p m xs = delivery q p (bytesOf (encode m p 7 xs))
 -- a turn of p, lent 140 bytes for a message
 unfoldable pub turnOf : ℕ → Call engine
 turnOf p = turn p (record { message = blank 140; line = LINE-BYTES })
+
+-- the bit b of round r of vote i, recorded at p
+unfoldable pub recordOf : (p i r b : ℕ) → Call engine
+recordOf p i r b = recording p (record { vote = i; round = r; bit = b; line = LINE-BYTES })

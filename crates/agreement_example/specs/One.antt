@@ -18,7 +18,8 @@ use Rattle.wire.specs.declared.Message.the-variants.{Send, Echo, Ready, Commit}
 use Rattle.delivery.specs.Delivery.{judged, verdictIn, verdictFor, verdict, answerOf, deliverAnswer}
 use Rattle.delivery.specs.declared.Verdict.the-variants.{Refused}
 use Rattle.agreement.specs.Evidence.{Honest}
-use Rattle.agreement.specs.Calls.{Call, opening, delivery, report, engine, Agreed, world}
+use Rattle.agreement.specs.Calls.{Call, opening, delivery, report, world}
+use Rattle.agreement.specs.EngineCalls.{engine, Agreed}
 use Rattle.agreement_example.specs.Example.{Example, passes, passes-example}
 use Rattle.agreement_example.specs.Refusals.{refusals}
 use Rattle.agreement_example.specs.Tracking.{AllSized}
@@ -27,7 +28,7 @@ use Rattle.turn_bound.specs.Computing.{calls}
 use Rattle.agreement_example.specs.Computing.{checks}
 
 abbrev pub session : Agreed
-session = record { settings = record { n = 1; ta = 0; ts = 0; whole = 1; weights = 1 }; number = 7; coins = 0 ∷ [] }
+session = record { settings = record { n = 1; ta = 0; ts = 0; whole = 1; weights = 1 }; number = 7; coins = 0 ∷ []; boxed = 0 }
 
 abbrev pub everyone : ℕ → Bool
 everyone p = true

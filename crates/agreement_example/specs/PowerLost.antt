@@ -12,7 +12,8 @@ use Rattle.records.specs.Fill.{blank}
 use Rattle.wire.specs.declared.Message.the-variants.{Send, Echo, Ready, Commit}
 use Rattle.journal.specs.Lines.{LETTER-D, LETTER-T, openingLine, turnLine}
 use Rattle.agreement.specs.Evidence.{Honest}
-use Rattle.agreement.specs.Calls.{Call, opening, report, restore, engine, world, RestoreLent}
+use Rattle.agreement.specs.Calls.{Call, opening, report, restore, world}
+use Rattle.agreement.specs.EngineCalls.{engine, RestoreLent}
 use Rattle.agreement_example.specs.Example.{Example, passes, passes-example}
 use Rattle.agreement_example.specs.Refusals.{refusals}
 use Rattle.agreement_example.specs.Tracking.{AllSized}
@@ -23,7 +24,7 @@ use Rattle.agreement_example.specs.Computing.{checks}
 
 -- the line of the opening
 abbrev pub firstLine : List ℕ
-firstLine = openingLine 1 0 0 1 7 5 (0 ∷ []) (1 ∷ [])
+firstLine = openingLine 1 0 0 1 7 5 (0 ∷ []) (1 ∷ []) 0
 
 -- a restore from these bytes, lent 140 bytes for a message
 unfoldable pub from : List ℕ → RestoreLent

@@ -7,8 +7,9 @@ use lib.ListN.{length}
 use Rattle.records.specs.Layout.{stateWords}
 use Rattle.turn.specs.declared.Outcome.{Outcome}
 use Rattle.turn.specs.declared.Outcome.the-variants as outcome
-use Rattle.journal.specs.Journal.{openNumber, deliverNumber, turnedOutcome}
-use Rattle.agreement.specs.Calls.{Call, opening, delivery, turn, report, restore, engine, Agreed}
+use Rattle.journal.specs.Journal.{openNumber, deliverNumber, recordNumber, turnedOutcome}
+use Rattle.agreement.specs.Calls.{Call, opening, delivery, turn, report, restore, recording}
+use Rattle.agreement.specs.EngineCalls.{engine, Agreed}
 use Rattle.agreement_example.specs.Checking.{Entry, Run, isOpened, wordsOf, step, run}
 
 -- the number of a turn's refusal, 0 for none
@@ -21,11 +22,12 @@ refusalOf outcome.InForce = 0
 
 -- the number that a call is refused with, 0 for none; a call at one that is not opened is passed over, and the test takes no restore that is refused
 unfoldable pub refusal : Call engine → List Entry → ℕ
-refusal (opening p o) xs = openNumber stateWords (o .n) (o .ta) (o .ts) (o .own) (o .coins) (o .weights) (o .line)
+refusal (opening p o) xs = openNumber stateWords (o .n) (o .ta) (o .ts) (o .own) (o .coins) (o .weights) (o .boxed) (o .line)
 refusal (delivery p m b) xs = cond (isOpened xs p) (deliverNumber (wordsOf xs p) m (b .list) (b .line)) 0
 refusal (turn p l) xs = cond (isOpened xs p) (refusalOf (turnedOutcome (wordsOf xs p) (length (l .message)) (l .line))) 0
 refusal (report p r) xs = 0
 refusal (restore p v r) xs = 0
+refusal (recording p y) xs = cond (isOpened xs p) (recordNumber (wordsOf xs p) (y .vote) (y .round) (y .bit) (y .line)) 0
 
 pub record Refusals : Type 0 where
   pub run : Run

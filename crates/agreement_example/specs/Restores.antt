@@ -11,7 +11,8 @@ use Rattle.quorum.specs.Bools.{and-left, and-right}
 use Rattle.records.specs.Layout.{stateWords}
 use Rattle.restore.specs.Restoring.{MESSAGE-BYTES, accepted}
 use Rattle.agreement.specs.Evidence.{Honest}
-use Rattle.agreement.specs.Calls.{Call, restore, engine, Agreed, RestoreLent, world, Moment, Journal, bytes, complete, words, journal, FallsBack}
+use Rattle.agreement.specs.Calls.{Call, restore, world, Moment, Journal, bytes, complete, words, journal, FallsBack}
+use Rattle.agreement.specs.EngineCalls.{engine, Agreed, RestoreLent}
 use Rattle.agreement.specs.EngineOpening.{first}
 use Rattle.agreement.specs.EngineRestores.{Gives, RestoreGives, restore-gives}
 use Rattle.agreement_example.specs.Lists.{departed-before, conditions-met}

@@ -18,10 +18,12 @@ use Rattle.journal.specs.Journal.{turnedOutcome, turnedMessage}
 use Rattle.restore.specs.Restoring.{accepted}
 use Rattle.agreement.specs.Evidence.{Honest}
 use Rattle.agreement.specs.Moments.{now}
-use Rattle.agreement.specs.Calls.{Call, opening, delivery, turn, report, restore, engine, Arguments, Agreed, Bytes, TurnLent, agreed, world, bytes, words, journal, Opened, Sent, Departed, SendsBytes}
+use Rattle.agreement.specs.Calls.{Call, opening, delivery, turn, report, restore, recording, world, bytes, words, journal, Opened, Sent, Departed}
+use Rattle.agreement.specs.EngineCalls.{engine, Arguments, Agreed, Bytes, TurnLent, BitGiven, agreed, SendsBytes}
 use Rattle.agreement.specs.EngineOpening.{first}
-use Rattle.agreement_example.specs.Lists.{not-opened, not-departed, opened-later, opened-cases, Leaves, departed-before, departed-cases, DeliveryMeets}
-use Rattle.agreement_example.specs.Checking.{Line, Entry, Gone, isOpened, wordsOf, linesOf, sameList, among, wasSent, some, sentIn, sentBy, sameSession, opens, firstLines, deliveryLines, turnLines, statesAfter, goneAfter, restoreRight, listed, openingRight, deliveryRight, callRight, step, run}
+use Rattle.agreement_example.specs.Bits.{boxBit}
+use Rattle.agreement_example.specs.Lists.{not-opened, not-departed, opened-later, opened-cases, Leaves, departed-before, departed-cases, DeliveryMeets, RecordingMeets}
+use Rattle.agreement_example.specs.Checking.{Line, Entry, Gone, isOpened, wordsOf, linesOf, sameList, among, wasSent, some, sentIn, sentBy, sameSession, opens, firstLines, deliveryLines, turnLines, recordingLines, statesAfter, goneAfter, restoreRight, listed, openingRight, deliveryRight, recordingRight, callRight, step, run}
 use Rattle.agreement_example.specs.Entries.{or-second, not-of-true, same-list, same-session, lines-none}
 use Rattle.agreement_example.specs.Tracks.{words-here, journal-here, words-else, journal-else, size-next, opens-sized, opened-sized, Tracks, listed-honest, entry-next, line-next}
 use Rattle.agreement_example.specs.Restores.{restore-next}
@@ -34,6 +36,7 @@ AllSized (opening p o ∷ cs) = AllSized cs
 AllSized (delivery p m b ∷ cs) = AllSized cs
 AllSized (turn p l ∷ cs) = AllSized cs
 AllSized (report p r ∷ cs) = AllSized cs
+AllSized (recording p y ∷ cs) = AllSized cs
 AllSized (restore p v r ∷ cs) = (length v ≡ stateWords) × AllSized cs
 
 module _ (start : ℕ → List ℕ) (S : Agreed) (H : ℕ → Bool) (v : ℕ) {cs : List (Call engine)} {xs : List Entry} {gs : List Gone} (x : Tracks start S H v cs xs gs) where
@@ -139,6 +142,42 @@ module _ (start : ℕ → List ℕ) (S : Agreed) (H : ℕ → Bool) (v : ℕ) {c
         (λ k. words-here start (turn p l) cs ∙ ap (λ (w : List ℕ). engine .turned w l) (x .equal p k))
         (λ k. rw (journal-here start (turn p l) cs, x .equal p k) (line-next start S H v x p (turn p l ∷ cs) _ (linesOf xs p) (journal engine start cs p) (engine .acts before l) (after-turn k) (x .lines p k)))
         (λ m b d. x .gone m b (departed-before engine start tt d)) (honest, tt, x .meet)
+
+  -- ---- recording
+
+  module _ (p : ℕ) (y : BitGiven) (honest : Honest (world engine S H) p) where
+    abbrev known : List ℕ
+    known = wordsOf xs p
+
+    agreeing : not (isOpened xs p) || recordingRight S H v (engine .records known y) y ≡ true → RecordingMeets engine start S H v p y cs
+    unfolding recordingRight
+    agreeing e = record { told = λ o a. go (isOpened xs p) refl o a }
+      where
+        go : (k : Bool) → isOpened xs p ≡ k → Opened engine start cs p → engine .records (words engine start cs p) y ≡ true → y .bit ≡ boxBit (y .vote) (y .round)
+        go false k o a = absurd (x .none p k o)
+        go true k o a =
+            let taken : engine .records known y ≡ true = rw (x .equal p k) at a in
+            let e1 = or-second (not (isOpened xs p)) _ e (not-of-true (isOpened xs p) k) in
+            eqb-true (y .bit) _ (or-second (not (engine .records known y)) _ e1 (not-of-true _ taken))
+
+    after-recording : isOpened xs p ≡ true → engine .records known y ≡ true → Matches start p (record { text = engine .recording-line y; after = engine .recorded known y; sent = [] }) (recording p y ∷ cs)
+    unfolding among
+    after-recording k t =
+        record {
+          text = refl;
+          leaves = words-here start (recording p y) cs ∙ ap (λ (w : List ℕ). engine .recorded w y) (x .equal p k);
+          size = size-next start (recording p y) cs tt p (x .size p honest);
+          sent = λ b f. absurd (false≢true f);
+        }
+
+    recording-next : RecordingMeets engine start S H v p y cs → Tracks start S H v (recording p y ∷ cs) (statesAfter (recording p y) xs) gs
+    unfolding statesAfter recordingLines
+    recording-next meets =
+        entry-next start S H v x (recording p y) (engine .recorded known y) (recordingLines y known (linesOf xs p)) gs tt
+        (λ q h. size-next start (recording p y) cs tt q (x .size q h))
+        (λ k. words-here start (recording p y) cs ∙ ap (λ (w : List ℕ). engine .recorded w y) (x .equal p k))
+        (λ k. rw (journal-here start (recording p y) cs, x .equal p k) (line-next start S H v x p (recording p y ∷ cs) _ (linesOf xs p) (journal engine start cs p) (engine .records known y) (after-recording k) (x .lines p k)))
+        (λ m b d. x .gone m b (departed-before engine start tt d)) (honest, meets, x .meet)
 
   -- ---- opening
 
@@ -255,6 +294,9 @@ module _ (start : ℕ → List ℕ) (S : Agreed) (H : ℕ → Bool) (v : ℕ) {c
       entry-next start S H v x (report p r) (wordsOf xs p) (linesOf xs p) gs tt (λ q h. size-next start (report p r) cs tt q (x .size q h))
       (λ k. words-here start (report p r) cs ∙ x .equal p k) (λ k. rw (journal-here start (report p r) cs) (x .lines p k))
       (λ m b d. x .gone m b (departed-before engine start tt d)) (listed-honest start S H v p e, tt, x .meet)
+  next (recording p y) s e =
+      let h = listed-honest start S H v p (and-left (listed S H v p) _ e) in
+      recording-next p y h (agreeing p y h (and-right (listed S H v p) _ e))
   next (restore p u r) s e =
       let f = and-right (listed S H v p) _ e in
       let g = and-right (isOpened xs p) _ f in
@@ -267,6 +309,7 @@ sized-tail (opening p o) cs s = s
 sized-tail (delivery p m b) cs s = s
 sized-tail (turn p l) cs s = s
 sized-tail (report p r) cs s = s
+sized-tail (recording p y) cs s = s
 sized-tail (restore p u r) cs s = s .1
 
 module _ (start : ℕ → List ℕ) (S : Agreed) (H : ℕ → Bool) (v : ℕ) (room : (p : ℕ) → Honest (world engine S H) p → length (start p) ≡ stateWords) where

@@ -10,7 +10,8 @@ use Rattle.quorum.specs.Bools.{and-left, and-right}
 use Rattle.records.specs.Layout.{stateWords}
 use Rattle.agreement.specs.Evidence.{Honest}
 use Rattle.agreement.specs.Plain.{NoRestore}
-use Rattle.agreement.specs.Calls.{Call, engine, Arguments, Agreed, Bytes, world, place, left, Moment, Journal, wrote, words, journal, Opened, Departed}
+use Rattle.agreement.specs.Calls.{Call, world, place, left, Moment, Journal, wrote, words, journal, Opened, Departed}
+use Rattle.agreement.specs.EngineCalls.{engine, Arguments, Agreed, Bytes}
 use Rattle.agreement.specs.EngineOpening.{first, opened-first, open-refused}
 use Rattle.agreement_example.specs.Lists.{opened-later, opened-before, NoOpening, AllMeet}
 use Rattle.agreement_example.specs.Checking.{Line, Entry, Gone, isOpened, wordsOf, linesOf, withEntry, some, opens, listed}

@@ -17,7 +17,8 @@ use Rattle.report.specs.Report.{reportAnswer}
 use Rattle.report.specs.declared.Answer.{Answer}
 use Rattle.report.specs.declared.Answer.the-variants.{Refused, Given}
 use Rattle.agreement.specs.Evidence.{Honest}
-use Rattle.agreement.specs.Calls.{Call, opening, report, engine, Agreed, world}
+use Rattle.agreement.specs.Calls.{Call, opening, report, world}
+use Rattle.agreement.specs.EngineCalls.{engine, Agreed}
 use Rattle.agreement_example.specs.Checking.{wordsOf, run}
 use Rattle.agreement_example.specs.Example.{Example, passes, passes-example}
 use Rattle.agreement_example.specs.Refusals.{refusals}
@@ -28,7 +29,7 @@ use Rattle.agreement_example.specs.Computing.{checks}
 
 -- the weights as one word: 1 has the marks 1, 17, 33 and 49, 2 and 3 the marks 2 and 3
 abbrev pub session : Agreed
-session = record { settings = record { n = 3; ta = 1; ts = 1; whole = 6; weights = 2 ^ 48 + 2 ^ 32 + 2 ^ 16 + 7 }; number = 7; coins = 1 ∷ 0 ∷ 1 ∷ [] }
+session = record { settings = record { n = 3; ta = 1; ts = 1; whole = 6; weights = 2 ^ 48 + 2 ^ 32 + 2 ^ 16 + 7 }; number = 7; coins = 1 ∷ 0 ∷ 1 ∷ []; boxed = 0 }
 
 abbrev pub firstTwo : ℕ → Bool
 firstTwo p = leb p 2
@@ -39,7 +40,7 @@ unfoldable pub openings : List (Call engine)
 openings = opens 2 ∷ opens 1 ∷ []
   where
     opens : ℕ → Call engine
-    opens p = opening p (openingWith 3 1 1 (1 ∷ 0 ∷ 1 ∷ []) (4 ∷ 1 ∷ 1 ∷ []) p)
+    opens p = opening p (openingWith 3 1 1 (1 ∷ 0 ∷ 1 ∷ []) (4 ∷ 1 ∷ 1 ∷ []) 0 p)
 
 -- a turn of each honest one
 unfoldable pub turns : List (Call engine) → List (Call engine)
@@ -57,24 +58,27 @@ fromBoth m xs cs = toBoth 2 m xs (toBoth 1 m xs cs)
 unfoldable pub twice : Message → Message → List (Call engine) → List (Call engine)
 twice m k cs = fromBoth k [] (fromBoth m [] (turns (turns cs)))
 
--- broadcasts 1 and 3
-unfoldable pub untilReadies : List (Call engine)
-untilReadies =
+-- broadcasts 1 and 3, after the openings
+unfoldable pub withReadies : List (Call engine) → List (Call engine)
+withReadies cs =
     twice (Ready 1 5) (Ready 3 6)
     (twice (Echo 1 5) (Echo 3 6)
-    (toBoth 3 (Send 3 6) [] (toBoth 1 (Send 1 5) [] (turns openings))))
+    (toBoth 3 (Send 3 6) [] (toBoth 1 (Send 1 5) [] (turns cs))))
 
--- votes 1 and 3 start with 1 and are decided; the turn that decides vote 3 is followed by the start of vote 2
-unfoldable pub untilDecided : List (Call engine)
-untilDecided = turns (turns (twice (Aux 1 1 1) (Aux 3 1 1) (twice (Est 1 1 1) (Est 3 1 1) untilReadies)))
+-- votes 1 and 3 start with 1, up to their AUXs
+unfoldable pub withAuxes : List (Call engine) → List (Call engine)
+withAuxes cs = twice (Aux 1 1 1) (Aux 3 1 1) (twice (Est 1 1 1) (Est 3 1 1) (withReadies cs))
 
--- vote 2 starts with 0 and is decided, then the COMMITs
+-- both are decided, and then vote 2 starts with 0, up to its AUXs
+unfoldable pub withLastAuxes : List (Call engine) → List (Call engine)
+withLastAuxes cs = fromBoth (Aux 2 1 0) [] (turns (fromBoth (Est 2 1 0) [] (turns (turns (turns cs)))))
+
+-- it is decided, then the COMMITs
+unfoldable pub withSets : List (Call engine) → List (Call engine)
+withSets cs = report 1 (blank 16, blank 16) ∷ turns (fromBoth (Commit 1) (5 ∷ []) (turns (turns cs)))
+
 unfoldable pub weightedCalls : List (Call engine)
-weightedCalls =
-    report 1 (blank 16, blank 16)
-    ∷ turns (fromBoth (Commit 1) (5 ∷ []) (turns
-    (turns (fromBoth (Aux 2 1 0) [] (turns
-    (fromBoth (Est 2 1 0) [] (turns untilDecided)))))))
+weightedCalls = withSets (withLastAuxes (withAuxes openings))
 
 -- whatever 2,048 words the buffers of the honest ones hold at the start
 abbrev pub WeightedMeet : Type 0
@@ -92,11 +96,11 @@ pub record HeavyDecides : Type 0 where
   pub exit : exitIn (reportAnswer (wordsOf (run session firstTwo 5 weightedCalls .states) 1) 16 16) ≡ 2
 
 weighted-pass : passes session firstTwo 5 weightedCalls ≡ true
-unfolding calls checks openings turns toBoth fromBoth twice untilReadies untilDecided weightedCalls
+unfolding calls checks openings turns toBoth fromBoth twice withReadies withAuxes withLastAuxes withSets weightedCalls
 weighted-pass = refl
 
 weighted-sized : AllSized weightedCalls
-unfolding checks openings turns toBoth fromBoth twice untilReadies untilDecided weightedCalls
+unfolding checks openings turns toBoth fromBoth twice withReadies withAuxes withLastAuxes withSets weightedCalls
 weighted-sized = tt
 
 weighted-meet : WeightedMeet
@@ -104,11 +108,11 @@ weighted-meet start room = passes-example start session firstTwo 5 weightedCalls
 
 -- no call is refused
 pub weighted-refusals : refusals session firstTwo 5 weightedCalls .numbers ≡ []
-unfolding calls checks openings turns toBoth fromBoth twice untilReadies untilDecided weightedCalls
+unfolding calls checks openings turns toBoth fromBoth twice withReadies withAuxes withLastAuxes withSets weightedCalls
 weighted-refusals = refl
 
 exit-two : exitIn (reportAnswer (wordsOf (run session firstTwo 5 weightedCalls .states) 1) 16 16) ≡ 2
-unfolding calls checks openings turns toBoth fromBoth twice untilReadies untilDecided weightedCalls exitIn
+unfolding calls checks openings turns toBoth fromBoth twice withReadies withAuxes withLastAuxes withSets weightedCalls exitIn
 exit-two = refl
 
 pub heavy-decides : HeavyDecides

@@ -3,6 +3,7 @@
 ghost use Rattle.agreement_example.specs.One.{OneMeets};
 ghost use Rattle.agreement_example.specs.Four.{FourMeet};
 ghost use Rattle.agreement_example.specs.Weighted.{HeavyDecides};
+ghost use Rattle.agreement_example.specs.Boxed.{BoxDecides, Waits};
 ghost use Rattle.agreement_example.specs.PowerLost.{LostMeets};
 ghost use Rattle.agreement_example.specs.LineLost.{LineMissed};
 
@@ -19,6 +20,16 @@ pub fn four_concentrators()
 // A heavy and a light honest concentrator close by Exit 2, whose majority is the heavy one's weight.
 pub fn weighted_concentrators()
     ensures { λ _. ⌜ HeavyDecides ⌝ }
+{}
+
+// The same with boxed coins, whose bits both record.
+pub fn boxed_concentrators()
+    ensures { λ _. ⌜ BoxDecides ⌝ }
+{}
+
+// Until it has recorded the bit, a concentrator of that session waits: its turns are idle.
+pub fn waits_for_coin()
+    ensures { λ _. ⌜ Waits ⌝ }
 {}
 
 // One concentrator loses power twice, falls back both times to a cut of its journal, and closes.

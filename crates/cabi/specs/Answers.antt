@@ -1,9 +1,11 @@
--- The answers of the five calls as one number of 64 bits. Bits 0 to 7 are the number of the refusal, 0 where the call is accepted;
+-- The answers of the six calls and of the coin box as one number of 64 bits. Bits 0 to 7 are the number of the refusal, 0 where the call is accepted;
 -- on a refusal the others are 0, but for the line's number beside 15.
 use Prim.Native.Nat.{ℕ, _+_, _*_, _%_, _^_}
-use mathlib.Core.Bool.{cond}
+use mathlib.Core.Bool.{Bool, true, false, cond}
 use lib.Dec.{ltb}
 use Rattle.settings.specs.Refusals.{JOURNAL}
+use Rattle.coin_box.specs.declared.Reply.{Reply}
+use Rattle.coin_box.specs.declared.Reply.the-variants as box
 use Rattle.journal.specs.declared.Entry.{Entry}
 use Rattle.journal.specs.declared.Entry.the-variants as journal
 use Rattle.restore.specs.declared.Restored.{Restored}
@@ -15,7 +17,7 @@ use Rattle.report.specs.declared.Figures.{Figures}
 use Rattle.report.specs.declared.Answer.{Answer}
 use Rattle.report.specs.declared.Answer.the-variants as report
 
--- opening and delivery; bits 16 to 31: the length of the line
+-- opening, delivery and recording; bits 16 to 31: the length of the line
 abbrev pub entryNumber : Entry → ℕ
 entryNumber (journal.Refused k) = k
 entryNumber (journal.Line l) = 2 ^ 16 * l
@@ -43,3 +45,13 @@ abbrev pub restoredNumber : Restored → ℕ
 restoredNumber (restore.Refused k) = k
 restoredNumber (restore.Journal line) = JOURNAL + 2 ^ 8 * (line % 2 ^ 56)
 restoredNumber (restore.Given m bytes) = 2 ^ 8 * cond (ltb 0 m) 1 0 + 2 ^ 16 * m + 2 ^ 32 * (bytes % 2 ^ 32)
+
+abbrev pub bitValue : Bool → ℕ
+bitValue true = 1
+bitValue false = 0
+
+-- a request to the coin box; bits 8 to 15: 0 while the coin is sealed, else 1; 16 to 23: its bit
+abbrev pub replyNumber : Reply → ℕ
+replyNumber (box.Refused k) = k
+replyNumber box.Sealed = 2 ^ 8 * 0
+replyNumber (box.Bit b) = 2 ^ 8 * 1 + 2 ^ 16 * bitValue b

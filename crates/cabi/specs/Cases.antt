@@ -33,15 +33,18 @@ use Rattle.report.specs.declared.Figures.{Figures}
 use Rattle.report.specs.declared.Answer.{Answer}
 use Rattle.report.specs.declared.Answer.the-variants as report
 use Rattle.journal.specs.Laws.{line-taken}
-use Rattle.journal.specs.Journal.{lineEntry, openNumber, openEntry, deliverNumber, deliverEntry}
-use Rattle.journal.specs.Fitting.{opening-fits, delivery-fits}
+use Rattle.journal.specs.Journal.{lineEntry, openNumber, openEntry, deliverNumber, deliverEntry, recordNumber, recordEntry}
+use Rattle.journal.specs.Fitting.{opening-fits, delivery-fits, recording-fits}
+use Rattle.coin_box.specs.Box.{requestReply}
+use Rattle.coin_box.specs.declared.Reply.{Reply}
+use Rattle.coin_box.specs.declared.Reply.the-variants as box
 use Rattle.journal.specs.declared.Entry.{Entry}
 use Rattle.journal.specs.declared.Entry.the-variants as journal
 use Rattle.restore.specs.Complete.{linesOf, joined}
 use Rattle.restore.specs.Restoring.{Replay, wrong, right, replay, lengthAgain, replayAnswer, lentAnswer, restoreAnswer}
 use Rattle.restore.specs.declared.Restored.{Restored}
 use Rattle.restore.specs.declared.Restored.the-variants as restore
-use Rattle.cabi.specs.Answers.{entryNumber, outcomeNumber, figuresNumber, reportNumber, restoredNumber}
+use Rattle.cabi.specs.Answers.{entryNumber, outcomeNumber, figuresNumber, reportNumber, restoredNumber, bitValue, replyNumber}
 
 -- the length of a line that is written, and of a message that is given again
 abbrev pub lineLength : Entry → ℕ
@@ -120,12 +123,12 @@ entry-few k line h = go (eqb k 0) refl
     go true f = h (eqb-true k 0 f)
     go false f = omega arith
 
-module _ (words n ta ts own session input : ℕ) (coins weights : List ℕ) (room : ℕ) (e : Entry) (f : e ≡ openEntry words n ta ts own session input coins weights room) where
+module _ (words n ta ts own session input : ℕ) (coins weights : List ℕ) (boxed room : ℕ) (e : Entry) (f : e ≡ openEntry words n ta ts own session input coins weights boxed room) where
   pub open-few : lineLength e ≤ 512
   unfolding openEntry openNumber
-  open-few = rw f (entry-few _ _ (λ z. opening-fits words n ta ts own session input coins weights (line-taken _ room z .0)))
+  open-few = rw f (entry-few _ _ (λ z. opening-fits words n ta ts own session input coins weights boxed (line-taken _ room z .0)))
 
-  pub open-number : (r : ℕ) → r ≡ entryNumber e → r ≡ entryNumber (openEntry words n ta ts own session input coins weights room)
+  pub open-number : (r : ℕ) → r ≡ entryNumber e → r ≡ entryNumber (openEntry words n ta ts own session input coins weights boxed room)
   open-number r g = g ∙ ap entryNumber f
 
 module _ (s : List ℕ) (link : ℕ) (b : List ℕ) (room : ℕ) (e : Entry) (f : e ≡ deliverEntry s link b room) where
@@ -136,7 +139,15 @@ module _ (s : List ℕ) (link : ℕ) (b : List ℕ) (room : ℕ) (e : Entry) (f 
   pub deliver-number : (r : ℕ) → r ≡ entryNumber e → r ≡ entryNumber (deliverEntry s link b room)
   deliver-number r g = g ∙ ap entryNumber f
 
-pub ruleset line-cases = (open-few, open-number, deliver-few, deliver-number)
+module _ (s : List ℕ) (i r b room : ℕ) (e : Entry) (f : e ≡ recordEntry s i r b room) where
+  pub record-few : lineLength e ≤ 512
+  unfolding recordEntry recordNumber
+  record-few = rw f (entry-few _ _ (λ z. recording-fits i r b))
+
+  pub record-number : (q : ℕ) → q ≡ entryNumber e → q ≡ entryNumber (recordEntry s i r b room)
+  record-number q g = g ∙ ap entryNumber f
+
+pub ruleset line-cases = (open-few, open-number, deliver-few, deliver-number, record-few, record-number)
 
 again-few : (x : Option (List ℕ)) → lengthAgain x ≤ 140
 unfolding lengthAgain
@@ -236,3 +247,22 @@ parts f a b c =
       in-force = omega arith;
       turns = omega arith;
     }
+
+bit-small : (b : Bool) → bitValue b ≤ 1
+bit-small true = omega arith
+bit-small false = omega arith
+
+module _ (x : Reply) (b : Bool) (e : x ≡ box.Bit b) (k : ℕ) (f : k ≡ bitValue b) where
+  pub bit-fits : Fits w64 (65536 * k)
+  bit-fits = record { fits = omega (arith, bit-small b) }
+
+  pub reply-fits : Fits w64 (256 + 65536 * k)
+  reply-fits = record { fits = omega (arith, bit-small b) }
+
+  pub bit-number : 256 + 65536 * k ≡ replyNumber x
+  bit-number = rw (e, f)
+
+pub ruleset reply-cases = (bit-fits, reply-fits, bit-number)
+
+pub request-number : (s : List ℕ) (p i r : ℕ) (x : Reply) (k : ℕ) → x ≡ requestReply s p i r → k ≡ replyNumber x → k ≡ replyNumber (requestReply s p i r)
+request-number s p i r x k e f = f ∙ ap replyNumber e

@@ -1,4 +1,6 @@
-// The five calls of a concentrator's own program, which is written in C. Each answers one number: specs/Answers.antt has its bits.
+// The six calls of a concentrator's own program, which is written in C, and the two of the coin box. Each answers one number:
+// specs/Answers.antt has its bits.
+use coin_box::Reply;
 use journal::Entry;
 use report::Answer;
 use report::Figures;
@@ -10,11 +12,13 @@ ghost use Prim.Native.Nat.{_<_, _≤_};
 ghost use lib.ListN.{length};
 ghost use lib.Dec.{ltb};
 ghost use mathlib.Core.Bool.{cond};
-ghost use Rattle.journal.specs.Journal.{openEntry, openedWords, openedBytes, deliverEntry, deliveredWords, deliveredBytes, turnRoom, turnedMessage, turnedLine};
+ghost use Rattle.journal.specs.Journal.{openEntry, openedWords, openedBytes, deliverEntry, deliveredWords, deliveredBytes, recordEntry, recordWords, recordBytes, turnRoom, turnedMessage, turnedLine};
+ghost use Rattle.opening.specs.Given.{weightsWord};
+ghost use Rattle.coin_box.specs.Box.{boxOpenAnswer, boxOpened, requestReply, requestWords};
 ghost use Rattle.report.specs.Report.{reportAnswer, reportNamed, reportInForce};
 ghost use Rattle.restore.specs.Restoring.{restoreAnswer, restoredWords, restoredBytes};
 ghost use Rattle.turn.specs.Turn.{sentLength, turnOutcome, turnWords};
-ghost use Rattle.cabi.specs.Answers.{entryNumber, outcomeNumber, figuresNumber, reportNumber, restoredNumber};
+ghost use Rattle.cabi.specs.Answers.{entryNumber, outcomeNumber, figuresNumber, reportNumber, restoredNumber, bitValue, replyNumber};
 ghost use Rattle.cabi.specs.Cases.{lineLength, messageLength};
 
 fn entry_number(e: Entry) -> u64
@@ -39,13 +43,26 @@ pub extern "C" fn pack_open(
     input: u64,
     coins: &[u32],
     weights: &[u8],
+    boxed: u64,
     line: &mut [u8],
 ) -> u64
-    ensures answer { λ r. ⌜ r ≡ entryNumber (openEntry (length (now (state .entry))) n ta ts own session input (now (coins .entry)) (now (weights .entry)) (length (now (line .entry)))) ⌝ }
-    ensures words { λ _. ⌜ now (state .exit) ≡ openedWords (now (state .entry)) n ta ts own session input (now (coins .entry)) (now (weights .entry)) (length (now (line .entry))) ⌝ }
-    ensures bytes { λ _. ⌜ now (line .exit) ≡ openedBytes (length (now (state .entry))) n ta ts own session input (now (coins .entry)) (now (weights .entry)) (now (line .entry)) ⌝ }
+    ensures answer { λ r. ⌜ r ≡ entryNumber (openEntry (length (now (state .entry))) n ta ts own session input (now (coins .entry)) (now (weights .entry)) boxed (length (now (line .entry)))) ⌝ }
+    ensures words { λ _. ⌜ now (state .exit) ≡ openedWords (now (state .entry)) n ta ts own session input (now (coins .entry)) (now (weights .entry)) boxed (length (now (line .entry))) ⌝ }
+    ensures bytes { λ _. ⌜ now (line .exit) ≡ openedBytes (length (now (state .entry))) n ta ts own session input (now (coins .entry)) (now (weights .entry)) boxed (now (line .entry)) ⌝ }
 {
-    entry_number(journal::open(state, n, ta, ts, own, session, input, coins, weights, line))
+    entry_number(journal::open(
+        state,
+        n,
+        ta,
+        ts,
+        own,
+        session,
+        input,
+        coins,
+        weights,
+        boxed,
+        line,
+    ))
 }
 
 // Delivers a message that came over the link of a concentrator; its line stands at the front of the last lent bytes.
@@ -56,6 +73,22 @@ pub extern "C" fn pack_deliver(state: &mut [u64], link: u64, message: &[u8], lin
     ensures bytes { λ _. ⌜ now (line .exit) ≡ deliveredBytes (now (state .entry)) link (now (message .entry)) (now (line .entry)) ⌝ }
 {
     entry_number(journal::deliver(state, link, message, line))
+}
+
+// Records a bit of the coin box; its line stands at the front of the last lent bytes.
+#[no_mangle]
+pub extern "C" fn pack_record(
+    state: &mut [u64],
+    vote: u64,
+    round: u64,
+    bit: u64,
+    line: &mut [u8],
+) -> u64
+    ensures answer { λ r. ⌜ r ≡ entryNumber (recordEntry (now (state .entry)) vote round bit (length (now (line .entry)))) ⌝ }
+    ensures words { λ _. ⌜ now (state .exit) ≡ recordWords (now (state .entry)) vote round bit (length (now (line .entry))) ⌝ }
+    ensures bytes { λ _. ⌜ now (line .exit) ≡ recordBytes (now (state .entry)) vote round bit (now (line .entry)) ⌝ }
+{
+    entry_number(journal::record(state, vote, round, bit, line))
 }
 
 fn outcome_number(o: Outcome) -> u64
@@ -134,4 +167,45 @@ pub extern "C" fn pack_restore(state: &mut [u64], journal: &[u8], message: &mut 
     ensures bytes { λ _. ⌜ now (message .exit) ≡ restoredBytes (length (now (state .entry))) (now (journal .entry)) (now (message .entry)) ⌝ }
 {
     restored_number(restore::restore(state, journal, message))
+}
+
+// Opens a coin box in the lent words.
+#[no_mangle]
+pub extern "C" fn pack_box_open(
+    words: &mut [u64],
+    n: u64,
+    ta: u64,
+    ts: u64,
+    coins: &[u32],
+    weights: &[u8],
+) -> u64
+    ensures answer { λ r. ⌜ r ≡ boxOpenAnswer (length (now (words .entry))) n ta ts (weightsWord n (now (weights .entry))) (length (now (coins .entry))) ⌝ }
+    ensures words { λ _. ⌜ now (words .exit) ≡ boxOpened (now (words .entry)) n ta ts (weightsWord n (now (weights .entry))) (now (coins .entry)) ⌝ }
+{
+    coin_box::open(words, n, ta, ts, coins, weights)
+}
+
+fn bit_value(b: bool) -> u64
+    ensures { λ r. ⌜ r ≡ bitValue b ⌝ }
+{
+    if b { 1 } else { 0 }
+}
+
+fn reply_number(x: Reply) -> u64
+    ensures { λ r. ⌜ r ≡ replyNumber x ⌝ }
+{
+    match x {
+        Reply::Refused(k) => k,
+        Reply::Sealed => 0,
+        Reply::Bit(b) => 256 + 65536 * bit_value(b),
+    }
+}
+
+// Asks the coin box for the coin of a vote in a round.
+#[no_mangle]
+pub extern "C" fn pack_box_request(words: &mut [u64], requester: u64, vote: u64, round: u64) -> u64
+    ensures answer { λ r. ⌜ r ≡ replyNumber (requestReply (now (words .entry)) requester vote round) ⌝ }
+    ensures words { λ _. ⌜ now (words .exit) ≡ requestWords (now (words .entry)) requester vote round ⌝ }
+{
+    reply_number(coin_box::request(words, requester, vote, round))
 }

@@ -13,7 +13,7 @@ use Rattle.quorum.specs.MarkLaws.{mark-other}
 use Rattle.quorum.specs.Total.{count}
 use Rattle.quorum.specs.TotalLaws.{count-all, count-le}
 use Rattle.quorum.specs.Whole.{ones-count, ones-whole}
-use Rattle.records.specs.Layout.{turnsAt, sessionAt}
+use Rattle.records.specs.Layout.{turnsAt, sessionAt, boxedAt}
 use Rattle.records.specs.Words.{word, marked}
 use Rattle.records.specs.Fill.{blank, length-blank}
 use Rattle.records.specs.Records.{closed, commitSet}
@@ -28,13 +28,13 @@ use Rattle.turn.specs.Due.{due}
 use Rattle.turn.specs.DueLaws.{due-told}
 use Rattle.turn.specs.Turn.{applied, admittedIn, admittedFor, admits, wordsFor, turnWords}
 use Rattle.turn.specs.Turn as turn-specs
-use Rattle.turn.specs.Frame.{Placed, told-placed, Kept, setting, length-applied, applied-idle, applied-other, applied-kept, applied-turns}
+use Rattle.turn.specs.Frame.{Placed, told-placed, Kept, setting, beyond, length-applied, applied-idle, applied-other, applied-kept, applied-turns}
 use Rattle.turn_bound.specs.TurnBound.{Step, after}
 use Rattle.turn_bound.specs.Raising.{counted-mark}
 use Rattle.turn_bound.specs.Sound.{sound-state}
 use Rattle.turn_bound.specs.Turning.{turn-sound}
 use Rattle.held.specs.Held.{COMMIT}
-use Rattle.held.specs.Keeping.{held-back}
+use Rattle.held.specs.Keeping.{kept-holding, held-back}
 use Rattle.held.specs.Staying.{Stays, stays-kept}
 use Rattle.costliest.specs.Calls.{each, turns}
 use Rattle.costliest.specs.Saying.{settings, Good, ruled}
@@ -71,8 +71,9 @@ module _ (n c : ℕ) (low : 1 ≤ n) (few : n ≤ 16) (s : List ℕ) (x : Good n
       record {
         sound = rw turn-words at (turn-sound (settings n) (ruled n c low few) s (x .sound) (blank 140) .sound);
         session = same sessionAt (setting (omega arith)) ∙ x .session;
+        printed = same boxedAt (beyond (omega arith)) ∙ x .printed;
         unclosed = unclosed;
-        allowed = λ k y num h. x .allowed k y num (held-back s (applied s a) (x .sound .size) (length-applied s a) same k y (num .low) (num .high) h);
+        allowed = λ k y num h. x .allowed k y num (held-back s (applied s a) (x .sound .size) (length-applied s a) (kept-holding s (applied s a) same) k y (num .low) (num .high) h);
       }
 
   pub turn-acts : isDue a ≡ true → word (applied s a) turnsAt ≡ word s turnsAt + 1

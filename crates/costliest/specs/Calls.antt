@@ -15,9 +15,9 @@ unfoldable pub coinWords : ℕ → List ℕ
 coinWords zero = []
 coinWords (suc n) = 0 ∷ coinWords n
 
--- the opening: ta = ts = 0, own number 1, weights all 1
+-- the opening, "For version 1, weights all 1, printed coins": ta = ts = 0, own number 1
 unfoldable pub opens : ℕ → Arguments
-opens n = record { n = n; ta = 0; ts = 0; own = 1; session = 7; input = 5; coins = coinWords n; weights = onesGiven n }
+opens n = record { n = n; ta = 0; ts = 0; own = 1; session = 7; input = 5; coins = coinWords n; weights = onesGiven n; boxed = 0 }
 
 -- f 1 to f n, one after another, after the calls cs
 unfoldable pub each : (ℕ → List Step → List Step) → ℕ → List Step → List Step

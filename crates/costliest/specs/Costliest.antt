@@ -1,5 +1,5 @@
 -- For n from 2 to 16 the costliest session takes exactly 99·n+3 turns.
-use Prim.Native.Nat.{ℕ, zero, suc, _+_, _*_, _-_, _^_, _≤_}
+use Prim.Native.Nat.{ℕ, zero, suc, _+_, _*_, _-_, _^_, _≤_, _<_}
 use mathlib.Core.Bool.{true, false, _&&_, true≢false}
 use mathlib.Core.List.{List}
 use mathlib.Core.Logic.{_≢_, _⊎_, inl, inr}
@@ -26,8 +26,9 @@ use Rattle.commits.specs.Sets.{set-same}
 use Rattle.acts.specs.Acts.{isDue, orAct}
 use Rattle.acts.specs.declared.Act.the-variants.{InForce}
 use Rattle.session.specs.Session.{numbered}
+use Rattle.opening.specs.Given.{coinsGiven}
 use Rattle.opening.specs.Opening.{openAnswer, openWords, opened}
-use Rattle.opening.specs.Laws.{first-zero, first-session, first-flags}
+use Rattle.opening.specs.Laws.{first-zero, first-session, first-flags, first-boxed}
 use Rattle.turn.specs.Due.{inForceRule, due}
 use Rattle.turn.specs.Turn.{applied, turnWords}
 use Rattle.turn_bound.specs.TurnBound.{answer, openedBy, Step, after, acting, TurnCount}
@@ -53,13 +54,14 @@ length-coins zero = refl
 length-coins (suc n) = ap suc (length-coins n)
 
 module _ (n : ℕ) (two : 2 ≤ n) (low : 1 ≤ n) (few : n ≤ 16) (s : List ℕ) (size : length s ≡ 2048) where
-  accepted-word : openAnswer (length s) n 0 0 (2 ^ n - 1) 1 (length (coinWords n)) ≡ 0
-  unfolding openAnswer namedTa numbered
+  accepted-word : openAnswer (length s) n 0 0 (2 ^ n - 1) 1 (coinWords n) 0 ≡ 0
+  unfolding openAnswer coinsGiven namedTa numbered
   accepted-word =
       rw (
         size,
         rules-valid n 0 0 (2 ^ n - 1) (ruled n 1 low few),
         le-leb 1 n low,
+        le-leb n 16 few,
         length-coins n,
         eq-eqb n n refl,
       )
@@ -71,18 +73,18 @@ module _ (n : ℕ) (two : 2 ≤ n) (low : 1 ≤ n) (few : n ≤ 16) (s : List �
   abbrev first : List ℕ
   first = openedBy s (opens n)
 
-  first-opened : first ≡ opened s n 0 0 (2 ^ n - 1) 1 7 5 (coinWords n)
+  first-opened : first ≡ opened s n 0 0 (2 ^ n - 1) 1 7 5 (coinWords n) 0
   unfolding opens
-  first-opened = ap (λ (w : ℕ). opened s n 0 0 w 1 7 5 (coinWords n)) (ones-word n low few)
+  first-opened = ap (λ (w : ℕ). opened s n 0 0 w 1 7 5 (coinWords n) 0) (ones-word n low few)
 
-  first-is : first ≡ openWords n 0 0 (2 ^ n - 1) 1 7 5 (coinWords n)
+  first-is : first ≡ openWords n 0 0 (2 ^ n - 1) 1 7 5 (coinWords n) 0
   unfolding opened
-  first-is = first-opened ∙ rw (eq-eqb (openAnswer (length s) n 0 0 (2 ^ n - 1) 1 (length (coinWords n))) 0 accepted-word)
+  first-is = first-opened ∙ rw (eq-eqb (openAnswer (length s) n 0 0 (2 ^ n - 1) 1 (coinWords n) 0) 0 accepted-word)
 
-  zero-at : (k : ℕ) → 24 ≤ k → (k ≡ 141 → ⊥) → word first k ≡ 0
-  zero-at k l ne = rw first-is (first-zero n 0 0 (2 ^ n - 1) 1 7 5 (coinWords n) few k l ne)
+  zero-at : (k : ℕ) → 24 ≤ k → (k ≤ 142 → k < 141) → word first k ≡ 0
+  zero-at k l ne = rw first-is (first-zero n 0 0 (2 ^ n - 1) 1 7 5 (coinWords n) 0 few k l ne)
 
-  no-mark : (k q : ℕ) → 24 ≤ k → (k ≡ 141 → ⊥) → marked first k q ≡ true → ⊥
+  no-mark : (k q : ℕ) → 24 ≤ k → (k ≤ 142 → k < 141) → marked first k q ≡ true → ⊥
   unfolding marked
   no-mark k q l ne e = true≢false (sym e ∙ ap (λ (w : ℕ). mark w q) (zero-at k l ne) ∙ mark-zero q)
 
@@ -103,9 +105,10 @@ module _ (n : ℕ) (two : 2 ≤ n) (low : 1 ≤ n) (few : n ≤ 16) (s : List �
   unfolding closed marked namedTa
   first-good =
       record {
-        sound = rw first-opened (opened-sound s (coinWords n) n 0 0 (2 ^ n - 1) 1 7 5 accepted-word);
-        session = rw first-is (first-session n 0 0 (2 ^ n - 1) 1 7 5 (coinWords n));
-        unclosed = rw first-is (ap (λ (w : ℕ). mark w 1) (first-flags n 0 0 (2 ^ n - 1) 1 7 5 (coinWords n)) ∙ mark-zero 1);
+        sound = rw first-opened (opened-sound s (coinWords n) n 0 0 (2 ^ n - 1) 1 7 5 0 accepted-word);
+        session = rw first-is (first-session n 0 0 (2 ^ n - 1) 1 7 5 (coinWords n) 0);
+        printed = rw first-is (first-boxed n 0 0 (2 ^ n - 1) 1 7 5 (coinWords n) 0 few);
+        unclosed = rw first-is (ap (λ (w : ℕ). mark w 1) (first-flags n 0 0 (2 ^ n - 1) 1 7 5 (coinWords n) 0) ∙ mark-zero 1);
         allowed = λ k y num h. absurd (none-held k y (num .high) h);
       }
 
@@ -145,7 +148,7 @@ module _ (n : ℕ) (two : 2 ≤ n) (low : 1 ≤ n) (few : n ≤ 16) (s : List �
       wide k (COMMIT X) num h a = (a .0, omega (arith, a .1))
 
       of : Good n 1 (after first (acted n)) → Good n n (after first (acted n))
-      of x = record { sound = x .sound; session = x .session; unclosed = x .unclosed; allowed = λ k y num h. wide k y num h (x .allowed k y num h) }
+      of x = record { sound = x .sound; session = x .session; printed = x .printed; unclosed = x .unclosed; allowed = λ k y num h. wide k y num h (x .allowed k y num h) }
 
   brings : Brings n low few first n (λ t. (p : ℕ) → 1 ≤ p → p ≤ n - 1 → commitHeld t (p + 1) ≡ true) (each (λ p. commit n (p + 1)) (n - 1)) (acted n)
   brings = commits-bringing n low few first (acted n) widened

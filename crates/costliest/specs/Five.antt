@@ -16,11 +16,11 @@ use Rattle.costliest.specs.Calls.{coinWords, opens, each, say, turns, co
 use Rattle.costliest.specs.Statement.{FiveTurns, wholeSession}
 use Rattle.turn_bound.specs.Lined.{lined-opened, lined-turns}
 
-computed : word (after (openWords 1 0 0 1 1 7 5 (0 ∷ [])) five) turnsAt ≡ 5
+computed : word (after (openWords 1 0 0 1 1 7 5 (0 ∷ []) 0) five) turnsAt ≡ 5
 unfolding calls five turns each commit say packs after
 computed = refl
 
-accepted-word : (s : List ℕ) → length s ≡ 2048 → openAnswer (length s) 1 0 0 1 1 1 ≡ 0
+accepted-word : (s : List ℕ) → length s ≡ 2048 → openAnswer (length s) 1 0 0 1 1 (0 ∷ []) 0 ≡ 0
 unfolding calls
 accepted-word s e = rw e
 
@@ -29,11 +29,11 @@ word-one = ones-word 1 (omega arith) (omega arith)
 
 accepted : (s : List ℕ) → length s ≡ 2048 → answer s (opens 1) ≡ 0
 unfolding opens coinWords
-accepted s e = ap (λ (w : ℕ). openAnswer (length s) 1 0 0 w 1 1) word-one ∙ accepted-word s e
+accepted s e = ap (λ (w : ℕ). openAnswer (length s) 1 0 0 w 1 (0 ∷ []) 0) word-one ∙ accepted-word s e
 
-first-is : (s : List ℕ) → length s ≡ 2048 → openedBy s (opens 1) ≡ openWords 1 0 0 1 1 7 5 (0 ∷ [])
+first-is : (s : List ℕ) → length s ≡ 2048 → openedBy s (opens 1) ≡ openWords 1 0 0 1 1 7 5 (0 ∷ []) 0
 unfolding opened opens coinWords
-first-is s e = ap (λ (w : ℕ). opened s 1 0 0 w 1 7 5 (0 ∷ [])) word-one ∙ rw (accepted-word s e)
+first-is s e = ap (λ (w : ℕ). opened s 1 0 0 w 1 7 5 (0 ∷ []) 0) word-one ∙ rw (accepted-word s e)
 
 pub five-turns : FiveTurns
 unfolding FiveTurns wholeSession TurnCount costliestCalls

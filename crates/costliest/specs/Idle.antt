@@ -20,7 +20,7 @@ use Rattle.quorum.specs.Weights.{weightOf}
 use Rattle.quorum.specs.Whole.{ones-weight, ones-count, ones-whole}
 use Rattle.records.specs.Layout.{roundAt, estSentAt, auxSentAt, voteAt, estMark}
 use Rattle.records.specs.Words.{word, marked}
-use Rattle.records.specs.Records.{sendSent, commitSent, echoSent, readySent, sendHeld, sendValue, readyHeld, readyValue, echoHeld, echoValue, estHeld, auxHeld, round, estSent, auxSent, commitCount, commitSet, decidedZero, decidedOne}
+use Rattle.records.specs.Records.{sendSent, commitSent, echoSent, readySent, sendHeld, sendValue, readyHeld, readyValue, echoHeld, echoValue, estHeld, auxHeld, round, estSent, auxSent, printed, coinKnown, commitCount, commitSet, decidedZero, decidedOne}
 use Rattle.acts.specs.Acts.{isDue, orAct}
 use Rattle.acts.specs.Choices.{or-idle, first-idle, passed-test}
 use Rattle.acts.specs.declared.Act.the-variants.{Idle, Commit, Send, Echo, Ready, Start, Relay, Aux}
@@ -161,10 +161,15 @@ module _ (n : ℕ) (two : 2 ≤ n) (few : n ≤ 16) (low : 1 ≤ n) (begin : Lis
     unfolding auxValue
     aux-there r rl rh e = passed-test (auxSent s i r) (Aux i r 0) refl (rw (is-accepted i r 0 lo hi rl rh (omega arith)) at e)
 
-    moves : (r : ℕ) → 1 ≤ r → r ≤ 32 → auxSent s i r ≡ true → isDue (cond (auxSent s i r) (moveValue g s i r (accepted g s i r 0) (accepted g s i r 1)) Idle) ≡ true
+    -- printed coins are known
+    known : (r : ℕ) → coinKnown s i r ≡ true
+    unfolding coinKnown printed
+    known r = rw (x .printed)
+
+    moves : (r : ℕ) → 1 ≤ r → r ≤ 32 → auxSent s i r ≡ true → isDue (cond (auxSent s i r && coinKnown s i r) (moveValue g s i r (accepted g s i r 0) (accepted g s i r 1)) Idle) ≡ true
     unfolding moveValue voteQuorum
     moves r rl rh a =
-        rw (a, is-accepted i r 0 lo hi rl rh (omega arith), is-accepted i r 1 lo hi rl rh (omega arith), le-leb (voteQuorum g) (carriers g s i r true true) (omega (arith, all-carry i r lo hi rl rh, ones-whole n few)))
+        rw (a, known r, is-accepted i r 0 lo hi rl rh (omega arith), is-accepted i r 1 lo hi rl rh (omega arith), le-leb (voteQuorum g) (carriers g s i r true true) (omega (arith, all-carry i r lo hi rl rh, ones-whole n few)))
 
     not-running : isDue (roundAct g s i) ≡ false → 1 ≤ round s i → 33 ≤ round s i
     unfolding roundAct running auxAct moveAct

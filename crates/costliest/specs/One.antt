@@ -42,11 +42,13 @@ use Rattle.turn.specs.Frame.{applied-other}
 use Rattle.turn.specs.Admitting.{admitted-settings}
 use Rattle.turn.specs.Laws.{Way, refused, taken, way}
 use Rattle.delivery.specs.Delivery.{delivered}
-use Rattle.turn_bound.specs.TurnBound.{weightsBy, Arguments, answer, openedBy, settingsBy, Step, opening, delivery, turn, report, after, acting, current}
+use Rattle.recording.specs.Recording.{recordedWords}
+use Rattle.turn_bound.specs.TurnBound.{weightsBy, Arguments, answer, openedBy, settingsBy, Step, opening, delivery, turn, report, recording, after, acting, current}
 use Rattle.turn_bound.specs.Sums.{share-few, zero-count}
 use Rattle.turn_bound.specs.Potential.{instancePart, potential}
 use Rattle.turn_bound.specs.Sound.{Sound}
 use Rattle.turn_bound.specs.Delivering.{Delivered, delivery-sound}
+use Rattle.turn_bound.specs.Recorded.{Recorded, recording-sound}
 use Rattle.turn_bound.specs.Opened.{opened-ruled}
 use Rattle.turn_bound.specs.Count.{going, opening-going, refused-words}
 use Rattle.turn_bound.specs.CallCount.{calls-stepped}
@@ -190,6 +192,18 @@ module _ (g : Settings) (ruled : Ruled g) (s : List ℕ) (h : Sound g s) (one : 
             ones = y .same 139 (inr (omega arith, omega arith)) ∙ q .ones;
           }
 
+  recording-quiet : (i r b : ℕ) → Quiet (recordedWords s i r b)
+  recording-quiet i r b = of (recording-sound g ruled s h i r b)
+    where
+      of : Recorded g s (recordedWords s i r b) → Quiet (recordedWords s i r b)
+      of y =
+          record {
+            round = y .same 24 (λ z. omega arith) ∙ q .round;
+            ests = y .same 40 (λ z. omega arith) ∙ q .ests;
+            auxs = y .same 56 (λ z. omega arith) ∙ q .auxs;
+            ones = y .same 139 (λ z. omega arith) ∙ q .ones;
+          }
+
   quiet-few : word s turnsAt ≤ 5
   quiet-few =
       let is : word s turnsAt ≡ potential 1 s = rw one at (h .turns) in
@@ -198,8 +212,8 @@ module _ (g : Settings) (ruled : Ruled g) (s : List ℕ) (h : Sound g s) (one : 
 opening-quiet : (w : List ℕ) (o : Arguments) → answer w o ≡ 0 → Quiet (openedBy w o)
 unfolding opened
 opening-quiet w o e =
-    let few = opened-ruled w (o .coins) (o .n) (o .ta) (o .ts) (weightsBy o) (o .own) (o .session) (o .input) e .few in
-    let z = first-zero (o .n) (o .ta) (o .ts) (weightsBy o) (o .own) (o .session) (o .input) (o .coins) few in
+    let few = opened-ruled w (o .coins) (o .n) (o .ta) (o .ts) (weightsBy o) (o .own) (o .session) (o .input) (o .boxed) e .few in
+    let z = first-zero (o .n) (o .ta) (o .ts) (weightsBy o) (o .own) (o .session) (o .input) (o .coins) (o .boxed) few in
     rw (eq-eqb (answer w o) 0 e)
     (record { round = z 24 (omega arith) (λ e. omega arith); ests = z 40 (omega arith) (λ e. omega arith); auxs = z 56 (omega arith) (λ e. omega arith); ones = z 139 (omega arith) (λ e. omega arith) })
 
@@ -225,6 +239,9 @@ module _ (s : List ℕ) (o : Arguments) (e : answer s o ≡ 0) where
       let y = going (settingsBy o) first (opening-going s o e) cs in
       turn-quiet (now cs) (y .ruled) (after first cs) (y .sound) one lit (quiet cs one lit) out
   quiet (report ∷ cs) one lit = quiet cs one lit
+  quiet (recording i r b ∷ cs) one lit =
+      let y = going (settingsBy o) first (opening-going s o e) cs in
+      recording-quiet (now cs) (y .ruled) (after first cs) (y .sound) one lit (quiet cs one lit) i r b
 
   few-turns : (cs : List Step) → now cs .n ≡ 1 → now cs .weights ≡ 1 → acting first cs ≤ 5
   few-turns cs one lit =

@@ -12,7 +12,7 @@ use Rattle.settings.specs.declared.Settings.{Settings}
 use Rattle.quorum.specs.Marks.{mark}
 use Rattle.quorum.specs.Every.{each-every}
 use Rattle.quorum.specs.Whole.{weightRight, weightsRight, ones-weight, ones-whole}
-use Rattle.records.specs.Layout.{flagsAt, sessionAt}
+use Rattle.records.specs.Layout.{flagsAt, sessionAt, boxedAt}
 use Rattle.records.specs.Words.{word, marked}
 use Rattle.records.specs.Records.{closed, sendHeld, echoHeld, readyHeld, estHeld, auxHeld}
 use Rattle.commits.specs.Commits.{commitHeld}
@@ -57,6 +57,7 @@ Allowed n c k (COMMIT X) = (X ≡ take n packs) × (k ≤ c)
 pub record Good (n c : ℕ) (s : List ℕ) : Type 0 where
   pub sound : Sound (settings n) s
   pub session : word s sessionAt ≡ 7
+  pub printed : word s boxedAt ≡ 0
   pub unclosed : closed s ≡ false
   pub allowed : (k : ℕ) (y : Message) → Numbered k → holds s k y → Allowed n c k y
 
@@ -135,6 +136,7 @@ module _ (n c : ℕ) (low : 1 ≤ n) (few : n ≤ 16) where
                     record {
                       sound = y .sound;
                       session = y .same sessionAt (inl (omega arith)) ∙ x .session;
+                      printed = y .kind ∙ x .printed;
                       unclosed = ap (λ (w : ℕ). mark w 1) (y .same flagsAt (inl (omega arith))) ∙ x .unclosed;
                       allowed = rw delivers (z .0);
                     };

@@ -39,13 +39,15 @@ use Rattle.turn.specs.declared.Outcome.the-variants as outcome
 use Rattle.wire.specs.declared.Message.the-variants as message
 use Rattle.acts.specs.declared.View.{View}
 use Rattle.delivery.specs.Delivery.{delivered}
-use Rattle.turn_bound.specs.TurnBound.{Arguments, answer, openedBy, settingsBy, Step, opening, delivery, turn, report, after, acting, current}
+use Rattle.recording.specs.Recording.{recordedWords}
+use Rattle.turn_bound.specs.TurnBound.{Arguments, answer, openedBy, settingsBy, Step, opening, delivery, turn, report, recording, after, acting, current}
 use Rattle.turn_bound.specs.Sums.{share-few, sum-grows, sum-one}
 use Rattle.turn_bound.specs.Potential.{instancePart, potential}
 use Rattle.turn_bound.specs.Rounds.{Entry}
 use Rattle.turn_bound.specs.Raising.{counted-mark, start-entry, move-entry, moveBit}
 use Rattle.turn_bound.specs.Sound.{Sound}
 use Rattle.turn_bound.specs.Delivering.{Delivered, delivery-sound}
+use Rattle.turn_bound.specs.Recorded.{Recorded, recording-sound}
 use Rattle.turn_bound.specs.Count.{Going, going, opening-going, refused-words}
 use Rattle.costliest.specs.Statement.{sentOne, summed, Sends, AtMostSent}
 
@@ -292,6 +294,12 @@ module _ (g : Settings) (ruled : Ruled g) (s : List ℕ) (h : Sound g s) (m b : 
       of : Delivered g s (delivered s link bytes) → SentWithin (g .n) (delivered s link bytes) m b
       of y = within-same (g .n) (ruled .few) s (delivered s link bytes) m b (y .same flagsAt (inl (omega arith))) (y .count) (λ j lo hi. y .same (roundAt j) (inl (omega (arith, ruled .few)))) x
 
+  recording-within : (i r bit : ℕ) → SentWithin (g .n) (recordedWords s i r bit) m b
+  recording-within i r bit = of (recording-sound g ruled s h i r bit)
+    where
+      of : Recorded g s (recordedWords s i r bit) → SentWithin (g .n) (recordedWords s i r bit) m b
+      of y = within-same (g .n) (ruled .few) s (recordedWords s i r bit) m b (y .same flagsAt (λ z. omega arith)) (y .count) (λ j lo hi. y .same (roundAt j) (λ z. omega arith)) x
+
 opening-within : (w : List ℕ) (o : Arguments) → answer w o ≡ 0 → SentWithin (o .n) (openedBy w o) 0 0
 opening-within w o e =
     let y = opening-going w o e in
@@ -319,6 +327,7 @@ module _ (s : List ℕ) (o : Arguments) (e : answer s o ≡ 0) where
   sent-within (delivery link b ∷ cs) = let y = all-going cs in delivery-within (now cs) (y .ruled) (after first cs) (y .sound) _ _ (sent-within cs) link b
   sent-within (turn lent ∷ cs) = let y = all-going cs in turn-within (now cs) (y .ruled) (after first cs) (y .sound) _ _ (sent-within cs) lent
   sent-within (report ∷ cs) = sent-within cs
+  sent-within (recording i r b ∷ cs) = let y = all-going cs in recording-within (now cs) (y .ruled) (after first cs) (y .sound) _ _ (sent-within cs) i r b
 
   few-sent : (cs : List Step) → Sends (now cs .n) first cs
   few-sent cs =

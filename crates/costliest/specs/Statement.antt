@@ -8,7 +8,7 @@ use lib.ListN.{length}
 use Rattle.turn.specs.Turn.{sentLength, turnOutcome}
 use Rattle.turn.specs.declared.Outcome.{Outcome}
 use Rattle.turn.specs.declared.Outcome.the-variants.{Refused, Idle, Sent, MovedOut, InForce}
-use Rattle.turn_bound.specs.TurnBound.{Arguments, answer, openedBy, settingsBy, Step, opening, delivery, turn, report, after, current}
+use Rattle.turn_bound.specs.TurnBound.{Arguments, answer, openedBy, settingsBy, Step, opening, delivery, turn, report, recording, after, current}
 use Rattle.turn_bound.specs.Calls.{Call, openNumberBy, begun, turnsSince, settingsSince}
 use Rattle.turn_bound.specs.Calls as call
 use Rattle.turn_bound.specs.Lined.{lineLent, lined}
@@ -31,8 +31,8 @@ Costliest = (n : ℕ) → 2 ≤ n → n ≤ 16 → (s : List ℕ) → length s �
 unfoldable pub FiveTurns : Type 0
 FiveTurns = (s : List ℕ) → length s ≡ 2048 → Takes 1 5 s
 
--- and there no calls bring more: after every list of calls, further openings and restores among them, at most 5 turns count where the last
--- accepted opening or restore has n = 1 and the weight 1
+-- and there no calls bring more: after every list of calls, further openings, restores and recordings among them, at most 5 turns count where
+-- the last accepted opening or restore has n = 1 and the weight 1, its coins printed or boxed
 unfoldable pub AtMostFive : Type 0
 AtMostFive =
     (s : List ℕ) (cs : List Call) → begun s cs ≡ true → settingsSince s cs .n ≡ 1 → settingsSince s cs .weights ≡ 1 → turnsSince s cs ≤ 5
@@ -52,6 +52,7 @@ summed f s (opening o ∷ cs) = cond (eqb (answer (after s cs) o) 0) 0 (summed f
 summed f s (delivery link b ∷ cs) = summed f s cs
 summed f s (turn out ∷ cs) = f (turnOutcome (after s cs) (length out)) + summed f s cs
 summed f s (report ∷ cs) = summed f s cs
+summed f s (recording i r b ∷ cs) = summed f s cs
 
 -- messages, and bytes, of a session of n
 pub record Sends (n : ℕ) (s : List ℕ) (cs : List Step) : Type 0 where

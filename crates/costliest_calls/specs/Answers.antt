@@ -8,18 +8,19 @@ use lib.Dec.{eqb, leb, ltb}
 use lib.ListN.{length}
 use Rattle.settings.specs.Refusals.{SETTINGS, SHORT}
 use Rattle.wire.specs.Message.{atFront}
-use Rattle.turn_bound.specs.TurnBound.{Step, opening, delivery, turn, report}
+use Rattle.turn_bound.specs.TurnBound.{Step, opening, delivery, turn, report, recording}
 use Rattle.costliest.specs.Calls.{costliestCalls}
 use Rattle.costliest_calls.specs.Numbered.{callAt}
 
 -- bits 8 to 15: 0 no such call, 1 a delivery, 2 a turn; 16 to 31: the length of the message delivered, or of the bytes lent to the turn;
--- 32 to 39: the link of the delivery. An opening and a report have no number of their own.
+-- 32 to 39: the link of the delivery. An opening, a report and a recording have no number of their own.
 unfoldable pub callNumber : Option Step → ℕ
 callNumber none = 0
 callNumber (some (opening o)) = 0
 callNumber (some (delivery link b)) = 2 ^ 8 * 1 + 2 ^ 16 * length b + 2 ^ 32 * link
 callNumber (some (turn out)) = 2 ^ 8 * 2 + 2 ^ 16 * length out
 callNumber (some report) = 0
+callNumber (some (recording i r b)) = 0
 
 -- the lent bytes, with the message of a delivery at their front
 unfoldable pub callBytes : Option Step → List ℕ → List ℕ
@@ -28,6 +29,7 @@ callBytes (some (opening o)) lent = lent
 callBytes (some (delivery link b)) lent = atFront b lent
 callBytes (some (turn out)) lent = lent
 callBytes (some report) lent = lent
+callBytes (some (recording i r b)) lent = lent
 
 -- SETTINGS where n is not 1 to 16, SHORT where fewer bytes are lent than the longest message has, else 0
 unfoldable pub callRefusal : (n room : ℕ) → ℕ

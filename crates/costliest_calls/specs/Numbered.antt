@@ -12,7 +12,7 @@ unfoldable pub callAt : List Step → ℕ → Option Step
 callAt [] k = none
 callAt (c ∷ cs) k = cond (eqb k (length cs + 1)) (some c) (callAt cs k)
 
--- the numbers of an opening, in the order of its arguments
+-- the numbers of an opening, in the order of its arguments, up to its coin words
 unfoldable pub openingNumbers : Arguments → List ℕ
 openingNumbers o = o .n ∷ o .ta ∷ o .ts ∷ o .own ∷ o .session ∷ o .input ∷ o .coins
 

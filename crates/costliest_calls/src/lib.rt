@@ -69,7 +69,8 @@ pub extern "C" fn pack_costliest_call(n: u64, k: u64, message: &mut [u8]) -> u64
     write_call(sections::call_of(n, k), message)
 }
 
-// Number k of its opening, from 1 on: n, ta, ts, own number, session, input, the coin words; 0 past the last.
+// Number k of its opening, from 1 on: n, ta, ts, own number, session, input, the coin words; 0 past the last. Its weights are all 1, its coins
+// printed.
 #[no_mangle]
 pub extern "C" fn pack_costliest_setting(n: u64, k: u64) -> u64
     ensures { λ r. ⌜ r ≡ settingAt (opens n) k ⌝ }

@@ -4,6 +4,7 @@ use mathlib.Core.Bool.{Bool, true, false, _&&_, not, cond}
 use lib.Dec.{eqb, leb, ltb}
 use Rattle.quorum.specs.Marks.{mark}
 use Rattle.records.specs.Layout.{stateWords}
+use Rattle.records.specs.Fill.{blank}
 use Rattle.session.specs.Session.{numbered}
 use Rattle.opening.specs.Given.{weightsWord}
 use Rattle.opening.specs.Ones.{onesGiven}
@@ -55,9 +56,9 @@ isHonest g p = numbered (g .n) p && mark (g .honest) p
 unfoldable pub isLiar : Members → ℕ → Bool
 isLiar g p = numbered (g .n) p && not (mark (g .honest) p)
 
--- opening takes the settings: 2,048 words, weights of 1, number 1, n coin words
+-- opening takes the settings: 2,048 words, weights of 1, number 1, n coin words of 0, printed
 unfoldable pub settingsOpen : (n ta ts : ℕ) → Bool
-settingsOpen n ta ts = eqb (openAnswer stateWords n ta ts (weightsWord n (onesGiven n)) 1 n) 0
+settingsOpen n ta ts = eqb (openAnswer stateWords n ta ts (weightsWord n (onesGiven n)) 1 (blank n) 0) 0
 
 -- not "an N that opening refuses or with n above 4"; the session number has 32 bits
 unfoldable pub settingsTaken : (n ta ts session : ℕ) → Bool

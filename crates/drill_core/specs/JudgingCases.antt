@@ -3,11 +3,12 @@ use Prim.Native.Nat.{ℕ, zero, suc, _*_, _-_, _%_, _^_, _≤_, _<_}
 use mathlib.Core.Bool.{Bool, true, false, not, _&&_}
 use mathlib.Core.Path.{_≡_, refl, sym, _∙_}
 use native.Mathlib.Omega.{arith}
-use lib.Dec.{leb, ltb}
+use lib.Dec.{eqb, leb, ltb}
+use lib.ListN.{length}
 use lib.Pow.{pow-pos}
 use mir.Val.{Fits}
 use mir.Syntax.{w8, w16, w32}
-use borrow.Author.Tests.{le-leb, leb-true, ltb-true}
+use borrow.Author.Tests.{le-leb, leb-true, ltb-true, eq-eqb}
 use Rattle.quorum.specs.Bools.{and-left, and-right, not-passed}
 use Rattle.settings.specs.Settings.{validSettings, namedTa, checkSettings}
 use Rattle.settings.specs.Laws.{check-taken, check-refused, valid-rules}
@@ -18,9 +19,10 @@ use Rattle.quorum.specs.Every.{every}
 use Rattle.quorum.specs.Marks.{mark}
 use Rattle.quorum.specs.Ones.{machine-power}
 use Rattle.quorum.specs.Packed.{packed}
+use Rattle.records.specs.Fill.{blank, length-blank}
 use Rattle.session.specs.Session.{numbered}
 use Rattle.opening.specs.Cases.{accepted-answer}
-use Rattle.opening.specs.Given.{weightsGiven, weightsWord}
+use Rattle.opening.specs.Given.{coinsGiven, weightsGiven, weightsWord}
 use Rattle.opening.specs.GivenCases.{weights-many}
 use Rattle.opening.specs.Ones.{onesGiven, ones-word}
 use Rattle.opening.specs.Opening.{openAnswer}
@@ -48,11 +50,14 @@ ones-many n h = rw (← weights-many n (onesGiven n) h)
 pub ruleset ones-cases = (power-some, ones-few, ones-many)
 
 -- settings within the rules are taken by opening, and no others
-opens : (n ta ts w : ℕ) → validSettings n (namedTa n ta ts w) ts w ≡ true → openAnswer 2048 n ta ts w 1 n ≡ 0
-unfolding numbered
+opens : (n ta ts w : ℕ) → validSettings n (namedTa n ta ts w) ts w ≡ true → openAnswer 2048 n ta ts w 1 (blank n) 0 ≡ 0
+unfolding numbered coinsGiven
 opens n ta ts w e =
-    let low : leb 1 n ≡ true = le-leb 1 n (valid-rules n (namedTa n ta ts w) ts w e .some) in
-    accepted-answer 2048 n ta ts w 1 n (record { size = refl; valid = e; own-number = rw low; coin-words = refl })
+    let k = valid-rules n (namedTa n ta ts w) ts w e in
+    let low : leb 1 n ≡ true = le-leb 1 n (k .some) in
+    let few : leb n 16 ≡ true = le-leb n 16 (k .few) in
+    let size : eqb (length (blank n)) n ≡ true = eq-eqb (length (blank n)) n (length-blank n) in
+    accepted-answer 2048 n ta ts w 1 (blank n) 0 (record { size = refl; valid = e; own-number = rw low; given = rw (few, size) })
 
 module _ (n ta ts w : ℕ) (c : Checked) (o : w ≡ weightsWord n (onesGiven n)) (e : c ≡ checkSettings n (namedTa n ta ts w) ts w) where
   pub valid-opens : (g : Settings) → c ≡ Valid g → true ≡ settingsOpen n ta ts

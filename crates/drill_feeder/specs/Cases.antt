@@ -66,7 +66,7 @@ module _ (w : List ℕ) (p at : ℕ) (a : Part) (e : at ≡ stateAt p) (h : Part
   state-back ys k = part-back w at 2048 a h ys k ∙ rw e
 
   pub open-back : (ys : List ℕ) (n ta ts session input : ℕ) (coins : List ℕ) (b : Part) → PartOf 16 0 n b → length ys ≡ length (lent w a) →
-      ys ≡ opened (lent w a) n ta ts (weightsWord n (lent sixteen b)) p session input coins →
+      ys ≡ opened (lent w a) n ta ts (weightsWord n (lent sixteen b)) p session input coins 0 →
       putMid (a .start) (a .end - a .start) w ys ≡ openedAt w p n ta ts session input coins
   unfolding openedAt
   open-back ys n ta ts session input coins b g k q = state-back ys k ∙ ap (withState w p) (q ∙ rw (state-lent, ones-lent n b g))

@@ -24,8 +24,9 @@ module _ (line : ℕ) (h : LINE-BYTES ≤ line) (s : List ℕ) where
   unfolding deliveredWords
   deliver-state link b t e = e ∙ line-words line s (delivered s link b) h
 
-  pub open-state : (n ta ts own session input : ℕ) (coins weights t : List ℕ) → t ≡ openedWords s n ta ts own session input coins weights line → t ≡ opened s n ta ts (weightsWord n weights) own session input coins
+  pub open-state : (n ta ts own session input : ℕ) (coins weights : List ℕ) (boxed : ℕ) (t : List ℕ) →
+      t ≡ openedWords s n ta ts own session input coins weights boxed line → t ≡ opened s n ta ts (weightsWord n weights) own session input coins boxed
   unfolding openedWords
-  open-state n ta ts own session input coins weights t e = e ∙ line-words line s (opened s n ta ts (weightsWord n weights) own session input coins) h
+  open-state n ta ts own session input coins weights boxed t e = e ∙ line-words line s (opened s n ta ts (weightsWord n weights) own session input coins boxed) h
 
 pub ruleset lined-cases = (turn-answer, turn-state, turn-message, deliver-state, open-state)

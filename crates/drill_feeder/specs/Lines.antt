@@ -22,7 +22,7 @@ use Rattle.drill_feeder.specs.declared.Lie.{Lie}
 
 -- the words after the opening of session p; "Drills stay printed, with weights 1."
 unfoldable pub openedAt : List ℕ → (p n ta ts session input : ℕ) → List ℕ → List ℕ
-openedAt w p n ta ts session input coins = withState w p (opened (stateOf w p) n ta ts (weightsWord n (onesGiven n)) p session input coins)
+openedAt w p n ta ts session input coins = withState w p (opened (stateOf w p) n ta ts (weightsWord n (onesGiven n)) p session input coins 0)
 
 -- the words after bytes b were delivered to q over a link; "What the engine refuses of T, D, L or R prints nothing.", and changes nothing
 unfoldable pub deliveredTo : List ℕ → (q link : ℕ) → List ℕ → List ℕ

@@ -31,6 +31,7 @@ fn deliver(state: &mut [u64], link: u64, bytes: &[u8])
     journal::deliver(state, link, bytes, &mut line);
 }
 
+// Drills are printed (request N12): 0.
 fn open(
     state: &mut [u64],
     n: u64,
@@ -42,7 +43,7 @@ fn open(
     coins: &[u32],
     weights: &[u8],
 )
-    ensures { λ _. ⌜ now (state .exit) ≡ opened (now (state .entry)) n ta ts (weightsWord n (now (weights .entry))) own session input (now (coins .entry)) ⌝ }
+    ensures { λ _. ⌜ now (state .exit) ≡ opened (now (state .entry)) n ta ts (weightsWord n (now (weights .entry))) own session input (now (coins .entry)) 0 ⌝ }
 {
     let mut line = [0u8; 512];
     journal::open(
@@ -55,6 +56,7 @@ fn open(
         input,
         coins,
         weights,
+        0,
         &mut line,
     );
 }

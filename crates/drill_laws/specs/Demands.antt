@@ -72,12 +72,12 @@ rounds-end input t k l g =
     let h : SoundDrill x = input-sound input in
     ran-same (membersOf x) (members-few x h) t l k (callMemory x) g (call-sound x h)
 
--- the opening of any of 1 to n with what the N and C lines gave, and weights of 1, is accepted
+-- the opening of any of 1 to n with what the N and C lines gave, printed and with weights of 1, is accepted
 abbrev OpensAll : Drilling → Type 0
 OpensAll (drilling w m d) =
     afterSettings (d .state .phase) ≡ true → (p : ℕ) → 1 ≤ p → p ≤ d .state .given .members .n →
     openAnswer (length (stateOf w p)) (d .state .given .members .n) (d .state .given .ta) (d .state .given .ts)
-    (weightsWord (d .state .given .members .n) (onesGiven (d .state .given .members .n))) p (length (take (d .state .given .members .n) (d .state .given .coins))) ≡ 0
+    (weightsWord (d .state .given .members .n) (onesGiven (d .state .given .members .n))) p (take (d .state .given .members .n) (d .state .given .coins)) 0 ≡ 0
 
 pub OpeningsAccepted : Type 0
 OpeningsAccepted = (input : List ℕ) → OpensAll (fedBytes startDrilling input)

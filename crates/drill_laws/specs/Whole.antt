@@ -15,7 +15,7 @@ use Rattle.records.specs.Layout.{nAt, turnsAt}
 use Rattle.records.specs.Words.{word, length-put}
 use Rattle.records.specs.Fill.{blank, length-blank, word-blank}
 use Rattle.session.specs.Session.{numbered}
-use Rattle.opening.specs.Given.{weightsWord}
+use Rattle.opening.specs.Given.{coinsGiven, weightsWord}
 use Rattle.opening.specs.Ones.{onesGiven}
 use Rattle.opening.specs.Opening.{openAnswer, openWords, opened}
 use Rattle.opening.specs.Cases.{accepted}
@@ -68,14 +68,14 @@ reset w m c p lo hi h z s size n turns =
 open-sound : (w m coins : List ℕ) (c : Counts) (p n ta ts session input : ℕ) → 1 ≤ p → p ≤ 4 → n ≤ 4 → Sound w m c → c .sent ≡ 0 →
     Sound (openedAt w p n ta ts session input coins) m c
 unfolding openedAt opened turnsOf
-open-sound w m coins c p n ta ts session input lo hi few h z = go (eqb (openAnswer (length (stateOf w p)) n ta ts ones p (length coins)) 0)
+open-sound w m coins c p n ta ts session input lo hi few h z = go (eqb (openAnswer (length (stateOf w p)) n ta ts ones p coins 0) 0)
   where
     ones : ℕ
     ones = weightsWord n (onesGiven n)
 
-    go : (b : Bool) → Sound (withState w p (cond b (openWords n ta ts ones p session input coins) (stateOf w p))) m c
+    go : (b : Bool) → Sound (withState w p (cond b (openWords n ta ts ones p session input coins 0) (stateOf w p))) m c
     go true =
-        reset w m c p lo hi h z (openWords n ta ts ones p session input coins) (length-first n ta ts ones p session input coins)
+        reset w m c p lo hi h z (openWords n ta ts ones p session input coins 0) (length-first n ta ts ones p session input coins 0)
         (rw first-n few) (rw first-turns (omega arith))
     go false = reset w m c p lo hi h z (stateOf w p) (length-stateOf w p (h .words) lo hi) (h .few p lo hi) (h .bound p lo hi)
 
@@ -318,10 +318,10 @@ input-sound input = all-fed-sound startDrilling input start-sound
 
 -- the openings of the honest ones are accepted
 pub opening-accepted : (w : List ℕ) (g : Given) (p : ℕ) → length w ≡ 8192 → g .members .n ≤ 4 → Openable g → 1 ≤ p → p ≤ g .members .n →
-    openAnswer (length (stateOf w p)) (g .members .n) (g .ta) (g .ts) (weightsWord (g .members .n) (onesGiven (g .members .n))) p (length (take (g .members .n) (g .coins))) ≡ 0
-unfolding settingsOpen openAnswer numbered
+    openAnswer (length (stateOf w p)) (g .members .n) (g .ta) (g .ts) (weightsWord (g .members .n) (onesGiven (g .members .n))) p (take (g .members .n) (g .coins)) 0 ≡ 0
+unfolding settingsOpen openAnswer coinsGiven numbered
 opening-accepted w g p size few o lo hi =
     let n : ℕ = g .members .n in
     let ones : ℕ = weightsWord n (onesGiven n) in
-    let v = accepted 2048 n (g .ta) (g .ts) ones 1 n (eqb-true (openAnswer 2048 n (g .ta) (g .ts) ones 1 n) 0 (o .settings)) .valid in
-    rw (length-stateOf w p size lo (omega arith), v, le-leb 1 p lo, le-leb p n hi, length-take-le n (g .coins) (omega (arith, o .coins)), eq-eqb n n refl)
+    let v = accepted 2048 n (g .ta) (g .ts) ones 1 (blank n) 0 (eqb-true (openAnswer 2048 n (g .ta) (g .ts) ones 1 (blank n) 0) 0 (o .settings)) .valid in
+    rw (length-stateOf w p size lo (omega arith), v, le-leb 1 p lo, le-leb p n hi, le-leb n 16 (omega arith), length-take-le n (g .coins) (omega (arith, o .coins)), eq-eqb n n refl)

@@ -14,7 +14,7 @@ use Rattle.delivery.specs.Delivery.{placeHeld, recorded}
 use Rattle.delivery.specs.Frame.{InLayout, MarkWord}
 use Rattle.delivery.specs.Held.{marks-recorded, commits-recorded}
 use Rattle.turn.specs.Frame.{Kept, held, beyond}
-use Rattle.held.specs.Keeping.{count-back}
+use Rattle.held.specs.Keeping.{kept-holding, count-back}
 
 -- what is held in s is held in t
 pub record Stays (s t : List ℕ) : Type 0 where
@@ -42,5 +42,5 @@ module _ (s t : List ℕ) (size : length s ≡ 2048) (sizes : length t ≡ lengt
   stays-kept =
       record {
         marks = λ k w q e. ap (λ (y : ℕ). mark y q) (same k (mark-kept k w)) ∙ e;
-        commits = λ k lo hi e. rw (count-back s t size sizes same k lo hi) e;
+        commits = λ k lo hi e. rw (count-back s t size sizes (kept-holding s t same) k lo hi) e;
       }

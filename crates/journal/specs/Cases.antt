@@ -1,4 +1,4 @@
--- The cases of the code of the three calls.
+-- The cases of the code of the four calls.
 use Prim.Native.Nat.{ℕ, _≤_, _<_}
 use mathlib.Core.Bool.{Bool, true, false, cond, false≢true}
 use mathlib.Core.List.{List, [], _++_, append-nil}
@@ -11,6 +11,7 @@ use borrow.Author.Tests.{lt-ltb, eq-eqb, ne-eqb, ltb-false}
 use Rattle.text.specs.Paste.{Wrote, wrote-front}
 use Rattle.opening.specs.Given.{weightsWord}
 use Rattle.opening.specs.Opening.{openAnswer, opened}
+use Rattle.recording.specs.Recording.{recordAnswer, recordedWords}
 use Rattle.delivery.specs.Delivery.{deliverAnswer, delivered, verdict, answerOf}
 use Rattle.delivery.specs.declared.Verdict.{Verdict}
 use Rattle.delivery.specs.declared.Verdict.the-variants as verdicts
@@ -24,10 +25,10 @@ use Rattle.session.specs.declared.Stored.the-variants.{NoState, Held}
 use Rattle.turn.specs.Turn.{turnOutcome, turnWords, turnBytes, outcomeFor, bytesFor, admits, admittedFor, admittedIn}
 use Rattle.turn.specs.declared.Admitted.the-variants as admitted
 use Rattle.turn.specs.declared.Outcome.{Outcome}
-use Rattle.journal.specs.Lines.{openingLine, deliveryLine, turnLine}
-use Rattle.journal.specs.Journal.{lineAnswer, lineWords, lineBytes, lineEntry, acts, openNumber, openedWords, openedBytes, openEntry, deliverNumber, deliveredWords, deliveredBytes, deliverEntry, turnRoom, turnedMessage, turnedLine}
+use Rattle.journal.specs.Lines.{openingLine, deliveryLine, recordingLine, turnLine}
+use Rattle.journal.specs.Journal.{lineAnswer, lineWords, lineBytes, lineEntry, acts, openNumber, openedWords, openedBytes, openEntry, deliverNumber, deliveredWords, deliveredBytes, deliverEntry, recordNumber, recordWords, recordBytes, recordEntry, turnRoom, turnedMessage, turnedLine}
 use Rattle.journal.specs.Laws.{line-answer, line-words, room-kept}
-use Rattle.journal.specs.Fitting.{opening-fits, delivery-fits, turn-fits}
+use Rattle.journal.specs.Fitting.{opening-fits, delivery-fits, recording-fits, turn-fits}
 use Rattle.journal.specs.declared.Entry.the-variants as entry
 
 pub short-accepted : (k : ℕ) → k ≡ 0 → 8 ≡ lineAnswer k 0
@@ -88,42 +89,42 @@ module _ (k room : ℕ) (h : 512 ≤ room) where
   line-bytes e line lent after f = rw (enough, eq-eqb k 0 e) f
 
 -- opening
-module _ (words n ta ts own session input : ℕ) (coins weights : List ℕ) (room k : ℕ) (e : k ≡ openAnswer words n ta ts (weightsWord n weights) own (length coins)) where
-  pub open-short : (j : ℕ) → j ≡ lineAnswer k 0 → room < 512 → entry.Refused j ≡ openEntry words n ta ts own session input coins weights room
+module _ (words n ta ts own session input : ℕ) (coins weights : List ℕ) (boxed room k : ℕ) (e : k ≡ openAnswer words n ta ts (weightsWord n weights) own coins boxed) where
+  pub open-short : (j : ℕ) → j ≡ lineAnswer k 0 → room < 512 → entry.Refused j ≡ openEntry words n ta ts own session input coins weights boxed room
   unfolding openEntry openNumber
   open-short j f h = rw (f, e) (short-entry _ room h _)
 
-  pub open-refused : 512 ≤ room → (k ≡ 0 → ⊥) → entry.Refused k ≡ openEntry words n ta ts own session input coins weights room
+  pub open-refused : 512 ≤ room → (k ≡ 0 → ⊥) → entry.Refused k ≡ openEntry words n ta ts own session input coins weights boxed room
   unfolding openEntry openNumber
   open-refused h z = rw (← e) (refused-entry k room h z _)
 
-module _ (words n ta ts own session input : ℕ) (coins weights lent : List ℕ) (k : ℕ) (e : k ≡ openAnswer words n ta ts (weightsWord n weights) own (length coins)) where
-  pub open-short-bytes : length lent < 512 → lent ≡ openedBytes words n ta ts own session input coins weights lent
+module _ (words n ta ts own session input : ℕ) (coins weights lent : List ℕ) (boxed k : ℕ) (e : k ≡ openAnswer words n ta ts (weightsWord n weights) own coins boxed) where
+  pub open-short-bytes : length lent < 512 → lent ≡ openedBytes words n ta ts own session input coins weights boxed lent
   unfolding openedBytes openNumber
   open-short-bytes h = short-bytes _ (length lent) h _ lent
 
-  pub open-refused-bytes : 512 ≤ length lent → (k ≡ 0 → ⊥) → lent ≡ openedBytes words n ta ts own session input coins weights lent
+  pub open-refused-bytes : 512 ≤ length lent → (k ≡ 0 → ⊥) → lent ≡ openedBytes words n ta ts own session input coins weights boxed lent
   unfolding openedBytes openNumber
   open-refused-bytes h z = rw (← e) (refused-bytes k (length lent) h z _ lent)
 
-  module _ (r : ℕ) (after : List ℕ) (w : Wrote (openingLine n ta ts own session input coins weights) lent 0 r after) (h : 512 ≤ length lent) (z : k ≡ 0) where
-    front : (r ≡ length (openingLine n ta ts own session input coins weights)) × (after ≡ openingLine n ta ts own session input coins weights ++ drop (length (openingLine n ta ts own session input coins weights)) lent)
-    front = wrote-front _ lent after r w (let f = opening-fits words n ta ts own session input coins weights (sym e ∙ z) in omega arith)
+  module _ (r : ℕ) (after : List ℕ) (w : Wrote (openingLine n ta ts own session input coins weights boxed) lent 0 r after) (h : 512 ≤ length lent) (z : k ≡ 0) where
+    front : (r ≡ length (openingLine n ta ts own session input coins weights boxed)) × (after ≡ openingLine n ta ts own session input coins weights boxed ++ drop (length (openingLine n ta ts own session input coins weights boxed)) lent)
+    front = wrote-front _ lent after r w (let f = opening-fits words n ta ts own session input coins weights boxed (sym e ∙ z) in omega arith)
 
-    pub open-line : entry.Line r ≡ openEntry words n ta ts own session input coins weights (length lent)
+    pub open-line : entry.Line r ≡ openEntry words n ta ts own session input coins weights boxed (length lent)
     unfolding openEntry openNumber
     open-line = rw (← e) (line-entry k (length lent) h z _ r (front .0))
 
-    pub open-bytes : after ≡ openedBytes words n ta ts own session input coins weights lent
+    pub open-bytes : after ≡ openedBytes words n ta ts own session input coins weights boxed lent
     unfolding openedBytes openNumber
     open-bytes = rw (← e) (line-bytes k (length lent) h z _ lent after (front .1))
 
-module _ (s : List ℕ) (n ta ts own session input : ℕ) (coins weights : List ℕ) (room : ℕ) where
-  pub open-short-words : room < 512 → s ≡ openedWords s n ta ts own session input coins weights room
+module _ (s : List ℕ) (n ta ts own session input : ℕ) (coins weights : List ℕ) (boxed room : ℕ) where
+  pub open-short-words : room < 512 → s ≡ openedWords s n ta ts own session input coins weights boxed room
   unfolding openedWords
   open-short-words h = short-words 0 room h s _
 
-  pub open-words : (t : List ℕ) → 512 ≤ room → t ≡ opened s n ta ts (weightsWord n weights) own session input coins → t ≡ openedWords s n ta ts own session input coins weights room
+  pub open-words : (t : List ℕ) → 512 ≤ room → t ≡ opened s n ta ts (weightsWord n weights) own session input coins boxed → t ≡ openedWords s n ta ts own session input coins weights boxed room
   unfolding openedWords
   open-words t h f = f ∙ sym (line-words room s _ h)
 
@@ -181,6 +182,48 @@ module _ (s : List ℕ) (link : ℕ) (b : List ℕ) (room : ℕ) where
   deliver-words t h f = f ∙ sym (line-words room s _ h)
 
 pub ruleset deliver-cases = (deliver-short, deliver-refused, deliver-short-bytes, deliver-refused-bytes, deliver-line, deliver-bytes, deliver-short-words, deliver-words)
+
+-- recording
+module _ (s : List ℕ) (i r b : ℕ) (room k : ℕ) (e : k ≡ recordAnswer s i r b) where
+  pub record-short : (j : ℕ) → j ≡ lineAnswer k 0 → room < 512 → entry.Refused j ≡ recordEntry s i r b room
+  unfolding recordEntry recordNumber
+  record-short j f h = rw (f, e) (short-entry _ room h _)
+
+  pub record-refused : 512 ≤ room → (k ≡ 0 → ⊥) → entry.Refused k ≡ recordEntry s i r b room
+  unfolding recordEntry recordNumber
+  record-refused h z = rw (← e) (refused-entry k room h z _)
+
+module _ (s : List ℕ) (i r b : ℕ) (lent : List ℕ) (k : ℕ) (e : k ≡ recordAnswer s i r b) where
+  pub record-short-bytes : length lent < 512 → lent ≡ recordBytes s i r b lent
+  unfolding recordBytes recordNumber
+  record-short-bytes h = short-bytes _ (length lent) h _ lent
+
+  pub record-refused-bytes : 512 ≤ length lent → (k ≡ 0 → ⊥) → lent ≡ recordBytes s i r b lent
+  unfolding recordBytes recordNumber
+  record-refused-bytes h z = rw (← e) (refused-bytes k (length lent) h z _ lent)
+
+  module _ (q : ℕ) (after : List ℕ) (w : Wrote (recordingLine i r b) lent 0 q after) (h : 512 ≤ length lent) (z : k ≡ 0) where
+    recording-front : (q ≡ length (recordingLine i r b)) × (after ≡ recordingLine i r b ++ drop (length (recordingLine i r b)) lent)
+    recording-front = wrote-front _ lent after q w (let f = recording-fits i r b in omega arith)
+
+    pub record-line : entry.Line q ≡ recordEntry s i r b (length lent)
+    unfolding recordEntry recordNumber
+    record-line = rw (← e) (line-entry k (length lent) h z _ q (recording-front .0))
+
+    pub record-bytes : after ≡ recordBytes s i r b lent
+    unfolding recordBytes recordNumber
+    record-bytes = rw (← e) (line-bytes k (length lent) h z _ lent after (recording-front .1))
+
+module _ (s : List ℕ) (i r b : ℕ) (room : ℕ) where
+  pub record-short-words : room < 512 → s ≡ recordWords s i r b room
+  unfolding recordWords
+  record-short-words h = short-words 0 room h s _
+
+  pub record-words : (t : List ℕ) → 512 ≤ room → t ≡ recordedWords s i r b → t ≡ recordWords s i r b room
+  unfolding recordWords
+  record-words t h f = f ∙ sym (line-words room s _ h)
+
+pub ruleset record-cases = (record-short, record-refused, record-short-bytes, record-refused-bytes, record-line, record-bytes, record-short-words, record-words)
 
 pub room-none : (room line : ℕ) → line < 512 → 0 ≡ turnRoom room line
 unfolding turnRoom

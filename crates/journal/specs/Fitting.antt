@@ -7,7 +7,7 @@ use lib.ListN.{length, length-append}
 use borrow.Author.Tests.{ne-eqb}
 use Rattle.records.specs.Words.{word}
 use Rattle.opening.specs.Given.{item, weightsWord}
-use Rattle.opening.specs.GivenLaws.{WeightsGiven, are-given, accepted-given}
+use Rattle.opening.specs.GivenLaws.{WeightsGiven, are-given, accepted-given, coins-given}
 use Rattle.opening.specs.Opening.{openAnswer}
 use Rattle.opening.specs.Cases.{accepted}
 use Rattle.delivery.specs.Answers.{answer-short}
@@ -15,8 +15,8 @@ use Rattle.delivery.specs.Delivery.{deliverAnswer}
 use Rattle.text.specs.Numbers.{byteText}
 use Rattle.text.specs.Each.{eachText}
 use Rattle.text.specs.Lengths.{decimal-length, figure-length, hex-length, word-length, bytes-length}
-use Rattle.journal.specs.Lines.{withEnd, openingLine, deliveryLine, turnLine}
-use Rattle.journal.specs.Parts.{tabDecimal, tabWord, tabPack, settingsPart, inputPart, listsPart, opening-parts, delivery-parts}
+use Rattle.journal.specs.Lines.{withEnd, openingLine, deliveryLine, recordingLine, turnLine}
+use Rattle.journal.specs.Parts.{tabDecimal, tabWord, tabPack, settingsPart, inputPart, listsPart, opening-parts, delivery-parts, recording-parts}
 
 words-length : (coins : List ℕ) → length (eachText tabWord coins) ≡ 9 * length coins
 unfolding eachText tabWord
@@ -45,9 +45,9 @@ input-length : (own session input : ℕ) → length (inputPart own session input
 unfolding inputPart
 input-length own session input = rw (length-append, length-append) (omega (arith, tab-length own, tab-length session, pack-length input))
 
-lists-length : (coins weights : List ℕ) → length (eachText tabDecimal weights) ≡ 2 * length weights → length coins ≤ 16 → length weights ≤ 16 → length (listsPart coins weights) ≤ 177
+lists-length : (coins weights : List ℕ) (boxed : ℕ) → length (eachText tabDecimal weights) ≡ 2 * length weights → length coins ≤ 16 → length weights ≤ 16 → length (listsPart coins weights boxed) ≤ 198
 unfolding listsPart
-lists-length coins weights f a b = rw (length-append, length-append) (omega (arith, words-length coins))
+lists-length coins weights boxed f a b = rw (length-append, length-append, length-append) (omega (arith, words-length coins, tab-length boxed))
 
 item-after : (xs : List ℕ) (k : ℕ) → item xs (k + 1) ≡ word xs k
 unfolding item
@@ -56,13 +56,13 @@ item-after xs k = let e : k + 1 - 1 ≡ k = omega arith in rw (ne-eqb (k + 1) 0 
 one-digit : (n : ℕ) (weights : List ℕ) → WeightsGiven n weights → (k : ℕ) → k < length weights → word weights k < 10
 one-digit n weights w k l = omega (arith, w .high (k + 1) (omega arith) (omega (arith, w .number)), item-after weights k)
 
-pub opening-fits : (words n ta ts own session input : ℕ) (coins weights : List ℕ) → openAnswer words n ta ts (weightsWord n weights) own (length coins) ≡ 0 → length (openingLine n ta ts own session input coins weights) ≤ 512
-opening-fits words n ta ts own session input coins weights e =
-    let w = are-given n weights (accepted-given words n ta ts own (length coins) weights e) in
-    let c = accepted words n ta ts (weightsWord n weights) own (length coins) e .coin-words in
+pub opening-fits : (words n ta ts own session input : ℕ) (coins weights : List ℕ) (boxed : ℕ) → openAnswer words n ta ts (weightsWord n weights) own coins boxed ≡ 0 → length (openingLine n ta ts own session input coins weights boxed) ≤ 512
+opening-fits words n ta ts own session input coins weights boxed e =
+    let w = are-given n weights (accepted-given words n ta ts own coins weights boxed e) in
+    let c = coins-given n coins boxed (accepted words n ta ts (weightsWord n weights) own coins boxed e .given) .size in
     let f = figures-length weights (one-digit n weights w) in
-    let l = lists-length coins weights f (omega (arith, w .few, c)) (omega (arith, w .few, w .number)) in
-    rw (← opening-parts n ta ts own session input coins weights, length-append, length-append)
+    let l = lists-length coins weights boxed f (omega (arith, w .few, c)) (omega (arith, w .few, w .number)) in
+    rw (← opening-parts n ta ts own session input coins weights boxed, length-append, length-append)
     (omega (arith, settings-length n ta ts, input-length own session input, l))
 
 pub delivery-fits : (s : List ℕ) (link : ℕ) (b : List ℕ) → deliverAnswer s link b ≡ 0 → length (deliveryLine link b) ≤ 512
@@ -73,3 +73,8 @@ delivery-fits s link b e =
 pub turn-fits : length turnLine ≤ 512
 unfolding withEnd
 turn-fits = omega arith
+
+pub recording-fits : (i r b : ℕ) → length (recordingLine i r b) ≤ 512
+recording-fits i r b =
+    rw (← recording-parts i r b)
+    (omega (arith, tab-length i, tab-length r, tab-length b, length-append (tabDecimal i) (tabDecimal r ++ (tabDecimal b ++ (10 ∷ []))), length-append (tabDecimal r) (tabDecimal b ++ (10 ∷ [])), length-append (tabDecimal b) (10 ∷ [])))

@@ -1,5 +1,5 @@
--- Opening, delivery and turn with the line that each writes (request N10): one for each accepted opening and delivery, and for each turn that
--- is neither idle nor refused.
+-- Opening, delivery, recording and turn with the line that each writes (requests N10, N12): one for each accepted opening, delivery and
+-- recording, and for each turn that is neither idle nor refused.
 use Prim.Native.Nat.{ℕ}
 use mathlib.Core.Bool.{Bool, true, false, cond}
 use mathlib.Core.List.{List}
@@ -9,11 +9,12 @@ use Rattle.settings.specs.Refusals.{SHORT}
 use Rattle.opening.specs.Given.{weightsWord}
 use Rattle.opening.specs.Opening.{openAnswer, opened}
 use Rattle.delivery.specs.Delivery.{deliverAnswer, delivered}
+use Rattle.recording.specs.Recording.{recordAnswer, recordedWords}
 use Rattle.wire.specs.Message.{atFront}
 use Rattle.turn.specs.Turn.{turnOutcome, turnWords, turnBytes}
 use Rattle.turn.specs.declared.Outcome.{Outcome}
 use Rattle.turn.specs.declared.Outcome.the-variants as outcome
-use Rattle.journal.specs.Lines.{openingLine, deliveryLine, turnLine}
+use Rattle.journal.specs.Lines.{openingLine, deliveryLine, recordingLine, turnLine}
 use Rattle.journal.specs.declared.Entry.{Entry}
 use Rattle.journal.specs.declared.Entry.the-variants as entry
 
@@ -38,19 +39,19 @@ unfoldable pub lineEntry : ℕ → List ℕ → Entry
 lineEntry k line = cond (eqb k 0) (entry.Line (length line)) (entry.Refused k)
 
 -- Opening. Number, words after it, bytes lent for the line after it, answer.
-unfoldable pub openNumber : (words n ta ts own : ℕ) (coins weights : List ℕ) (room : ℕ) → ℕ
-openNumber words n ta ts own coins weights room = lineAnswer (openAnswer words n ta ts (weightsWord n weights) own (length coins)) room
+unfoldable pub openNumber : (words n ta ts own : ℕ) (coins weights : List ℕ) (boxed room : ℕ) → ℕ
+openNumber words n ta ts own coins weights boxed room = lineAnswer (openAnswer words n ta ts (weightsWord n weights) own coins boxed) room
 
-unfoldable pub openedWords : List ℕ → (n ta ts own session input : ℕ) (coins weights : List ℕ) (room : ℕ) → List ℕ
-openedWords s n ta ts own session input coins weights room = lineWords room s (opened s n ta ts (weightsWord n weights) own session input coins)
+unfoldable pub openedWords : List ℕ → (n ta ts own session input : ℕ) (coins weights : List ℕ) (boxed room : ℕ) → List ℕ
+openedWords s n ta ts own session input coins weights boxed room = lineWords room s (opened s n ta ts (weightsWord n weights) own session input coins boxed)
 
-unfoldable pub openedBytes : (words n ta ts own session input : ℕ) (coins weights lent : List ℕ) → List ℕ
-openedBytes words n ta ts own session input coins weights lent =
-    lineBytes (openNumber words n ta ts own coins weights (length lent)) (openingLine n ta ts own session input coins weights) lent
+unfoldable pub openedBytes : (words n ta ts own session input : ℕ) (coins weights : List ℕ) (boxed : ℕ) (lent : List ℕ) → List ℕ
+openedBytes words n ta ts own session input coins weights boxed lent =
+    lineBytes (openNumber words n ta ts own coins weights boxed (length lent)) (openingLine n ta ts own session input coins weights boxed) lent
 
-unfoldable pub openEntry : (words n ta ts own session input : ℕ) (coins weights : List ℕ) (room : ℕ) → Entry
-openEntry words n ta ts own session input coins weights room =
-    lineEntry (openNumber words n ta ts own coins weights room) (openingLine n ta ts own session input coins weights)
+unfoldable pub openEntry : (words n ta ts own session input : ℕ) (coins weights : List ℕ) (boxed room : ℕ) → Entry
+openEntry words n ta ts own session input coins weights boxed room =
+    lineEntry (openNumber words n ta ts own coins weights boxed room) (openingLine n ta ts own session input coins weights boxed)
 
 -- Delivery, likewise.
 unfoldable pub deliverNumber : List ℕ → ℕ → List ℕ → ℕ → ℕ
@@ -64,6 +65,19 @@ deliveredBytes s link b lent = lineBytes (deliverNumber s link b (length lent)) 
 
 unfoldable pub deliverEntry : List ℕ → ℕ → List ℕ → ℕ → Entry
 deliverEntry s link b room = lineEntry (deliverNumber s link b room) (deliveryLine link b)
+
+-- Recording, likewise.
+unfoldable pub recordNumber : List ℕ → (i r b room : ℕ) → ℕ
+recordNumber s i r b room = lineAnswer (recordAnswer s i r b) room
+
+unfoldable pub recordWords : List ℕ → (i r b room : ℕ) → List ℕ
+recordWords s i r b room = lineWords room s (recordedWords s i r b)
+
+unfoldable pub recordBytes : List ℕ → (i r b : ℕ) → List ℕ → List ℕ
+recordBytes s i r b lent = lineBytes (recordNumber s i r b (length lent)) (recordingLine i r b) lent
+
+unfoldable pub recordEntry : List ℕ → (i r b room : ℕ) → Entry
+recordEntry s i r b room = lineEntry (recordNumber s i r b room) (recordingLine i r b)
 
 -- Turn. It is refused by 8 for its message as for its line, both after 9 and 10: with too few bytes for the line it answers as with none for
 -- the message. An idle turn asks for them, too.

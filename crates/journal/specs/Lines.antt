@@ -18,6 +18,9 @@ LETTER-D = 68
 abbrev pub LETTER-T : ℕ
 LETTER-T = 84
 
+abbrev pub LETTER-K : ℕ
+LETTER-K = 75
+
 -- the version of every session until there is another
 abbrev pub VERSION : ℕ
 VERSION = 1
@@ -36,16 +39,21 @@ unfoldable pub tabbed : List ℕ → List (List ℕ) → List ℕ
 tabbed f [] = f
 tabbed f (g ∷ fs) = f ++ (TAB ∷ tabbed g fs)
 
--- version, n, ta, ts, own number, session; own input; so many coin words; so many weights
+-- version, n, ta, ts, own number, session; own input; so many coin words; so many decimals after them
 unfoldable pub openingForms : ℕ → ℕ → List ℕ
-openingForms coins weights =
-    DECIMAL ∷ DECIMAL ∷ DECIMAL ∷ DECIMAL ∷ DECIMAL ∷ DECIMAL ∷ PACK ∷ (replicate coins WORD ++ replicate weights DECIMAL)
+openingForms coins figures =
+    DECIMAL ∷ DECIMAL ∷ DECIMAL ∷ DECIMAL ∷ DECIMAL ∷ DECIMAL ∷ PACK ∷ (replicate coins WORD ++ replicate figures DECIMAL)
+
+-- the decimals after the coin words: "`O` lines carry [the weights] after the coin words", and "`O` ends with 0 for printed or 1 for boxed"
+-- (requests N11, N12)
+abbrev pub figures : List ℕ → ℕ → List ℕ
+figures weights boxed = weights ++ (boxed ∷ [])
 
 -- an accepted opening, ta as it is given; without its LF
-unfoldable pub openingText : (n ta ts own session input : ℕ) (coins weights : List ℕ) → List ℕ
-openingText n ta ts own session input coins weights =
+unfoldable pub openingText : (n ta ts own session input : ℕ) (coins weights : List ℕ) (boxed : ℕ) → List ℕ
+openingText n ta ts own session input coins weights boxed =
     tabbed (LETTER-O ∷ [])
-    (numberTexts (openingForms (length coins) (length weights)) (VERSION ∷ n ∷ ta ∷ ts ∷ own ∷ session ∷ input ∷ (coins ++ weights)))
+    (numberTexts (openingForms (length coins) (length (figures weights boxed))) (VERSION ∷ n ∷ ta ∷ ts ∷ own ∷ session ∷ input ∷ (coins ++ figures weights boxed)))
 
 -- bytes in lower-case hexadecimal
 unfoldable pub hexBytes : List ℕ → List ℕ
@@ -60,15 +68,25 @@ deliveryText link b = tabbed (LETTER-D ∷ []) (decimalText link ∷ hexBytes b 
 abbrev pub turnText : List ℕ
 turnText = LETTER-T ∷ []
 
+-- an accepted recording, "a repeat too": "vote, round, bit" (request N12)
+abbrev pub recordingForms : List ℕ
+recordingForms = DECIMAL ∷ DECIMAL ∷ DECIMAL ∷ []
+
+unfoldable pub recordingText : ℕ → ℕ → ℕ → List ℕ
+recordingText i r b = tabbed (LETTER-K ∷ []) (numberTexts recordingForms (i ∷ r ∷ b ∷ []))
+
 -- a line with its end
 unfoldable pub withEnd : List ℕ → List ℕ
 withEnd b = b ++ (LF ∷ [])
 
-abbrev pub openingLine : (n ta ts own session input : ℕ) (coins weights : List ℕ) → List ℕ
-openingLine n ta ts own session input coins weights = withEnd (openingText n ta ts own session input coins weights)
+abbrev pub openingLine : (n ta ts own session input : ℕ) (coins weights : List ℕ) (boxed : ℕ) → List ℕ
+openingLine n ta ts own session input coins weights boxed = withEnd (openingText n ta ts own session input coins weights boxed)
 
 abbrev pub deliveryLine : ℕ → List ℕ → List ℕ
 deliveryLine link b = withEnd (deliveryText link b)
 
 abbrev pub turnLine : List ℕ
 turnLine = withEnd turnText
+
+abbrev pub recordingLine : ℕ → ℕ → ℕ → List ℕ
+recordingLine i r b = withEnd (recordingText i r b)

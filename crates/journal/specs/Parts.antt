@@ -7,8 +7,8 @@ use Rattle.io.specs.Digits.{digits, glyph}
 use Rattle.text.specs.Fields.{TAB, LF}
 use Rattle.text.specs.Numbers.{DECIMAL, WORD, decimalText, hexText, wordText, byteText}
 use Rattle.text.specs.Paste.{Wrote, wrote-both}
-use Rattle.text.specs.Each.{eachText}
-use Rattle.journal.specs.Lines.{LETTER-O, VERSION, numberText, numberTexts, tabbed, openingForms, openingText, hexBytes, deliveryText, withEnd, openingLine, deliveryLine, turnLine}
+use Rattle.text.specs.Each.{eachText, each-append}
+use Rattle.journal.specs.Lines.{LETTER-O, VERSION, numberText, numberTexts, tabbed, openingForms, figures, openingText, hexBytes, deliveryText, recordingText, withEnd, openingLine, deliveryLine, recordingLine, turnLine}
 
 -- a field after its tab
 unfoldable pub tabDecimal : ℕ → List ℕ
@@ -26,8 +26,8 @@ settingsPart n ta ts = LETTER-O ∷ (tabDecimal VERSION ++ (tabDecimal n ++ (tab
 unfoldable pub inputPart : (own session input : ℕ) → List ℕ
 inputPart own session input = tabDecimal own ++ (tabDecimal session ++ tabPack input)
 
-unfoldable pub listsPart : (coins weights : List ℕ) → List ℕ
-listsPart coins weights = eachText tabWord coins ++ (eachText tabDecimal weights ++ (LF ∷ []))
+unfoldable pub listsPart : (coins weights : List ℕ) (boxed : ℕ) → List ℕ
+listsPart coins weights boxed = eachText tabWord coins ++ (eachText tabDecimal weights ++ (tabDecimal boxed ++ (LF ∷ [])))
 
 -- fields, each after its tab
 unfoldable pub tabs : List (List ℕ) → List ℕ
@@ -50,6 +50,17 @@ lists-tabs [] weights = weights-tabs weights
 lists-tabs (x ∷ coins) weights =
     ap (λ (t : List ℕ). TAB ∷ (digits 16 8 x ++ t)) (lists-tabs coins weights)
     ∙ ap (λ (t : List ℕ). TAB ∷ t) (sym (append-assoc (digits 16 8 x) (eachText tabWord coins) (eachText tabDecimal weights)))
+
+-- the flag after the weights
+flag-last : (weights : List ℕ) (boxed : ℕ) → eachText tabDecimal (figures weights boxed) ≡ eachText tabDecimal weights ++ tabDecimal boxed
+unfolding eachText
+flag-last weights boxed = each-append tabDecimal weights (boxed ∷ []) ∙ ap (λ (t : List ℕ). eachText tabDecimal weights ++ t) (append-nil (tabDecimal boxed))
+
+lists-flag : (coins weights : List ℕ) (boxed : ℕ) → listsPart coins weights boxed ≡ eachText tabWord coins ++ (eachText tabDecimal (figures weights boxed) ++ (LF ∷ []))
+unfolding listsPart
+lists-flag coins weights boxed =
+    ap (λ (t : List ℕ). eachText tabWord coins ++ t)
+    (sym (append-assoc (eachText tabDecimal weights) (tabDecimal boxed) (10 ∷ [])) ∙ ap (λ (t : List ℕ). t ++ (10 ∷ [])) (sym (flag-last weights boxed)))
 
 bytes-texts : (b : List ℕ) → eachText byteText b ≡ hexBytes b
 unfolding eachText byteText hexBytes
@@ -81,11 +92,15 @@ module _ (s s1 s2 s3 : List ℕ) (a r1 r2 r3 : ℕ) where
   unfolding inputPart
   wrote-input own session input h1 h2 h3 = wrote-both _ _ s s1 s3 a r1 r3 h1 (wrote-both _ _ s1 s2 s3 r1 r2 r3 h2 h3)
 
-  pub wrote-lists : (coins weights : List ℕ) → Wrote (eachText tabWord coins) s a r1 s1 → Wrote (eachText tabDecimal weights) s1 r1 r2 s2 → Wrote (10 ∷ []) s2 r2 r3 s3 → Wrote (listsPart coins weights) s a r3 s3
-  unfolding listsPart
-  wrote-lists coins weights h1 h2 h3 = wrote-both _ _ s s1 s3 a r1 r3 h1 (wrote-both _ _ s1 s2 s3 r1 r2 r3 h2 h3)
+pub ruleset three-parts = (wrote-input)
 
-pub ruleset three-parts = (wrote-input, wrote-lists)
+pub wrote-lists : (coins weights : List ℕ) (boxed : ℕ) (s s1 s2 s3 s4 : List ℕ) (a r1 r2 r3 r4 : ℕ) → Wrote (eachText tabWord coins) s a r1 s1 →
+    Wrote (eachText tabDecimal weights) s1 r1 r2 s2 → Wrote (tabDecimal boxed) s2 r2 r3 s3 → Wrote (10 ∷ []) s3 r3 r4 s4 → Wrote (listsPart coins weights boxed) s a r4 s4
+unfolding listsPart
+wrote-lists coins weights boxed s s1 s2 s3 s4 a r1 r2 r3 r4 h1 h2 h3 h4 =
+    wrote-both _ _ s s1 s4 a r1 r4 h1
+    (wrote-both _ _ s1 s2 s4 r1 r2 r4 h2
+    (wrote-both _ _ s2 s3 s4 r2 r3 r4 h3 h4))
 
 pub wrote-settings : (n ta ts : ℕ) (s s1 s2 s3 s4 s5 : List ℕ) (r1 r2 r3 r4 r5 : ℕ) → Wrote (79 ∷ []) s 0 r1 s1 → Wrote (tabDecimal 1) s1 r1 r2 s2 →
     Wrote (tabDecimal n) s2 r2 r3 s3 → Wrote (tabDecimal ta) s3 r3 r4 s4 → Wrote (tabDecimal ts) s4 r4 r5 s5 → Wrote (settingsPart n ta ts) s 0 r5 s5
@@ -119,18 +134,20 @@ nested v n a t o e i c d =
     (three o e i (c ++ (d ++ (10 ∷ []))) ∙ ap (λ (x : List ℕ). o ++ (9 ∷ (e ++ (9 ∷ (i ++ x))))) (sym (append-assoc c d (10 ∷ []))) ∙ sym (three o e (i ++ (c ++ d)) (10 ∷ []) ∙ ap (λ (x : List ℕ). o ++ (9 ∷ (e ++ (9 ∷ x)))) (append-assoc i (c ++ d) (10 ∷ []))))
     ∙ sym (four v n a (t ++ (9 ∷ (o ++ (9 ∷ (e ++ (9 ∷ (i ++ (c ++ d)))))))) (10 ∷ []) ∙ ap (λ (x : List ℕ). v ++ (9 ∷ (n ++ (9 ∷ (a ++ (9 ∷ x)))))) (append-assoc t (9 ∷ (o ++ (9 ∷ (e ++ (9 ∷ (i ++ (c ++ d))))))) (10 ∷ []))))
 
-pub opening-parts : (n ta ts own session input : ℕ) (coins weights : List ℕ) →
-    settingsPart n ta ts ++ (inputPart own session input ++ listsPart coins weights) ≡ openingLine n ta ts own session input coins weights
-unfolding settingsPart inputPart listsPart openingText openingForms withEnd tabDecimal tabPack tabs numberTexts numberText hexText
-opening-parts n ta ts own session input coins weights =
-    nested (decimalText 1) (decimalText n) (decimalText ta) (decimalText ts) (decimalText own) (decimalText session) (digits 16 16 input) (eachText tabWord coins) (eachText tabDecimal weights)
-    ∙ ap (λ (x : List ℕ). fieldsThen (decimalText 1) (decimalText n) (decimalText ta) (decimalText ts) (decimalText own) (decimalText session) (digits 16 16 input) x ++ (10 ∷ [])) (sym (lists-tabs coins weights))
-    ∙ ap (λ (x : List ℕ). x ++ (10 ∷ [])) (sym (tabbed-tabs (79 ∷ []) (numberTexts (openingForms (length coins) (length weights)) (1 ∷ n ∷ ta ∷ ts ∷ own ∷ session ∷ input ∷ (coins ++ weights)))))
+pub opening-parts : (n ta ts own session input : ℕ) (coins weights : List ℕ) (boxed : ℕ) →
+    settingsPart n ta ts ++ (inputPart own session input ++ listsPart coins weights boxed) ≡ openingLine n ta ts own session input coins weights boxed
+unfolding settingsPart inputPart openingText openingForms withEnd tabDecimal tabPack tabs numberTexts numberText hexText
+opening-parts n ta ts own session input coins weights boxed =
+    let xs = figures weights boxed in
+    ap (λ (x : List ℕ). settingsPart n ta ts ++ (inputPart own session input ++ x)) (lists-flag coins weights boxed)
+    ∙ nested (decimalText 1) (decimalText n) (decimalText ta) (decimalText ts) (decimalText own) (decimalText session) (digits 16 16 input) (eachText tabWord coins) (eachText tabDecimal xs)
+    ∙ ap (λ (x : List ℕ). fieldsThen (decimalText 1) (decimalText n) (decimalText ta) (decimalText ts) (decimalText own) (decimalText session) (digits 16 16 input) x ++ (10 ∷ [])) (sym (lists-tabs coins xs))
+    ∙ ap (λ (x : List ℕ). x ++ (10 ∷ [])) (sym (tabbed-tabs (79 ∷ []) (numberTexts (openingForms (length coins) (length xs)) (1 ∷ n ∷ ta ∷ ts ∷ own ∷ session ∷ input ∷ (coins ++ xs)))))
 
-pub wrote-opening : (n ta ts own session input : ℕ) (coins weights s s1 s2 s3 : List ℕ) (r1 r2 r3 : ℕ) → Wrote (settingsPart n ta ts) s 0 r1 s1 →
-    Wrote (inputPart own session input) s1 r1 r2 s2 → Wrote (listsPart coins weights) s2 r2 r3 s3 → Wrote (openingLine n ta ts own session input coins weights) s 0 r3 s3
-wrote-opening n ta ts own session input coins weights s s1 s2 s3 r1 r2 r3 h1 h2 h3 =
-    subst (λ (t : List ℕ). Wrote t s 0 r3 s3) (opening-parts n ta ts own session input coins weights)
+pub wrote-opening : (n ta ts own session input : ℕ) (coins weights : List ℕ) (boxed : ℕ) (s s1 s2 s3 : List ℕ) (r1 r2 r3 : ℕ) → Wrote (settingsPart n ta ts) s 0 r1 s1 →
+    Wrote (inputPart own session input) s1 r1 r2 s2 → Wrote (listsPart coins weights boxed) s2 r2 r3 s3 → Wrote (openingLine n ta ts own session input coins weights boxed) s 0 r3 s3
+wrote-opening n ta ts own session input coins weights boxed s s1 s2 s3 r1 r2 r3 h1 h2 h3 =
+    subst (λ (t : List ℕ). Wrote t s 0 r3 s3) (opening-parts n ta ts own session input coins weights boxed)
     (wrote-both _ _ s s1 s3 0 r1 r3 h1 (wrote-both _ _ s1 s2 s3 r1 r2 r3 h2 h3))
 
 pub delivery-parts : (link : ℕ) (b : List ℕ) → (68 ∷ []) ++ (tabDecimal link ++ ((9 ∷ []) ++ (eachText byteText b ++ (10 ∷ [])))) ≡ deliveryLine link b
@@ -141,6 +158,20 @@ pub wrote-delivery : (link : ℕ) (b s s1 s2 s3 s4 s5 : List ℕ) (r1 r2 r3 r4 r
     Wrote (9 ∷ []) s2 r2 r3 s3 → Wrote (eachText byteText b) s3 r3 r4 s4 → Wrote (10 ∷ []) s4 r4 r5 s5 → Wrote (deliveryLine link b) s 0 r5 s5
 wrote-delivery link b s s1 s2 s3 s4 s5 r1 r2 r3 r4 r5 h1 h2 h3 h4 h5 =
     subst (λ (t : List ℕ). Wrote t s 0 r5 s5) (delivery-parts link b)
+    (wrote-both _ _ s s1 s5 0 r1 r5 h1
+    (wrote-both _ _ s1 s2 s5 r1 r2 r5 h2
+    (wrote-both _ _ s2 s3 s5 r2 r3 r5 h3
+    (wrote-both _ _ s3 s4 s5 r3 r4 r5 h4 h5))))
+
+pub recording-parts : (i r b : ℕ) → (75 ∷ []) ++ (tabDecimal i ++ (tabDecimal r ++ (tabDecimal b ++ (10 ∷ [])))) ≡ recordingLine i r b
+unfolding tabDecimal recordingText numberTexts numberText tabbed withEnd
+recording-parts i r b =
+    sym (ap (λ (t : List ℕ). 75 ∷ 9 ∷ t) (append-assoc (decimalText i) (9 ∷ (decimalText r ++ (9 ∷ decimalText b))) (10 ∷ []) ∙ ap (λ (t : List ℕ). decimalText i ++ (9 ∷ t)) (append-assoc (decimalText r) (9 ∷ decimalText b) (10 ∷ []))))
+
+pub wrote-recording : (i r b : ℕ) (s s1 s2 s3 s4 s5 : List ℕ) (r1 r2 r3 r4 r5 : ℕ) → Wrote (75 ∷ []) s 0 r1 s1 → Wrote (tabDecimal i) s1 r1 r2 s2 →
+    Wrote (tabDecimal r) s2 r2 r3 s3 → Wrote (tabDecimal b) s3 r3 r4 s4 → Wrote (10 ∷ []) s4 r4 r5 s5 → Wrote (recordingLine i r b) s 0 r5 s5
+wrote-recording i r b s s1 s2 s3 s4 s5 r1 r2 r3 r4 r5 h1 h2 h3 h4 h5 =
+    subst (λ (t : List ℕ). Wrote t s 0 r5 s5) (recording-parts i r b)
     (wrote-both _ _ s s1 s5 0 r1 r5 h1
     (wrote-both _ _ s1 s2 s5 r1 r2 r5 h2
     (wrote-both _ _ s2 s3 s5 r2 r3 r5 h3

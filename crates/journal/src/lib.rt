@@ -1,4 +1,4 @@
-// Opening, delivery and turn, each with its line of the journal. The line's bytes are asked for last.
+// Opening, delivery, recording and turn, each with its line of the journal. The line's bytes are asked for last.
 mod lines;
 
 use delivery::Verdict;
@@ -6,11 +6,11 @@ use settings::refusal;
 use turn::Outcome;
 ghost use mathlib.Core.Path.{_≡_};
 ghost use lib.ListN.{length};
-ghost use Rattle.journal.specs.Journal.{lineAnswer, acts, openEntry, openedWords, openedBytes, deliverEntry, deliveredWords, deliveredBytes, turnRoom, turnedMessage, turnedLine};
+ghost use Rattle.journal.specs.Journal.{lineAnswer, acts, openEntry, openedWords, openedBytes, deliverEntry, deliveredWords, deliveredBytes, recordEntry, recordWords, recordBytes, turnRoom, turnedMessage, turnedLine};
 ghost use Rattle.turn.specs.Turn.{turnOutcome, turnWords};
 ghost use Rattle.delivery.specs.Delivery.{deliverAnswer};
 
-// The answer of an opening or a delivery: the number of the refusal, or the length of its line.
+// The answer of an opening, a delivery or a recording: the number of the refusal, or the length of its line.
 pub enum Entry {
     Refused(u64),
     Line(u64),
@@ -37,21 +37,24 @@ pub fn open(
     input: u64,
     coins: &[u32],
     weights: &[u8],
+    boxed: u64,
     line: &mut [u8],
 ) -> Entry
-    ensures answer { λ r. ⌜ r ≡ openEntry (length (now (state .entry))) n ta ts own session input (now (coins .entry)) (now (weights .entry)) (length (now (line .entry))) ⌝ }
-    ensures words { λ _. ⌜ now (state .exit) ≡ openedWords (now (state .entry)) n ta ts own session input (now (coins .entry)) (now (weights .entry)) (length (now (line .entry))) ⌝ }
-    ensures bytes { λ _. ⌜ now (line .exit) ≡ openedBytes (length (now (state .entry))) n ta ts own session input (now (coins .entry)) (now (weights .entry)) (now (line .entry)) ⌝ }
+    ensures answer { λ r. ⌜ r ≡ openEntry (length (now (state .entry))) n ta ts own session input (now (coins .entry)) (now (weights .entry)) boxed (length (now (line .entry))) ⌝ }
+    ensures words { λ _. ⌜ now (state .exit) ≡ openedWords (now (state .entry)) n ta ts own session input (now (coins .entry)) (now (weights .entry)) boxed (length (now (line .entry))) ⌝ }
+    ensures bytes { λ _. ⌜ now (line .exit) ≡ openedBytes (length (now (state .entry))) n ta ts own session input (now (coins .entry)) (now (weights .entry)) boxed (now (line .entry)) ⌝ }
 {
     if line.len() < LINE_BYTES {
-        let k = opening::answer(state.len(), n, ta, ts, own, coins.len(), weights);
+        let k = opening::answer(state.len(), n, ta, ts, own, coins, weights, boxed);
         return Entry::Refused(short_of(k));
     }
-    let k = opening::open(state, n, ta, ts, own, session, input, coins, weights);
+    let k = opening::open(state, n, ta, ts, own, session, input, coins, weights, boxed);
     if k != 0 {
         return Entry::Refused(k);
     }
-    Entry::Line(lines::put_opening(line, n, ta, ts, own, session, input, coins, weights) as u64)
+    Entry::Line(
+        lines::put_opening(line, n, ta, ts, own, session, input, coins, weights, boxed) as u64,
+    )
 }
 
 // The answer of a delivery without its line.
@@ -79,6 +82,22 @@ pub fn deliver(state: &mut [u64], link: u64, bytes: &[u8], line: &mut [u8]) -> E
         return Entry::Refused(k);
     }
     Entry::Line(lines::put_delivery(line, link, bytes) as u64)
+}
+
+// Records the bit of a vote and round.
+pub fn record(state: &mut [u64], vote: u64, round: u64, bit: u64, line: &mut [u8]) -> Entry
+    ensures answer { λ r. ⌜ r ≡ recordEntry (now (state .entry)) vote round bit (length (now (line .entry))) ⌝ }
+    ensures words { λ _. ⌜ now (state .exit) ≡ recordWords (now (state .entry)) vote round bit (length (now (line .entry))) ⌝ }
+    ensures bytes { λ _. ⌜ now (line .exit) ≡ recordBytes (now (state .entry)) vote round bit (now (line .entry)) ⌝ }
+{
+    if line.len() < LINE_BYTES {
+        return Entry::Refused(short_of(recording::answer(state, vote, round, bit)));
+    }
+    let k = recording::record(state, vote, round, bit);
+    if k != 0 {
+        return Entry::Refused(k);
+    }
+    Entry::Line(lines::put_recording(line, vote, round, bit) as u64)
 }
 
 // Whether a turn is neither idle nor refused.

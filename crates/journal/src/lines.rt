@@ -2,7 +2,7 @@
 // place after it.
 ghost use Rattle.text.specs.Paste.{Wrote};
 ghost use Rattle.text.specs.Each.{eachText};
-ghost use Rattle.journal.specs.Lines.{openingLine, deliveryLine, turnLine};
+ghost use Rattle.journal.specs.Lines.{openingLine, deliveryLine, recordingLine, turnLine};
 ghost use Rattle.journal.specs.Parts.{tabDecimal, tabWord, tabPack, settingsPart, inputPart, listsPart};
 
 const TAB: u8 = 9;
@@ -14,6 +14,8 @@ const LETTER_O: u8 = 79;
 const LETTER_D: u8 = 68;
 
 const LETTER_T: u8 = 84;
+
+const LETTER_K: u8 = 75;
 
 const VERSION: u64 = 1;
 
@@ -88,13 +90,14 @@ fn put_input(out: &mut [u8], at: usize, own: u64, session: u32, input: u64) -> u
     put_tab_pack(out, third, input)
 }
 
-// Coin words, weights and the end.
-fn put_lists(out: &mut [u8], at: usize, coins: &[u32], weights: &[u8]) -> usize
-    ensures { λ r. ⌜ Wrote (listsPart (now (coins .entry)) (now (weights .entry))) (now (out .entry)) at r (now (out .exit)) ⌝ }
+// Coin words, weights, whether coins are boxed, and the end.
+fn put_lists(out: &mut [u8], at: usize, coins: &[u32], weights: &[u8], boxed: u64) -> usize
+    ensures { λ r. ⌜ Wrote (listsPart (now (coins .entry)) (now (weights .entry)) boxed) (now (out .entry)) at r (now (out .exit)) ⌝ }
 {
     let second = put_coins(out, at, coins);
     let third = put_weights(out, second, weights);
-    text::put_byte(out, third, LF)
+    let fourth = put_tab_decimal(out, third, boxed);
+    text::put_byte(out, fourth, LF)
 }
 
 // The line of an opening.
@@ -108,12 +111,13 @@ pub fn put_opening(
     input: u64,
     coins: &[u32],
     weights: &[u8],
+    boxed: u64,
 ) -> usize
-    ensures { λ r. ⌜ Wrote (openingLine n ta ts own session input (now (coins .entry)) (now (weights .entry))) (now (out .entry)) 0 r (now (out .exit)) ⌝ }
+    ensures { λ r. ⌜ Wrote (openingLine n ta ts own session input (now (coins .entry)) (now (weights .entry)) boxed) (now (out .entry)) 0 r (now (out .exit)) ⌝ }
 {
     let second = put_settings(out, n, ta, ts);
     let third = put_input(out, second, own, session, input);
-    put_lists(out, third, coins, weights)
+    put_lists(out, third, coins, weights, boxed)
 }
 
 // The line of a delivery.
@@ -133,4 +137,15 @@ pub fn put_turn(out: &mut [u8]) -> usize
 {
     let first = text::put_byte(out, 0, LETTER_T);
     text::put_byte(out, first, LF)
+}
+
+// The line of a recording.
+pub fn put_recording(out: &mut [u8], vote: u64, round: u64, bit: u64) -> usize
+    ensures { λ r. ⌜ Wrote (recordingLine vote round bit) (now (out .entry)) 0 r (now (out .exit)) ⌝ }
+{
+    let first = text::put_byte(out, 0, LETTER_K);
+    let second = put_tab_decimal(out, first, vote);
+    let third = put_tab_decimal(out, second, round);
+    let fourth = put_tab_decimal(out, third, bit);
+    text::put_byte(out, fourth, LF)
 }

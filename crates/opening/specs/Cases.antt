@@ -19,7 +19,7 @@ use Rattle.records.specs.Words.{word-within, word-past-end}
 use Rattle.records.specs.Fill.{blank, storeOf}
 use Rattle.session.specs.Session.{numbered}
 use Rattle.opening.specs.Opening.{openAnswer, withSettings, withCoins, openWords, opened}
-use Rattle.opening.specs.Given.{item, weightsWord}
+use Rattle.opening.specs.Given.{item, coinsGiven, weightsWord}
 
 pub is-valid : (n ta ts w : ℕ) (c : Checked) (g : Settings) → c ≡ checkSettings n ta ts w → c ≡ Valid g → true ≡ validSettings n ta ts w
 is-valid n ta ts w c g e f = sym (check-taken n ta ts w g (sym e ∙ f) .valid)
@@ -27,57 +27,57 @@ is-valid n ta ts w c g e f = sym (check-taken n ta ts w g (sym e ∙ f) .valid)
 pub is-invalid : (n ta ts w : ℕ) (c : Checked) → c ≡ checkSettings n ta ts w → c ≡ Invalid → false ≡ validSettings n ta ts w
 is-invalid n ta ts w c e f = sym (check-refused n ta ts w (sym e ∙ f))
 
-module _ (words n ta ts w own coins : ℕ) where
-  pub answer-words : (words ≡ 2048 → ⊥) → 9 ≡ openAnswer words n ta ts w own coins
+module _ (words n ta ts w own : ℕ) (coins : List ℕ) (boxed : ℕ) where
+  pub answer-words : (words ≡ 2048 → ⊥) → 9 ≡ openAnswer words n ta ts w own coins boxed
   unfolding openAnswer
   answer-words h = rw (ne-eqb words 2048 h)
 
   module _ (ew : words ≡ 2048) (v : Bool) (ev : v ≡ validSettings n (namedTa n ta ts w) ts w) where
-    pub answer-settings : not v ≡ true → 1 ≡ openAnswer words n ta ts w own coins
+    pub answer-settings : not v ≡ true → 1 ≡ openAnswer words n ta ts w own coins boxed
     unfolding openAnswer
     answer-settings t = rw (eq-eqb words 2048 ew, ← ev, not-true v t)
 
     module _ (tv : not v ≡ false) (o : Bool) (eo : o ≡ numbered n own) where
-      pub answer-own : not o ≡ true → 1 ≡ openAnswer words n ta ts w own coins
+      pub answer-own : not o ≡ true → 1 ≡ openAnswer words n ta ts w own coins boxed
       unfolding openAnswer
       answer-own t = rw (eq-eqb words 2048 ew, ← ev, not-false v tv, ← eo, not-true o t)
 
-      pub answer-coins : not o ≡ false → (coins ≡ n → ⊥) → 1 ≡ openAnswer words n ta ts w own coins
+      pub answer-coins : not o ≡ false → (g : Bool) → g ≡ coinsGiven n coins boxed → not g ≡ true → 1 ≡ openAnswer words n ta ts w own coins boxed
       unfolding openAnswer
-      answer-coins t h = rw (eq-eqb words 2048 ew, ← ev, not-false v tv, ← eo, not-false o t, ne-eqb coins n h)
+      answer-coins t g eg h = rw (eq-eqb words 2048 ew, ← ev, not-false v tv, ← eo, not-false o t, ← eg, not-true g h)
 
-      pub answer-accepted : not o ≡ false → coins ≡ n → 0 ≡ openAnswer words n ta ts w own coins
+      pub answer-accepted : not o ≡ false → (g : Bool) → g ≡ coinsGiven n coins boxed → not g ≡ false → 0 ≡ openAnswer words n ta ts w own coins boxed
       unfolding openAnswer
-      answer-accepted t h = rw (eq-eqb words 2048 ew, ← ev, not-false v tv, ← eo, not-false o t, eq-eqb coins n h)
+      answer-accepted t g eg h = rw (eq-eqb words 2048 ew, ← ev, not-false v tv, ← eo, not-false o t, ← eg, not-false g h)
 
 -- what an accepted opening tells
-pub record Accepted (words n ta ts w own coins : ℕ) : Type 0 where
+pub record Accepted (words n ta ts w own : ℕ) (coins : List ℕ) (boxed : ℕ) : Type 0 where
   pub size : words ≡ 2048
   pub valid : validSettings n (namedTa n ta ts w) ts w ≡ true
   pub own-number : numbered n own ≡ true
-  pub coin-words : coins ≡ n
+  pub given : coinsGiven n coins boxed ≡ true
 
-pub accepted : (words n ta ts w own coins : ℕ) → openAnswer words n ta ts w own coins ≡ 0 → Accepted words n ta ts w own coins
+pub accepted : (words n ta ts w own : ℕ) (coins : List ℕ) (boxed : ℕ) → openAnswer words n ta ts w own coins boxed ≡ 0 → Accepted words n ta ts w own coins boxed
 unfolding openAnswer
-accepted words n ta ts w own coins e =
+accepted words n ta ts w own coins boxed e =
     let a = refusal-passed (not (eqb words 2048)) 9 _ (λ z. omega arith) e in
     let b = refusal-passed (not (validSettings n (namedTa n ta ts w) ts w)) 1 _ (λ z. omega arith) (a .1) in
     let c = refusal-passed (not (numbered n own)) 1 _ (λ z. omega arith) (b .1) in
-    let d = refusal-passed (not (eqb coins n)) 1 0 (λ z. omega arith) (c .1) in
+    let d = refusal-passed (not (coinsGiven n coins boxed)) 1 0 (λ z. omega arith) (c .1) in
     record {
       size = eqb-true words 2048 (not-passed (eqb words 2048) (a .0));
       valid = not-passed (validSettings n (namedTa n ta ts w) ts w) (b .0);
       own-number = not-passed (numbered n own) (c .0);
-      coin-words = eqb-true coins n (not-passed (eqb coins n) (d .0));
+      given = not-passed (coinsGiven n coins boxed) (d .0);
     }
 
-pub accepted-answer : (words n ta ts w own coins : ℕ) → Accepted words n ta ts w own coins → openAnswer words n ta ts w own coins ≡ 0
+pub accepted-answer : (words n ta ts w own : ℕ) (coins : List ℕ) (boxed : ℕ) → Accepted words n ta ts w own coins boxed → openAnswer words n ta ts w own coins boxed ≡ 0
 unfolding openAnswer
-accepted-answer words n ta ts w own coins a = rw (eq-eqb words 2048 (a .size), a .valid, a .own-number, eq-eqb coins n (a .coin-words))
+accepted-answer words n ta ts w own coins boxed a = rw (eq-eqb words 2048 (a .size), a .valid, a .own-number, a .given)
 
-pub accepted-few : (words n ta ts w own coins a : ℕ) → a ≡ openAnswer words n ta ts w own coins → a ≡ 0 → Fits w8 n
-accepted-few words n ta ts w own coins a e z =
-    let k = valid-rules n (namedTa n ta ts w) ts w (accepted words n ta ts w own coins (sym e ∙ z) .valid) in
+pub accepted-few : (words n ta ts w own : ℕ) (coins : List ℕ) (boxed a : ℕ) → a ≡ openAnswer words n ta ts w own coins boxed → a ≡ 0 → Fits w8 n
+accepted-few words n ta ts w own coins boxed a e z =
+    let k = valid-rules n (namedTa n ta ts w) ts w (accepted words n ta ts w own coins boxed (sym e ∙ z) .valid) in
     record { fits = omega (arith, k .few) }
 
 pub coin-none : (coins : List ℕ) (i : ℕ) → i < 1 → 0 ≡ item coins i
@@ -97,21 +97,21 @@ pub coins-stored : (s t coins : List ℕ) (n : ℕ) → t ≡ storeOf (λ i. ite
 unfolding withCoins
 coins-stored s t coins n e = e
 
-module _ (s coins : List ℕ) (n ta ts w own session input a : ℕ) (e : a ≡ openAnswer (length s) n ta ts w own (length coins)) where
-  pub open-done : (m : ℕ) (s0 s1 s2 : List ℕ) → a ≡ 0 → m ≡ namedTa n ta ts w → s0 ≡ blank (length s) → s1 ≡ withSettings s0 n m ts w own session input → s2 ≡ withCoins s1 coins n → s2 ≡ opened s n ta ts w own session input coins
+module _ (s coins : List ℕ) (n ta ts w own session input boxed a : ℕ) (e : a ≡ openAnswer (length s) n ta ts w own coins boxed) where
+  pub open-done : (m : ℕ) (s0 s1 s2 : List ℕ) → a ≡ 0 → m ≡ namedTa n ta ts w → s0 ≡ blank (length s) → s1 ≡ withSettings s0 n m ts w own session input boxed → s2 ≡ withCoins s1 coins n → s2 ≡ opened s n ta ts w own session input coins boxed
   unfolding opened openWords
   open-done m s0 s1 s2 z em f g h =
-      rw (← e, eq-eqb a 0 z, h, g, f, em, accepted (length s) n ta ts w own (length coins) (sym e ∙ z) .size)
+      rw (← e, eq-eqb a 0 z, h, g, f, em, accepted (length s) n ta ts w own coins boxed (sym e ∙ z) .size)
 
-  pub open-refused : (a ≡ 0 → ⊥) → s ≡ opened s n ta ts w own session input coins
+  pub open-refused : (a ≡ 0 → ⊥) → s ≡ opened s n ta ts w own session input coins boxed
   unfolding opened
   open-refused z = rw (← e, ne-eqb a 0 z)
 
 -- the word of the weights that are given, in place of the word
-pub given-answer : (words n ta ts w own coins a : ℕ) (ws : List ℕ) → w ≡ weightsWord n ws → a ≡ openAnswer words n ta ts w own coins → a ≡ openAnswer words n ta ts (weightsWord n ws) own coins
-given-answer words n ta ts w own coins a ws e f = f ∙ ap (λ (x : ℕ). openAnswer words n ta ts x own coins) e
+pub given-answer : (words n ta ts w own : ℕ) (coins : List ℕ) (boxed a : ℕ) (ws : List ℕ) → w ≡ weightsWord n ws → a ≡ openAnswer words n ta ts w own coins boxed → a ≡ openAnswer words n ta ts (weightsWord n ws) own coins boxed
+given-answer words n ta ts w own coins boxed a ws e f = f ∙ ap (λ (x : ℕ). openAnswer words n ta ts x own coins boxed) e
 
-pub given-words : (s t coins : List ℕ) (n ta ts w own session input : ℕ) (ws : List ℕ) → w ≡ weightsWord n ws → t ≡ opened s n ta ts w own session input coins → t ≡ opened s n ta ts (weightsWord n ws) own session input coins
-given-words s t coins n ta ts w own session input ws e f = f ∙ ap (λ (x : ℕ). opened s n ta ts x own session input coins) e
+pub given-words : (s t coins : List ℕ) (n ta ts w own session input boxed : ℕ) (ws : List ℕ) → w ≡ weightsWord n ws → t ≡ opened s n ta ts w own session input coins boxed → t ≡ opened s n ta ts (weightsWord n ws) own session input coins boxed
+given-words s t coins n ta ts w own session input boxed ws e f = f ∙ ap (λ (x : ℕ). opened s n ta ts x own session input coins boxed) e
 
 pub ruleset open-cases = (is-valid, is-invalid, answer-words, answer-settings, answer-own, answer-coins, answer-accepted, accepted-few, coin-none, coin-within, coin-past-end, coins-stored, open-done, open-refused, given-answer, given-words)

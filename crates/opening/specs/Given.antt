@@ -1,6 +1,6 @@
 -- The lists that an opening is given: coin words, and weights (request N11), which are kept as one word.
 use Prim.Native.Nat.{ℕ, _-_}
-use mathlib.Core.Bool.{Bool, _&&_, cond}
+use mathlib.Core.Bool.{Bool, _&&_, _||_, cond}
 use mathlib.Core.List.{List}
 use lib.ListN.{length}
 use lib.Dec.{eqb, leb}
@@ -11,6 +11,14 @@ use Rattle.records.specs.Words.{word}
 -- item i of a list, from 1; 0 where there is none
 unfoldable pub item : List ℕ → ℕ → ℕ
 item xs i = cond (eqb i 0) 0 (word xs (i - 1))
+
+-- a coin word of 0
+unfoldable pub coinZero : List ℕ → ℕ → Bool
+coinZero coins i = eqb (item coins i) 0
+
+-- "n coin words", n being at most 16; printed (0) or boxed (1), as the opening says (request N12), and "boxed sessions give coin words of 0"
+unfoldable pub coinsGiven : ℕ → List ℕ → ℕ → Bool
+coinsGiven n coins boxed = leb n 16 && eqb (length coins) n && leb boxed 1 && (eqb boxed 0 || every (coinZero coins) n)
 
 -- "Every concentrator gets a weight from 1 to 4"
 unfoldable pub weightGiven : List ℕ → ℕ → Bool

@@ -1,8 +1,8 @@
 -- The cases of the code that checks the weights and puts them into one word.
-use Prim.Native.Nat.{ℕ, zero, suc, _+_, _/_, _%_, _≤_, _<_}
-use mathlib.Core.Bool.{Bool, true, false, _&&_, not, cond}
+use Prim.Native.Nat.{ℕ, _+_, _≤_, _<_}
+use mathlib.Core.Bool.{Bool, true, false, _&&_, not}
 use mathlib.Core.List.{List}
-use mathlib.Core.Path.{_≡_, refl, sym, ap, subst, _∙_}
+use mathlib.Core.Path.{_≡_, refl, sym, subst, _∙_}
 use native.Mathlib.Omega.{arith}
 use native.Mathlib.Numerals.{add-one}
 use lib.ListN.{length}
@@ -14,7 +14,7 @@ use Rattle.quorum.specs.Bools.{and-left}
 use Rattle.quorum.specs.Marks.{withMark}
 use Rattle.quorum.specs.Every.{every}
 use Rattle.quorum.specs.Packed.{markIf, withWeight, packed}
-use Rattle.opening.specs.Given.{item, weightGiven, weightsGiven, weightsWord}
+use Rattle.opening.specs.Given.{item, coinZero, coinsGiven, weightGiven, weightsGiven, weightsWord}
 
 pub weight-range : (ws : List ℕ) (p x : ℕ) → x ≡ item ws p → leb 1 x && leb x 4 ≡ weightGiven ws p
 unfolding weightGiven
@@ -82,3 +82,28 @@ pub packing-done : (f : ℕ → ℕ) (n k w : ℕ) → Packing f n k w → n ≤
 packing-done f n k w i h = let e : k ≡ n = omega (arith, i .within) in subst (λ (m : ℕ). w ≡ packed f m) e (i .put-in)
 
 pub ruleset packing = (mark-there, mark-absent, weight-put, packing-start, packing-next, packing-done)
+
+module _ (n : ℕ) (coins : List ℕ) (boxed : ℕ) where
+  pub coins-many : 16 < n → false ≡ coinsGiven n coins boxed
+  unfolding coinsGiven
+  coins-many h = rw (lt-leb n 16 h)
+
+  module _ (few : n ≤ 16) where
+    pub coins-other : (length coins ≡ n → ⊥) → false ≡ coinsGiven n coins boxed
+    unfolding coinsGiven
+    coins-other h = rw (le-leb n 16 few, ne-eqb (length coins) n h)
+
+    module _ (size : length coins ≡ n) where
+      pub coins-kind : 1 < boxed → false ≡ coinsGiven n coins boxed
+      unfolding coinsGiven
+      coins-kind h = rw (le-leb n 16 few, eq-eqb (length coins) n size, lt-leb boxed 1 h)
+
+      pub coins-printed : boxed ≡ 0 → true ≡ coinsGiven n coins boxed
+      unfolding coinsGiven
+      coins-printed h = rw (le-leb n 16 few, eq-eqb (length coins) n size, h)
+
+      pub coins-boxed : (b : Bool) → boxed ≤ 1 → (boxed ≡ 0 → ⊥) → b ≡ every (coinZero coins) n → b ≡ coinsGiven n coins boxed
+      unfolding coinsGiven
+      coins-boxed b h z e = e ∙ rw (le-leb n 16 few, eq-eqb (length coins) n size, le-leb boxed 1 h, ne-eqb boxed 0 z)
+
+pub ruleset coins-cases = (coins-many, coins-other, coins-kind, coins-printed, coins-boxed)

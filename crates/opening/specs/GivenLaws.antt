@@ -1,12 +1,12 @@
--- The word of the weights holds each weight that is given, and a list that is not right opens no session.
+-- The word of the weights holds each weight that is given, a list that is not right opens no session, and what coin words tell.
 use Prim.Native.Nat.{ℕ, zero, suc, _^_, _≤_, _<_}
-use mathlib.Core.Bool.{Bool, true, false, _&&_, cond}
+use mathlib.Core.Bool.{Bool, true, false, _&&_, _||_, cond}
 use mathlib.Core.List.{List}
 use mathlib.Core.Path.{_≡_, refl, ap}
 use native.Mathlib.Omega.{arith}
 use lib.Dec.{eqb, leb}
 use lib.ListN.{length}
-use borrow.Author.Tests.{leb-true, eqb-true}
+use borrow.Author.Tests.{leb-true, eqb-true, ne-eqb}
 use Rattle.quorum.specs.Bools.{and-left, and-right}
 use Rattle.quorum.specs.Marks.{mark}
 use Rattle.quorum.specs.MarkLaws.{with-mark-fits}
@@ -16,7 +16,7 @@ use Rattle.quorum.specs.Weights.{weightOf}
 use Rattle.quorum.specs.Whole.{weight-low}
 use Rattle.settings.specs.Laws.{valid-rules}
 use Rattle.settings.specs.Settings.{namedTa}
-use Rattle.opening.specs.Given.{item, weightGiven, weightsGiven, weightsWord}
+use Rattle.opening.specs.Given.{item, coinZero, coinsGiven, weightGiven, weightsGiven, weightsWord}
 use Rattle.opening.specs.Opening.{openAnswer}
 use Rattle.opening.specs.Cases.{accepted}
 
@@ -51,16 +51,38 @@ unfolding weightOf mark
 nobody = refl
 
 -- "not exactly n weights", or one that is 0 or over 4, is refused: an opening that is accepted was given a list that is right
-pub accepted-given : (words n ta ts own coins : ℕ) (ws : List ℕ) → openAnswer words n ta ts (weightsWord n ws) own coins ≡ 0 → weightsGiven n ws ≡ true
+pub accepted-given : (words n ta ts own : ℕ) (coins ws : List ℕ) (boxed : ℕ) → openAnswer words n ta ts (weightsWord n ws) own coins boxed ≡ 0 → weightsGiven n ws ≡ true
 unfolding weightsWord
-accepted-given words n ta ts own coins ws e = at (weightsGiven n ws) refl
+accepted-given words n ta ts own coins ws boxed e = at (weightsGiven n ws) refl
   where
     at : (b : Bool) → weightsGiven n ws ≡ b → weightsGiven n ws ≡ true
     at true f = f
     at false f =
-        let r = valid-rules n (namedTa n ta ts (weightsWord n ws)) ts (weightsWord n ws) (accepted words n ta ts (weightsWord n ws) own coins e .valid) in
+        let r = valid-rules n (namedTa n ta ts (weightsWord n ws)) ts (weightsWord n ws) (accepted words n ta ts (weightsWord n ws) own coins boxed e .valid) in
         let none : weightsWord n ws ≡ 0 = rw f in
         absurd (omega (arith, weight-low (weightsWord n ws) n (r .right) 1 (omega arith) (r .some), ap (λ (w : ℕ). weightOf w 1) none, nobody))
+
+-- what coin words that are given tell
+pub record CoinsGiven (n : ℕ) (coins : List ℕ) (boxed : ℕ) : Type 0 where
+  pub few : n ≤ 16
+  pub size : length coins ≡ n
+  pub kind : boxed ≤ 1
+  pub zero : (boxed ≡ 0 → ⊥) → (i : ℕ) → 1 ≤ i → i ≤ n → item coins i ≡ 0
+
+pub coins-given : (n : ℕ) (coins : List ℕ) (boxed : ℕ) → coinsGiven n coins boxed ≡ true → CoinsGiven n coins boxed
+unfolding coinsGiven coinZero
+coins-given n coins boxed e =
+    let a = and-left (leb n 16 && eqb (length coins) n && leb boxed 1) (eqb boxed 0 || every (coinZero coins) n) e in
+    let b = and-left (leb n 16 && eqb (length coins) n) (leb boxed 1) a in
+    record {
+      few = leb-true n 16 (and-left (leb n 16) (eqb (length coins) n) b);
+      size = eqb-true (length coins) n (and-right (leb n 16) (eqb (length coins) n) b);
+      kind = leb-true boxed 1 (and-right (leb n 16 && eqb (length coins) n) (leb boxed 1) a);
+      zero = λ z i lo hi. eqb-true (item coins i) 0 (every-each (coinZero coins) n (boxed-zero z (and-right (leb n 16 && eqb (length coins) n && leb boxed 1) (eqb boxed 0 || every (coinZero coins) n) e)) i lo hi);
+    }
+  where
+    boxed-zero : (boxed ≡ 0 → ⊥) → eqb boxed 0 || every (coinZero coins) n ≡ true → every (coinZero coins) n ≡ true
+    boxed-zero z q = rw (ne-eqb boxed 0 z) at q
 
 mark-fits : (b : Bool) (w k : ℕ) → w < 2 ^ 64 → markIf b w k < 2 ^ 64
 unfolding markIf

@@ -16,24 +16,24 @@ use Rattle.records.specs.Layout.{stateWords}
 use Rattle.opening.specs.Opening.{openAnswer, withSettings, withCoins, openWords, opened}
 use Rattle.opening.specs.Cases.{Accepted, accepted, accepted-answer}
 
-module _ (s coins : List ℕ) (n ts w own session input : ℕ) where
+module _ (s coins : List ℕ) (n ts w own session input boxed : ℕ) where
   -- whether an opening with this ta is accepted, and the words after it
   abbrev Opens : ℕ → Type 0
-  Opens ta = openAnswer (length s) n ta ts w own (length coins) ≡ 0
+  Opens ta = openAnswer (length s) n ta ts w own coins boxed ≡ 0
 
   abbrev after : ℕ → List ℕ
-  after ta = opened s n ta ts w own session input coins
+  after ta = opened s n ta ts w own session input coins boxed
 
   -- 255 opens a session wherever some ta does
   pub unnamed-opens : (ta : ℕ) → Opens ta → Opens UNNAMED
   unnamed-opens ta e =
-      let a = accepted (length s) n ta ts w own (length coins) e in
-      accepted-answer (length s) n UNNAMED ts w own (length coins)
+      let a = accepted (length s) n ta ts w own coins boxed e in
+      accepted-answer (length s) n UNNAMED ts w own coins boxed
       (record {
         size = a .size;
         valid = unnamed-largest n ts w (namedTa n ta ts w) (a .valid) .allowed;
         own-number = a .own-number;
-        coin-words = a .coin-words;
+        given = a .given;
       })
 
   -- and then it is the largest ta, and opens as that number does
@@ -43,8 +43,8 @@ module _ (s coins : List ℕ) (n ts w own session input : ℕ) where
     pub words : after UNNAMED ≡ after (unnamedTa n ts w)
 
   module _ (e : Opens UNNAMED) where
-    told : Accepted (length s) n UNNAMED ts w own (length coins)
-    told = accepted (length s) n UNNAMED ts w own (length coins) e
+    told : Accepted (length s) n UNNAMED ts w own coins boxed
+    told = accepted (length s) n UNNAMED ts w own coins boxed e
 
     -- it is not 255 itself
     same : unnamedTa n ts w ≡ namedTa n (unnamedTa n ts w) ts w
@@ -59,13 +59,13 @@ module _ (s coins : List ℕ) (n ts w own session input : ℕ) where
     same-words : after UNNAMED ≡ after (unnamedTa n ts w)
     unfolding opened openWords
     same-words =
-        rw (eq-eqb (openAnswer (length s) n UNNAMED ts w own (length coins)) 0 e, eq-eqb (openAnswer (length s) n (unnamedTa n ts w) ts w own (length coins)) 0 opens-named)
-        (ap (λ (m : ℕ). withCoins (withSettings (blank stateWords) n m ts w own session input) coins n) same)
+        rw (eq-eqb (openAnswer (length s) n UNNAMED ts w own coins boxed) 0 e, eq-eqb (openAnswer (length s) n (unnamedTa n ts w) ts w own coins boxed) 0 opens-named)
+        (ap (λ (m : ℕ). withCoins (withSettings (blank stateWords) n m ts w own session input boxed) coins n) same)
 
     pub unnamed-named : NamesLargest
     unnamed-named = record { largest = unnamed-largest n ts w (unnamedTa n ts w) (told .valid); opens = opens-named; words = same-words }
 
   -- "if 2·ts ≥ n it is refused as 1"
-  pub unnamed-refused : length s ≡ stateWords → wholeOf w n ≤ 2 * ts → openAnswer (length s) n UNNAMED ts w own (length coins) ≡ SETTINGS
+  pub unnamed-refused : length s ≡ stateWords → wholeOf w n ≤ 2 * ts → openAnswer (length s) n UNNAMED ts w own coins boxed ≡ SETTINGS
   unfolding openAnswer
   unnamed-refused size h = rw (eq-eqb (length s) stateWords size, none-allowed n ts w h (unnamedTa n ts w))

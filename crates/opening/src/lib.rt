@@ -1,5 +1,6 @@
 // Opening: the verdict, then the words of a new state.
-mod weights;
+pub mod coins;
+pub mod weights;
 
 use records::layout;
 use settings::Checked;
@@ -9,11 +10,11 @@ ghost use mathlib.Core.Path.{_≡_};
 ghost use lib.ListN.{length};
 ghost use Rattle.settings.specs.Settings.{validSettings, namedTa};
 ghost use Rattle.records.specs.Fill.{blank};
-ghost use Rattle.opening.specs.Opening.{openAnswer, withSettings, withCoins, opened};
-ghost use Rattle.opening.specs.Given.{item, weightsWord};
+ghost use Rattle.opening.specs.Opening.{openAnswer, withSettings, opened};
+ghost use Rattle.opening.specs.Given.{weightsWord};
 
 // Whether the numbers and the word of weights are settings of a session, ta as it is given.
-fn settings_valid(n: u64, ta: u64, ts: u64, weights: u64) -> bool
+pub fn settings_valid(n: u64, ta: u64, ts: u64, weights: u64) -> bool
     ensures { λ r. ⌜ r ≡ validSettings n (namedTa n ta ts weights) ts weights ⌝ }
 {
     let c = Settings::check_named(n, ta, ts, weights);
@@ -24,8 +25,17 @@ fn settings_valid(n: u64, ta: u64, ts: u64, weights: u64) -> bool
 }
 
 // The answer: 0, or the number of the refusal.
-fn open_answer(words: usize, n: u64, ta: u64, ts: u64, weights: u64, own: u64, coins: usize) -> u64
-    ensures { λ r. ⌜ r ≡ openAnswer words n ta ts weights own coins ⌝ }
+fn open_answer(
+    words: usize,
+    n: u64,
+    ta: u64,
+    ts: u64,
+    weights: u64,
+    own: u64,
+    coins: &[u32],
+    boxed: u64,
+) -> u64
+    ensures { λ r. ⌜ r ≡ openAnswer words n ta ts weights own (now (coins .entry)) boxed ⌝ }
 {
     if words != layout::STATE_WORDS {
         return refusal::NO_STATE;
@@ -36,15 +46,24 @@ fn open_answer(words: usize, n: u64, ta: u64, ts: u64, weights: u64, own: u64, c
     if !session::numbered(n, own) {
         return refusal::SETTINGS;
     }
-    if coins as u64 != n {
+    if !coins::coins_given(coins, n, boxed) {
         return refusal::SETTINGS;
     }
     0
 }
 
 // The answer of an opening with a list of weights.
-pub fn answer(words: usize, n: u64, ta: u64, ts: u64, own: u64, coins: usize, weights: &[u8]) -> u64
-    ensures { λ r. ⌜ r ≡ openAnswer words n ta ts (weightsWord n (now (weights .entry))) own coins ⌝ }
+pub fn answer(
+    words: usize,
+    n: u64,
+    ta: u64,
+    ts: u64,
+    own: u64,
+    coins: &[u32],
+    weights: &[u8],
+    boxed: u64,
+) -> u64
+    ensures { λ r. ⌜ r ≡ openAnswer words n ta ts (weightsWord n (now (weights .entry))) own (now (coins .entry)) boxed ⌝ }
 {
     open_answer(
         words,
@@ -54,11 +73,12 @@ pub fn answer(words: usize, n: u64, ta: u64, ts: u64, own: u64, coins: usize, we
         weights::weights_word(n, weights),
         own,
         coins,
+        boxed,
     )
 }
 
 // Sets every word to 0.
-fn clear(s: &mut [u64])
+pub fn clear(s: &mut [u64])
     ensures { λ _. ⌜ now (s .exit) ≡ blank (length (now (s .entry))) ⌝ }
 {
     let mut k: usize = 0;
@@ -77,8 +97,9 @@ fn put_settings(
     own: u64,
     session: u32,
     input: u64,
+    boxed: u64,
 )
-    ensures { λ _. ⌜ now (s .exit) ≡ withSettings (now (s .entry)) n ta ts weights own session input ⌝ }
+    ensures { λ _. ⌜ now (s .exit) ≡ withSettings (now (s .entry)) n ta ts weights own session input boxed ⌝ }
 {
     records::put(s, layout::N, n);
     records::put(s, layout::TA, ta);
@@ -87,33 +108,7 @@ fn put_settings(
     records::put(s, layout::SESSION, session as u64);
     records::put(s, layout::INPUT, input);
     records::put(s, layout::WEIGHTS, weights);
-}
-
-fn wide(x: u32) -> u64
-    ensures { λ r. ⌜ r ≡ x ⌝ }
-{
-    x as u64
-}
-
-// Coin word i, and 0 where there is none.
-fn coin_word(coins: &[u32], i: u8) -> u64
-    ensures { λ r. ⌜ r ≡ item (now (coins .entry)) i ⌝ }
-{
-    if i < 1 {
-        return 0;
-    }
-    let k = i as usize - 1;
-    if k < coins.len() { wide(coins[k]) } else { 0 }
-}
-
-fn put_coins(s: &mut [u64], coins: &[u32], n: u8)
-    ensures { λ _. ⌜ now (s .exit) ≡ withCoins (now (s .entry)) (now (coins .entry)) n ⌝ }
-{
-    let mut i: u8 = 0;
-    while i < n {
-        i += 1;
-        records::put(s, layout::COINS + i as usize, coin_word(coins, i));
-    }
+    records::put(s, layout::BOXED, boxed);
 }
 
 // Opens a session with the weights as one word, and answers 0 or the number of the refusal.
@@ -127,11 +122,12 @@ fn open_weighted(
     session: u32,
     input: u64,
     coins: &[u32],
+    boxed: u64,
 ) -> u64
-    ensures answer { λ r. ⌜ r ≡ openAnswer (length (now (state .entry))) n ta ts weights own (length (now (coins .entry))) ⌝ }
-    ensures words { λ _. ⌜ now (state .exit) ≡ opened (now (state .entry)) n ta ts weights own session input (now (coins .entry)) ⌝ }
+    ensures answer { λ r. ⌜ r ≡ openAnswer (length (now (state .entry))) n ta ts weights own (now (coins .entry)) boxed ⌝ }
+    ensures words { λ _. ⌜ now (state .exit) ≡ opened (now (state .entry)) n ta ts weights own session input (now (coins .entry)) boxed ⌝ }
 {
-    let answer = open_answer(state.len(), n, ta, ts, weights, own, coins.len());
+    let answer = open_answer(state.len(), n, ta, ts, weights, own, coins, boxed);
     if answer == 0 {
         let number = n as u8;
         clear(state);
@@ -144,8 +140,9 @@ fn open_weighted(
             own,
             session,
             input,
+            boxed,
         );
-        put_coins(state, coins, number);
+        coins::put_coins(state, coins, number);
     }
     answer
 }
@@ -161,10 +158,11 @@ pub fn open(
     input: u64,
     coins: &[u32],
     weights: &[u8],
+    boxed: u64,
 ) -> u64
-    ensures answer { λ r. ⌜ r ≡ openAnswer (length (now (state .entry))) n ta ts (weightsWord n (now (weights .entry))) own (length (now (coins .entry))) ⌝ }
-    ensures words { λ _. ⌜ now (state .exit) ≡ opened (now (state .entry)) n ta ts (weightsWord n (now (weights .entry))) own session input (now (coins .entry)) ⌝ }
+    ensures answer { λ r. ⌜ r ≡ openAnswer (length (now (state .entry))) n ta ts (weightsWord n (now (weights .entry))) own (now (coins .entry)) boxed ⌝ }
+    ensures words { λ _. ⌜ now (state .exit) ≡ opened (now (state .entry)) n ta ts (weightsWord n (now (weights .entry))) own session input (now (coins .entry)) boxed ⌝ }
 {
     let w = weights::weights_word(n, weights);
-    open_weighted(state, n, ta, ts, w, own, session, input, coins)
+    open_weighted(state, n, ta, ts, w, own, session, input, coins, boxed)
 }

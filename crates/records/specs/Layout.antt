@@ -8,7 +8,7 @@
 --     5            the own input
 --     6            turns taken that did not answer idle
 --     7            flags: mark 1 closed, mark 2 SEND sent, mark 3 COMMIT sent
---     8 to 23      coin word of each vote
+--     8 to 23      coin word of each vote: mark r is the coin of round r; where coins are boxed, mark 32 + r a recorded 0
 --     24 to 39     round of each vote: 0 before its start, 33 after round 32
 --     40 to 55     ESTs sent in each vote: mark r for 0 in round r, mark 32 + r for 1
 --     56 to 71     AUXs sent in each vote: mark r for round r
@@ -22,14 +22,15 @@
 --     139          votes decided 1: mark i for vote i
 --     140          SENDs held: mark i for instance i
 --     141          weights: of the marks p, 16 + p, 32 + p and 48 + p as many are set as p weighs
---     142 to 255   free
+--     142          0 where coins are printed, 1 where they are boxed
+--     143 to 255   free
 --     256 to 511   values of the ECHOs held, 16 for each instance, by sender
 --     512 to 767   values of the READYs held, 16 for each instance, by sender
 --     768 to 1023  values of the COMMITs held, 16 for each sender, in rising order
 --     1024 to 1535 ESTs and AUXs held, 32 words for each vote, by round:
 --                  marks p, 16 + p, 32 + p and 48 + p for EST 0, EST 1, AUX 0 and AUX 1 of sender p
 --     1536 to 2047 free
-use Prim.Native.Nat.{ℕ, _+_, _*_, _≤_}
+use Prim.Native.Nat.{ℕ, _+_, _*_}
 use mathlib.Core.Bool.{Bool, true, _&&_}
 use mathlib.Core.List.{List, [], _∷_}
 use mathlib.Core.Path.{_≡_, refl}
@@ -79,6 +80,9 @@ sendMarksAt = 140
 
 abbrev pub weightsAt : ℕ
 weightsAt = 141
+
+abbrev pub boxedAt : ℕ
+boxedAt = 142
 
 abbrev pub coinAt : ℕ → ℕ
 coinAt i = 7 + i
@@ -130,6 +134,10 @@ sendSentMark = 2
 abbrev pub commitSentMark : ℕ
 commitSentMark = 3
 
+-- the mark of a bit 0 that is recorded for round r; that of a bit 1 is the coin's own, r
+abbrev pub zeroMark : ℕ → ℕ
+zeroMark r = 32 + r
+
 -- the mark of EST b sent in round r
 abbrev pub estSentMark : ℕ → ℕ → ℕ
 estSentMark r b = 32 * b + r
@@ -160,7 +168,7 @@ regions =
     ∷ region (echoMarksAt 1) 16
     ∷ region (readyMarksAt 1) 16
     ∷ region (commitCountAt 1) 16
-    ∷ region echoSentAt 6
+    ∷ region echoSentAt 7
     ∷ region (echoValueAt 1 1) 256
     ∷ region (readyValueAt 1 1) 256
     ∷ region (commitValueAt 1 1) 256

@@ -4,3 +4,4 @@ pub mod Records
 pub mod Fill
 pub mod Copy
 pub mod Bounds
+pub mod Cases

@@ -2,8 +2,9 @@
 use Prim.Native.Nat.{ℕ, min}
 use mathlib.Core.Bool.{Bool, _||_}
 use mathlib.Core.List.{List}
+use lib.Dec.{eqb}
 use lib.ListN.{take, drop}
-use Rattle.records.specs.Layout.{ownAt, sessionAt, inputAt, turnsAt, flagsAt, closedMark, sendSentMark, commitSentMark, coinAt, roundAt, estSentAt, estSentMark, auxSentAt, sendMarksAt, sendValueAt, echoMarksAt, echoValueAt, readyMarksAt, readyValueAt, echoSentAt, readySentAt, decidedZeroAt, decidedOneAt, commitCountAt, commitValueAt, voteAt, estMark, auxMark}
+use Rattle.records.specs.Layout.{flagsAt, closedMark, sendSentMark, commitSentMark, boxedAt, coinAt, zeroMark, roundAt, estSentAt, estSentMark, auxSentAt, sendMarksAt, sendValueAt, echoMarksAt, echoValueAt, readyMarksAt, readyValueAt, echoSentAt, readySentAt, decidedZeroAt, decidedOneAt, commitCountAt, commitValueAt, voteAt, estMark, auxMark}
 use Rattle.records.specs.Words.{word, marked}
 
 -- delivery and turn after closing are refused
@@ -53,6 +54,18 @@ auxHeld s i r b p = marked s (voteAt i r) (auxMark b p)
 -- "Bit r−1 of word i, lowest bit 0, is the coin of vote i in round r."
 unfoldable pub coin : List ℕ → ℕ → ℕ → Bool
 coin s i r = marked s (coinAt i) r
+
+-- request N12: whether the coins of the session are printed
+unfoldable pub printed : List ℕ → Bool
+printed s = eqb (word s boxedAt) 0
+
+-- .. and where they are boxed, whether the host has recorded a bit for round r of vote i: a 1 is the coin itself
+unfoldable pub coinRecorded : List ℕ → ℕ → ℕ → Bool
+coinRecorded s i r = coin s i r || marked s (coinAt i) (zeroMark r)
+
+-- the coin of round r of vote i stands in the state
+unfoldable pub coinKnown : List ℕ → ℕ → ℕ → Bool
+coinKnown s i r = printed s || coinRecorded s i r
 
 -- "Starting enters round 1 (before that the round is 0)"; 33 means moved out of round 32, and a higher one is no state
 unfoldable pub round : List ℕ → ℕ → ℕ

@@ -15,6 +15,8 @@ pub const INPUT: usize = 5;
 
 pub const WEIGHTS: usize = 141;
 
+pub const BOXED: usize = 142;
+
 pub const TURNS: usize = 6;
 
 pub const FLAGS: usize = 7;
@@ -24,6 +26,9 @@ pub const CLOSED_MARK: u64 = 1;
 pub const SEND_SENT_MARK: u64 = 2;
 
 pub const COMMIT_SENT_MARK: u64 = 3;
+
+// A recorded bit 0 is marked so far above the coin itself.
+pub const ZERO_MARKS: u64 = 32;
 
 // One word for each vote or instance.
 pub const COINS: usize = 7;

@@ -7,7 +7,7 @@ ghost use lib.ListN.{length};
 ghost use Rattle.quorum.specs.Marking.{MarksOf};
 ghost use Rattle.records.specs.Copy.{copied};
 ghost use Rattle.records.specs.Layout.{voteAt};
-ghost use Rattle.records.specs.Records.{closed, sendSent, commitSent, echoSent, readySent, sendHeld, sendValue, estHeld, auxHeld, coin, round, estSent, auxSent, decided, commitCount, commitValue};
+ghost use Rattle.records.specs.Records.{closed, sendSent, commitSent, echoSent, readySent, sendHeld, sendValue, coin, printed, coinKnown, round, estSent, auxSent, decided, commitCount, commitValue};
 ghost use Rattle.records.specs.Words.{word, put, marked, equalAt, Reached, setMark};
 
 // The word at k, and 0 past the end.
@@ -129,6 +129,23 @@ pub fn coin(s: &[u64], i: u8, r: u8) -> bool
     ensures { λ c. ⌜ c ≡ coin (now (s .entry)) i r ⌝ }
 {
     marked(s, layout::COINS + i as usize, r as u64)
+}
+
+// Whether the coins of the session are printed.
+pub fn printed(s: &[u64]) -> bool
+    ensures { λ r. ⌜ r ≡ printed (now (s .entry)) ⌝ }
+{
+    word(s, layout::BOXED) == 0
+}
+
+// Whether the coin of vote i in round r stands in the state: printed, or recorded as 1 or as 0.
+pub fn coin_known(s: &[u64], i: u8, r: u8) -> bool
+    ensures { λ c. ⌜ c ≡ coinKnown (now (s .entry)) i r ⌝ }
+{
+    if printed(s) {
+        return true;
+    }
+    coin(s, i, r) | marked(s, layout::COINS + i as usize, layout::ZERO_MARKS + r as u64)
 }
 
 // The round of vote i: 0 before its start, 33 after round 32.

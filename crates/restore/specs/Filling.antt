@@ -2,13 +2,14 @@
 use Prim.Native.Nat.{ℕ, suc, _+_, _-_, _≤_, _<_}
 use mathlib.Core.Bool.{Bool, true, false, cond, _&&_, not}
 use mathlib.Core.List.{List, [], _∷_, _++_, append-nil, append-assoc}
+use mathlib.Core.Logic.{_⊎_, inl, inr}
 use mathlib.Core.Path.{_≡_, refl, sym, ap, _∙_}
 use native.Mathlib.Omega.{arith}
 use native.Mathlib.Numerals.{add-one}
 use lib.Dec.{leb}
 use lib.ListN.{length, take, drop, set, length-set}
 use lib.Seq.{take-suc-set}
-use borrow.Author.Tests.{le-leb, lt-leb, not-true, not-false}
+use borrow.Author.Tests.{le-leb, lt-leb, leb-true, leb-false, not-true, not-false}
 use Rattle.text.specs.Fields.{TAB}
 use Rattle.text.specs.Numbers.{valueOf, right}
 use Rattle.restore.specs.Truth.{and-none}
@@ -52,6 +53,30 @@ pub record FieldsRead (n : ℕ) (fs : List (List ℕ)) (room : ℕ) (r : Fields)
   pub size : length after ≡ room
   pub answer : r ≡ cond (properAll n 0 fs && leb (length fs) room) (Count (length fs)) Wrong
   pub numbers : (c : ℕ) → r ≡ Count c → take c after ≡ valuesAll n 0 fs
+
+-- what the answer tells of the fields
+module _ (n : ℕ) (fs : List (List ℕ)) (room : ℕ) (r : Fields) (after : List ℕ) (h : FieldsRead n fs room r after) where
+  answered : (b : Bool) → properAll n 0 fs && leb (length fs) room ≡ b → r ≡ cond b (Count (length fs)) Wrong
+  answered b e = h .answer ∙ rw e
+
+  pub read-none : r ≡ Wrong → (properAll n 0 fs ≡ false) ⊎ (room < length fs)
+  read-none e = go (properAll n 0 fs) refl (leb (length fs) room) refl
+    where
+      go : (a : Bool) → properAll n 0 fs ≡ a → (b : Bool) → leb (length fs) room ≡ b → (properAll n 0 fs ≡ false) ⊎ (room < length fs)
+      go false u b v = inl u
+      go true u false v = inr (leb-false (length fs) room v)
+      go true u true v = absurd (let x : r ≡ Count (length fs) = answered true (rw (u, v)) in let z : _≡_ {A = ℕ} 0 1 = cc in omega arith)
+
+  pub read-count : (k : ℕ) → r ≡ Count k → (properAll n 0 fs ≡ true) × (k ≤ room)
+  read-count k e = go (properAll n 0 fs) refl (leb (length fs) room) refl
+    where
+      go : (a : Bool) → properAll n 0 fs ≡ a → (b : Bool) → leb (length fs) room ≡ b → (properAll n 0 fs ≡ true) × (k ≤ room)
+      go true u true v =
+          let x : r ≡ Count (length fs) = answered true (rw (u, v)) in
+          let y : length fs ≡ k = cc in
+          (u, rw y at (leb-true (length fs) room v))
+      go true u false v = absurd (let x : r ≡ Wrong = answered false (rw (u, v)) in let z : _≡_ {A = ℕ} 0 1 = cc in omega arith)
+      go false u b v = absurd (let x : r ≡ Wrong = answered false (rw u) in let z : _≡_ {A = ℕ} 0 1 = cc in omega arith)
 
 -- a loop that has read k fields and is at a place
 pub record Filling (n : ℕ) (b : List ℕ) (start room at k : ℕ) (xs : List ℕ) : Type 0 where

@@ -11,10 +11,10 @@ use borrow.Author.Tests.{eq-eqb, ne-eqb, lt-ltb, le-ltb, le-leb, eqb-true, eqb-f
 use Rattle.text.specs.Numbers.{DECIMAL, WORD, PACK, valueOf, valuesOf}
 use Rattle.journal.specs.Lines.{openingForms}
 use Rattle.restore.specs.Truth.{and-none}
-use Rattle.restore.specs.Reading.{proper, allProper, formsFor}
+use Rattle.restore.specs.Reading.{proper, allProper, figureCount, formsFor}
 use Rattle.restore.specs.Restoring.{Point, openingFrom, openingRead}
 
--- the form of field k of n concentrators: six decimals, the own input, n coin words, weights
+-- the form of field k of n concentrators: six decimals, the own input, n coin words, decimals
 unfoldable pub formAt : (n k : ℕ) → ℕ
 formAt n k = cond (ltb k 6) DECIMAL (cond (eqb k 6) PACK (cond (ltb k (7 + n)) WORD DECIMAL))
 
@@ -50,16 +50,16 @@ module _ (n k : ℕ) where
 pub ruleset form-cases = (form-front, form-input, form-coin, form-weight)
 
 -- so many forms from field k on
-formsFrom : (n k count : ℕ) → List ℕ
+unfoldable pub formsFrom : (n k count : ℕ) → List ℕ
 formsFrom n k zero = []
 formsFrom n k (suc c) = formAt n k ∷ formsFrom n (k + 1) c
 
-proper-forms : (n k : ℕ) (fs : List (List ℕ)) → allProper (formsFrom n k (length fs)) fs ≡ properAll n k fs
+pub proper-forms : (n k : ℕ) (fs : List (List ℕ)) → allProper (formsFrom n k (length fs)) fs ≡ properAll n k fs
 unfolding allProper properAll formsFrom
 proper-forms n k [] = refl
 proper-forms n k (f ∷ fs) = ap (λ (b : Bool). proper (formAt n k) f && b) (proper-forms n (k + 1) fs)
 
-values-forms : (n k : ℕ) (fs : List (List ℕ)) → valuesOf (formsFrom n k (length fs)) fs ≡ valuesAll n k fs
+pub values-forms : (n k : ℕ) (fs : List (List ℕ)) → valuesOf (formsFrom n k (length fs)) fs ≡ valuesAll n k fs
 unfolding valuesOf valuesAll formsFrom
 values-forms n k [] = refl
 values-forms n k (f ∷ fs) = ap (λ (xs : List ℕ). valueOf (formAt n k) f ∷ xs) (values-forms n (k + 1) fs)
@@ -99,16 +99,16 @@ forms-length n k zero = refl
 forms-length n k (suc c) = ap suc (forms-length n (k + 1) c)
 
 -- fields of another number than forms are not all proper
-proper-length : (ws : List ℕ) (fs : List (List ℕ)) → (length ws ≡ length fs → ⊥) → allProper ws fs ≡ false
+pub proper-length : (ws : List ℕ) (fs : List (List ℕ)) → (length ws ≡ length fs → ⊥) → allProper ws fs ≡ false
 unfolding allProper
 proper-length [] [] n = absurd (n refl)
 proper-length [] (f ∷ fs) n = refl
 proper-length (w ∷ ws) [] n = refl
 proper-length (w ∷ ws) (f ∷ fs) n = rw (proper-length ws fs (λ e. n (ap suc e))) (and-none (proper w f))
 
--- the number of fields is right: with weights or without
+-- the number of fields is right: without weights, with them, or with whether coins are boxed too
 unfoldable pub countRight : ℕ → ℕ → Bool
-countRight n count = eqb count (7 + n) || eqb count (7 + n + n)
+countRight n count = eqb count (7 + n) || eqb count (7 + n + n) || eqb count (7 + n + n + 1)
 
 -- what numbers of an opening line come to, by how many they are
 unfoldable pub countedFrom : ℕ → List ℕ → Option Point
@@ -119,9 +119,13 @@ unfolding valuesAll
 values-length n k [] = refl
 values-length n k (f ∷ fs) = ap suc (values-length n (k + 1) fs)
 
+pub none-of : (b : Bool) → _≡_ {A = Option Point} none (cond b none none)
+none-of true = refl
+none-of false = refl
+
 pub opening-counted : (n : ℕ) (fs : List (List ℕ)) → n ≤ 16 → openingRead n fs ≡ cond (properAll n 0 fs) (countedFrom n (valuesAll n 0 fs)) none
-unfolding openingRead formsFor countedFrom countRight
-opening-counted n fs h = rw (le-leb n 16 h, values-length n 0 fs) (go (eqb (length fs) (7 + n)) refl (eqb (length fs) (7 + n + n)) refl)
+unfolding openingRead formsFor figureCount countedFrom countRight
+opening-counted n fs h = rw (le-leb n 16 h, values-length n 0 fs) (go (eqb (length fs) (7 + n)) refl (eqb (length fs) (7 + n + n)) refl (eqb (length fs) (7 + n + n + 1)) refl)
   where
     whole : (m : ℕ) → length fs ≡ 7 + n + m → openingForms n m ≡ formsFrom n 0 (length fs)
     whole m e = forms-opening n m ∙ ap (formsFrom n 0) (sym e)
@@ -129,14 +133,11 @@ opening-counted n fs h = rw (le-leb n 16 h, values-length n 0 fs) (go (eqb (leng
     same : (m : ℕ) → length fs ≡ 7 + n + m → cond (allProper (openingForms n m) fs) (openingFrom n (valuesOf (openingForms n m) fs)) none ≡ cond (properAll n 0 fs) (openingFrom n (valuesAll n 0 fs)) none
     same m e = rw (whole m e, proper-forms n 0 fs, values-forms n 0 fs)
 
-    none-of : (b : Bool) → _≡_ {A = Option Point} none (cond b none none)
-    none-of true = refl
-    none-of false = refl
-
-    go : (a : Bool) → eqb (length fs) (7 + n) ≡ a → (b : Bool) → eqb (length fs) (7 + n + n) ≡ b →
-        cond (allProper (openingForms n (cond a 0 n)) fs) (openingFrom n (valuesOf (openingForms n (cond a 0 n)) fs)) none
-        ≡ cond (properAll n 0 fs) (cond (a || b) (openingFrom n (valuesAll n 0 fs)) none) none
-    go true u b v = same 0 (eqb-true _ _ u ∙ omega arith)
-    go false u true v = same n (eqb-true _ _ v)
-    go false u false v =
-        rw (proper-length (openingForms n n) fs (λ e. eqb-false (length fs) (7 + n + n) v (sym e ∙ ap length (forms-opening n n) ∙ forms-length n 0 (7 + n + n)))) (none-of (properAll n 0 fs))
+    go : (a : Bool) → eqb (length fs) (7 + n) ≡ a → (b : Bool) → eqb (length fs) (7 + n + n) ≡ b → (c : Bool) → eqb (length fs) (7 + n + n + 1) ≡ c →
+        cond (allProper (openingForms n (cond a 0 (cond b n (n + 1)))) fs) (openingFrom n (valuesOf (openingForms n (cond a 0 (cond b n (n + 1)))) fs)) none
+        ≡ cond (properAll n 0 fs) (cond (a || b || c) (openingFrom n (valuesAll n 0 fs)) none) none
+    go true u b v c x = same 0 (eqb-true _ _ u ∙ omega arith)
+    go false u true v c x = same n (eqb-true _ _ v)
+    go false u false v true x = same (n + 1) (eqb-true _ _ x ∙ omega arith)
+    go false u false v false x =
+        rw (proper-length (openingForms n (n + 1)) fs (λ e. eqb-false (length fs) (7 + n + n + 1) x (sym e ∙ ap length (forms-opening n (n + 1)) ∙ forms-length n 0 (7 + n + (n + 1)) ∙ omega arith))) (none-of (properAll n 0 fs))

@@ -18,3 +18,4 @@ pub mod Given
 pub mod First
 pub mod Replaying
 pub mod Restored
+pub mod Recorded

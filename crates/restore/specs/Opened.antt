@@ -1,6 +1,6 @@
 -- The numbers of an opening line given to the opening.
 use Prim.Native.Nat.{ℕ, zero, suc, _+_, _*_, _-_, _^_, _≤_, _<_}
-use mathlib.Core.Bool.{Bool, true, false, _&&_}
+use mathlib.Core.Bool.{Bool, true, false, _&&_, _||_}
 use mathlib.Core.List.{List, [], _∷_, _++_}
 use mathlib.Core.Path.{_≡_, refl, sym, ap, _∙_}
 use native.Mathlib.Omega.{arith}
@@ -8,7 +8,7 @@ use native.Mathlib.Numerals.{add-one}
 use native.Mathlib.Nat.{pow-suc, mul-le-mul-right}
 use lib.Dec.{eqb, ltb}
 use lib.ListN.{length, getD, take, drop, set, replicate, length-set, length-drop}
-use lib.Seq.{take-add, drop-at, take-suc, take-suc-set, length-take-le, getD-take, getD-drop}
+use lib.Seq.{take-add, take-take, drop-at, take-suc, take-suc-set, length-take-le, getD-take, getD-drop}
 use mir.Val.{Fits}
 use mir.Syntax.{w32}
 use borrow.Author.Tests.{eq-eqb, ne-eqb, eqb-true, ltb-true}
@@ -18,7 +18,7 @@ use Rattle.opening.specs.Given.{item, weightsGiven}
 use Rattle.opening.specs.GivenLaws.{are-given}
 use Rattle.records.specs.Words.{word}
 use Rattle.restore.specs.Truth.{no-truth}
-use Rattle.restore.specs.Reading.{proper, weightsFrom}
+use Rattle.restore.specs.Reading.{proper, weightsFrom, boxedFrom}
 use Rattle.restore.specs.Forms.{formAt, properAll, valuesAll, form-coin, countRight}
 
 -- a word of eight hexadecimal digits has 32 bits
@@ -120,9 +120,18 @@ pub record WeightsRead (n : ℕ) (xs : List ℕ) (r : Bool) (to : List ℕ) : Ty
 pub record WeightsAsked (n count : ℕ) (xs to : List ℕ) : Type 0 where
   pub few : n ≤ 16
   pub long : 7 + n + n ≤ length xs
+  pub within : count ≤ length xs
   pub number : countRight n count ≡ true
   pub size : length to ≡ 16
   pub ones : to ≡ replicate 16 1
+
+-- n numbers from a base on, among so many
+pub part-front : (base n count : ℕ) (xs : List ℕ) → base + n ≤ count → base ≤ length xs → take n (drop base (take count xs)) ≡ take n (drop base xs)
+part-front base n count xs h l =
+    let c : count ≡ base + (count - base) = omega arith in
+    let t : take count xs ≡ take base xs ++ take (count - base) (drop base xs) = ap (λ (m : ℕ). take m xs) c ∙ take-add base (count - base) xs in
+    let d : drop base (take count xs) ≡ take (count - base) (drop base xs) = ap (drop base) t ∙ drop-at (take base xs) (take (count - base) (drop base xs)) base (length-take-le base xs l) in
+    ap (take n) d ∙ take-take n (count - base) (drop base xs) (omega arith)
 
 ones-front : (n m : ℕ) → n ≤ m → take {A = ℕ} n (replicate m 1) ≡ replicate n 1
 ones-front zero m h = refl
@@ -137,17 +146,19 @@ module _ (n count : ℕ) (xs was : List ℕ) (asked : WeightsAsked n count xs wa
       record { size = asked .size; front = λ z. rw (asked .ones, eq-eqb (length (take count xs)) (7 + n) s) (ones-front n 16 (asked .few)); wrong = λ z. no-truth z }
 
   module _ (r : Bool) (to : List ℕ) (e : count ≡ 7 + n → ⊥) (h : Weighed xs (7 + n) n (length was) r to) where
-    both : count ≡ 7 + n + n
+    both : 7 + n + n ≤ count
     unfolding countRight
-    both = eqb-true count (7 + n + n) (rw (ne-eqb count (7 + n) e) at (asked .number))
+    both = go (eqb count (7 + n + n)) refl (rw (ne-eqb count (7 + n) e) at (asked .number))
+      where
+        go : (b : Bool) → eqb count (7 + n + n) ≡ b → b || eqb count (7 + n + n + 1) ≡ true → 7 + n + n ≤ count
+        go true u v = omega (arith, eqb-true count (7 + n + n) u)
+        go false u v = omega (arith, eqb-true count (7 + n + n + 1) v)
 
     given : weightsFrom n (take count xs) ≡ take n (drop (7 + n) xs)
     unfolding weightsFrom
     given =
-        let s : length (take count xs) ≡ count = length-take-le count xs (omega (arith, both, asked .long)) in
-        let t : take count xs ≡ take (7 + n) xs ++ take n (drop (7 + n) xs) = ap (λ (m : ℕ). take m xs) both ∙ take-add (7 + n) n xs in
-        rw (ne-eqb (length (take count xs)) (7 + n) (λ z. e (sym s ∙ z)))
-        (ap (drop (7 + n)) t ∙ drop-at (take (7 + n) xs) (take n (drop (7 + n) xs)) (7 + n) (length-take-le (7 + n) xs (omega (arith, asked .long))))
+        let s : length (take count xs) ≡ count = length-take-le count xs (asked .within) in
+        rw (ne-eqb (length (take count xs)) (7 + n) (λ z. e (sym s ∙ z))) (part-front (7 + n) n count xs (omega (arith, both)) (omega (arith, asked .long)))
 
     pub weights-present : WeightsRead n (take count xs) r to
     unfolding item word
@@ -163,3 +174,20 @@ module _ (n count : ℕ) (xs was : List ℕ) (asked : WeightsAsked n count xs wa
             absurd (omega (arith, v .heavy))
 
 pub ruleset weights-cases = (weights-absent, weights-present)
+
+getD-past : (xs : List ℕ) (k : ℕ) → length xs ≤ k → getD xs k 0 ≡ 0
+getD-past [] k h = refl
+getD-past (x ∷ xs) zero h = absurd (omega arith)
+getD-past (x ∷ xs) (suc k) h = getD-past xs k (omega arith)
+
+-- whether coins are boxed, among so many numbers
+module _ (n count : ℕ) (xs : List ℕ) where
+  pub boxed-told : 7 + n + n < count → getD xs (7 + n + n) 0 ≡ boxedFrom n (take count xs)
+  unfolding boxedFrom
+  boxed-told h = sym (getD-take count xs (7 + n + n) 0 h)
+
+  pub boxed-untold : count ≤ length xs → count ≤ 7 + n + n → 0 ≡ boxedFrom n (take count xs)
+  unfolding boxedFrom
+  boxed-untold l h = sym (getD-past (take count xs) (7 + n + n) (omega (arith, length-take-le count xs l)))
+
+pub ruleset boxed-cases = (boxed-told, boxed-untold)

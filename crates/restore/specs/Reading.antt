@@ -3,7 +3,7 @@ use Prim.Native.Nat.{ℕ, _+_, _*_}
 use mathlib.Core.Bool.{Bool, true, false, cond, _&&_, not}
 use mathlib.Core.List.{List, [], _∷_}
 use lib.Dec.{eqb, ltb}
-use lib.ListN.{length, replicate, drop, getD}
+use lib.ListN.{length, replicate, take, drop, getD}
 use Rattle.text.specs.Numbers.{DECIMAL, digitOf, right}
 use Rattle.journal.specs.Lines.{openingForms}
 
@@ -28,13 +28,22 @@ allProper (w ∷ ws) (f ∷ fs) = proper w f && allProper ws fs
 unfoldable pub fieldAt : List (List ℕ) → ℕ → List ℕ
 fieldAt fs k = getD fs k []
 
--- the forms of an opening line of so many fields after its letter: n coin words, then n weights, or none in a line from before there were weights
+-- the decimals that follow the n coin words of an opening line of so many fields after its letter: n weights, and whether coins are boxed
+-- (request N12); in an older line the weights alone, or none (request N11)
+unfoldable pub figureCount : (n count : ℕ) → ℕ
+figureCount n count = cond (eqb count (7 + n)) 0 (cond (eqb count (7 + n + n)) n (n + 1))
+
+-- the forms of such a line
 unfoldable pub formsFor : (n count : ℕ) → List ℕ
-formsFor n count = openingForms n (cond (eqb count (7 + n)) 0 n)
+formsFor n count = openingForms n (figureCount n count)
 
 -- the weights among the numbers of an opening line: a line without them reads as all 1
 unfoldable pub weightsFrom : ℕ → List ℕ → List ℕ
-weightsFrom n xs = cond (eqb (length xs) (7 + n)) (replicate n 1) (drop (7 + n) xs)
+weightsFrom n xs = cond (eqb (length xs) (7 + n)) (replicate n 1) (take n (drop (7 + n) xs))
+
+-- whether coins are boxed, the last number: "older ones without it are printed"
+unfoldable pub boxedFrom : ℕ → List ℕ → ℕ
+boxedFrom n xs = getD xs (7 + n + n) 0
 
 -- a field of bytes, each two lower-case hexadecimal digits
 unfoldable pub hexRight : List ℕ → Bool

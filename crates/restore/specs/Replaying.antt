@@ -15,7 +15,7 @@ use Rattle.opening.specs.Opening.{openAnswer}
 use Rattle.text.specs.Fields.{fields, letter}
 use Rattle.text.specs.Numbers.{DECIMAL, valueOf, valuesOf}
 use Rattle.journal.specs.Lines.{LETTER-O, VERSION}
-use Rattle.restore.specs.Reading.{allProper, fieldAt, formsFor, weightsFrom}
+use Rattle.restore.specs.Reading.{allProper, fieldAt, formsFor, weightsFrom, boxedFrom}
 use Rattle.restore.specs.Complete.{linesOf, joined}
 use Rattle.restore.specs.Restoring.{Point, Replay, wrong, right, openedFrom, openingFrom, openingRead, firstOf, firstLine, nextLine, appliedOr, further, replayFrom, replay, lengthAgain, bytesAgain, replayAnswer, replayWords, replayBytes}
 use Rattle.restore.specs.Places.{lineEnd}
@@ -221,10 +221,10 @@ unturned-if : (b : Bool) (p : Option Point) → Unturned p → Unturned (cond b 
 unturned-if true p h = h
 unturned-if false p h = nowhere
 
-unturned-opened : (n : ℕ) (xs coins weights : List ℕ) → Unturned (openedFrom n xs coins weights)
+unturned-opened : (n : ℕ) (xs coins weights : List ℕ) (boxed : ℕ) → Unturned (openedFrom n xs coins weights boxed)
 unfolding openedFrom
-unturned-opened n xs coins weights =
-    unturned-if (eqb (openAnswer 2048 n (getD xs 2 0) (getD xs 3 0) (weightsWord n weights) (getD xs 4 0) (length coins)) 0) _ (unmoved _)
+unturned-opened n xs coins weights boxed =
+    unturned-if (eqb (openAnswer 2048 n (getD xs 2 0) (getD xs 3 0) (weightsWord n weights) (getD xs 4 0) coins boxed) 0) _ (unmoved _)
 
 unturned-first : (fs : List (List ℕ)) → Unturned (firstOf fs)
 unfolding firstOf openingRead openingFrom
@@ -235,7 +235,7 @@ unturned-first (f ∷ fs) =
     unturned-if (eqb (letter f) LETTER-O) _
     (unturned-if (leb n 16 && allProper (formsFor n (length fs)) fs) _
     (unturned-if (eqb (getD xs 0 0) VERSION && ltb (getD xs 5 0) (2 ^ 32)) _
-    (unturned-opened n xs (take n (drop 7 xs)) (weightsFrom n xs))))
+    (unturned-opened n xs (take n (drop 7 xs)) (weightsFrom n xs) (boxedFrom n xs))))
 
 -- the cases of the first line
 module _ (journal w : List ℕ) (e : ℕ) (q : e ≡ lineEnd journal 0) where

@@ -10,13 +10,14 @@ use Rattle.records.specs.Layout.{stateWords}
 use Rattle.opening.specs.Given.{weightsWord}
 use Rattle.opening.specs.Opening.{openAnswer, openWords}
 use Rattle.delivery.specs.Delivery.{deliverAnswer, delivered}
+use Rattle.recording.specs.Recording.{recordAnswer, recordedWords}
 use Rattle.turn.specs.Turn.{sentLength, turnOutcome, turnWords, turnBytes}
 use Rattle.text.specs.Fields.{fields, letter}
 use Rattle.text.specs.Numbers.{DECIMAL, valueOf, valuesOf}
-use Rattle.journal.specs.Lines.{LETTER-O, LETTER-D, LETTER-T, VERSION}
+use Rattle.journal.specs.Lines.{LETTER-O, LETTER-D, LETTER-T, LETTER-K, VERSION, recordingForms}
 use Rattle.journal.specs.Journal.{acts}
 use Rattle.restore.specs.Complete.{linesOf, joined}
-use Rattle.restore.specs.Reading.{proper, allProper, fieldAt, formsFor, weightsFrom, hexRight, bytesOf}
+use Rattle.restore.specs.Reading.{proper, allProper, fieldAt, formsFor, weightsFrom, boxedFrom, hexRight, bytesOf}
 use Rattle.restore.specs.declared.Restored.{Restored}
 use Rattle.restore.specs.declared.Restored.the-variants as answer
 
@@ -29,18 +30,18 @@ pub record Point : Type 0 where
   pub words : List ℕ
   pub turned : Option (List ℕ)
 
--- An `O` line of the numbers xs: version, n, ta, ts, own number, session, own input, coin words, weights. Its opening is accepted, or the line
--- cannot be applied.
-unfoldable pub openedFrom : (n : ℕ) → List ℕ → (coins weights : List ℕ) → Option Point
-openedFrom n xs coins weights =
-    cond (eqb (openAnswer stateWords n (getD xs 2 0) (getD xs 3 0) (weightsWord n weights) (getD xs 4 0) (length coins)) 0)
-    (some (record { words = openWords n (getD xs 2 0) (getD xs 3 0) (weightsWord n weights) (getD xs 4 0) (getD xs 5 0) (getD xs 6 0) coins; turned = none }))
+-- An `O` line of the numbers xs: version, n, ta, ts, own number, session, own input, coin words, weights, whether coins are
+-- boxed. Its opening is accepted, or the line cannot be applied.
+unfoldable pub openedFrom : (n : ℕ) → List ℕ → (coins weights : List ℕ) (boxed : ℕ) → Option Point
+openedFrom n xs coins weights boxed =
+    cond (eqb (openAnswer stateWords n (getD xs 2 0) (getD xs 3 0) (weightsWord n weights) (getD xs 4 0) coins boxed) 0)
+    (some (record { words = openWords n (getD xs 2 0) (getD xs 3 0) (weightsWord n weights) (getD xs 4 0) (getD xs 5 0) (getD xs 6 0) coins boxed; turned = none }))
     none
 
 unfoldable pub openingFrom : (n : ℕ) → List ℕ → Option Point
 openingFrom n xs =
     cond (eqb (getD xs 0 0) VERSION && ltb (getD xs 5 0) (2 ^ 32))
-    (openedFrom n xs (take n (drop 7 xs)) (weightsFrom n xs))
+    (openedFrom n xs (take n (drop 7 xs)) (weightsFrom n xs) (boxedFrom n xs))
     none
 
 -- n stands in the second field; above 16 its opening is refused, whatever follows
@@ -73,9 +74,23 @@ unfoldable pub turnedFrom : List ℕ → List (List ℕ) → Option Point
 turnedFrom w [] = cond (acts (turnOutcome w MESSAGE-BYTES)) (some (record { words = turnWords w MESSAGE-BYTES; turned = some w })) none
 turnedFrom w (x ∷ fs) = none
 
+-- a `K` line of the numbers xs: vote, round, bit (request N12). Its recording is accepted, or the line cannot be applied.
+unfoldable pub recordedBy : List ℕ → List ℕ → Option Point
+recordedBy w xs =
+    cond (eqb (recordAnswer w (getD xs 0 0) (getD xs 1 0) (getD xs 2 0)) 0)
+    (some (record { words = recordedWords w (getD xs 0 0) (getD xs 1 0) (getD xs 2 0); turned = none }))
+    none
+
+unfoldable pub recordedFrom : List ℕ → List (List ℕ) → Option Point
+recordedFrom w fs = cond (allProper recordingForms fs) (recordedBy w (valuesOf recordingForms fs)) none
+
 unfoldable pub nextOf : List ℕ → List (List ℕ) → Option Point
 nextOf w [] = none
-nextOf w (f ∷ fs) = cond (eqb (letter f) LETTER-D) (deliveredFrom w fs) (cond (eqb (letter f) LETTER-T) (turnedFrom w fs) none)
+nextOf w (f ∷ fs) =
+    cond (eqb (letter f) LETTER-D) (deliveredFrom w fs)
+    (cond (eqb (letter f) LETTER-K) (recordedFrom w fs)
+    (cond (eqb (letter f) LETTER-T) (turnedFrom w fs)
+    none))
 
 -- a further line, at the words w; an `O` is none
 unfoldable pub nextLine : List ℕ → List ℕ → Option Point

@@ -1,4 +1,4 @@
--- A further line as the code takes it: a turn, or a delivery.
+-- A further line as the code takes it: a turn, a delivery, or a recording.
 use Prim.Native.Nat.{ℕ, _+_, _-_, _≤_, _<_}
 use mathlib.Core.Bool.{Bool, true, false, cond, _&&_}
 use mathlib.Core.List.{List, [], _∷_}
@@ -6,7 +6,7 @@ use mathlib.Core.Option.{Option, none, some}
 use mathlib.Core.Path.{_≡_, refl, sym, ap, _∙_}
 use native.Mathlib.Omega.{arith}
 use lib.Dec.{eqb, ltb}
-use lib.ListN.{length, take}
+use lib.ListN.{length, take, getD}
 use lib.Seq.{length-take-le}
 use borrow.Author.Tests.{eq-eqb, ne-eqb, le-ltb}
 use Rattle.acts.specs.declared.Act.{Act}
@@ -23,13 +23,15 @@ use Rattle.turn.specs.declared.Admitted.the-variants as admitted
 use Rattle.turn.specs.declared.Outcome.{Outcome}
 use Rattle.turn.specs.declared.Outcome.the-variants as outcome
 use Rattle.wire.specs.declared.Message.{Message}
+use Rattle.recording.specs.Recording.{recordAnswer, recordedWords}
 use Rattle.delivery.specs.Delivery.{deliverAnswer, delivered}
 use Rattle.text.specs.Fields.{TAB, fields, letter}
-use Rattle.text.specs.Numbers.{DECIMAL, valueOf}
+use Rattle.text.specs.Numbers.{DECIMAL, valueOf, valuesOf}
+use Rattle.journal.specs.Lines.{recordingForms}
 use Rattle.journal.specs.Journal.{acts}
 use Rattle.restore.specs.Truth.{no-truth}
-use Rattle.restore.specs.Reading.{proper, hexRight, bytesOf}
-use Rattle.restore.specs.Restoring.{Point, deliveredFrom, turnedFrom, nextOf, nextLine, lengthAgain, bytesAgain}
+use Rattle.restore.specs.Reading.{proper, allProper, hexRight, bytesOf}
+use Rattle.restore.specs.Restoring.{Point, deliveredFrom, turnedFrom, recordedBy, recordedFrom, nextOf, nextLine, lengthAgain, bytesAgain}
 use Rattle.restore.specs.Places.{placeOf}
 use Rattle.restore.specs.Parts.{fieldsAt, Field, field-at}
 use Rattle.restore.specs.Applying.{applies, wordsOr, Tried, fields-past}
@@ -79,9 +81,9 @@ module _ (o : Outcome) where
 
 pub ruleset outcome-cases = (applied-refused, applied-idle, applied-sent, applied-out, applied-force)
 
--- whether a delivery was taken, as a line's answer
-unfoldable pub deliveryApplied : Bool → Applied
-deliveryApplied b = cond b (Right 0) Wrong
+-- whether a delivery or a recording was taken, as a line's answer
+unfoldable pub takenApplied : Bool → Applied
+takenApplied b = cond b (Right 0) Wrong
 
 -- a turn lent enough bytes does what it does with 140
 admits-room : (w : List ℕ) (room : ℕ) → 140 ≤ room → admits w room ≡ admits w 140
@@ -147,24 +149,24 @@ turn-taken w lent after message o r h a b c d = go (acts (outcomeFor (admits w 1
           bytes = c ∙ rw (same, e) (quiet-bytes-for (admits w 140) w lent e);
         }
 
--- the answer of a delivery
-pub delivery-taken : (b : Bool) → b ≡ true → Right 0 ≡ deliveryApplied b
-unfolding deliveryApplied
-delivery-taken b e = rw e
+-- the answer of a delivery or a recording
+pub taken-right : (b : Bool) → b ≡ true → Right 0 ≡ takenApplied b
+unfolding takenApplied
+taken-right b e = rw e
 
-pub delivery-refused : (b : Bool) → b ≡ false → Wrong ≡ deliveryApplied b
-unfolding deliveryApplied
-delivery-refused b e = rw e
+pub taken-wrong : (b : Bool) → b ≡ false → Wrong ≡ takenApplied b
+unfolding takenApplied
+taken-wrong b e = rw e
 
-pub ruleset delivery-answers = (delivery-taken, delivery-refused)
+pub ruleset taken-answers = (taken-right, taken-wrong)
 
--- a delivery has no message
+-- a delivery has no message, nor has a recording
 record Quiet (lent : List ℕ) (p : Option Point) : Type 0 where
-  answer : appliedAs p ≡ deliveryApplied (applies p)
+  answer : appliedAs p ≡ takenApplied (applies p)
   bytes : bytesOr lent p ≡ lent
 
 quiet-point : (lent v : List ℕ) (b : Bool) → Quiet lent (cond b (some (record { words = v; turned = none })) none)
-unfolding appliedAs deliveryApplied applies bytesOr lengthAgain bytesAgain
+unfolding appliedAs takenApplied applies bytesOr lengthAgain bytesAgain
 quiet-point lent v true = record { answer = refl; bytes = refl }
 quiet-point lent v false = record { answer = refl; bytes = refl }
 
@@ -175,6 +177,16 @@ quiet-delivery w lent (l ∷ []) = quiet-point lent w false
 quiet-delivery w lent (l ∷ h ∷ []) =
     quiet-point lent (delivered w (valueOf DECIMAL l) (bytesOf h)) (proper DECIMAL l && (hexRight h && eqb (deliverAnswer w (valueOf DECIMAL l) (bytesOf h)) 0))
 quiet-delivery w lent (l ∷ h ∷ x ∷ fs) = quiet-point lent w false
+
+quiet-recording : (w lent : List ℕ) (fs : List (List ℕ)) → Quiet lent (recordedFrom w fs)
+unfolding recordedFrom recordedBy
+quiet-recording w lent fs = go (allProper recordingForms fs)
+  where
+    go : (b : Bool) → Quiet lent (cond b (recordedBy w (valuesOf recordingForms fs)) none)
+    go true =
+        let xs = valuesOf recordingForms fs in
+        quiet-point lent (recordedWords w (getD xs 0 0) (getD xs 1 0) (getD xs 2 0)) (eqb (recordAnswer w (getD xs 0 0) (getD xs 1 0) (getD xs 2 0)) 0)
+    go false = quiet-point lent w false
 
 pub first-field : (b : List ℕ) (e : ℕ) → Field b 0 e → fields b ≡ take e b ∷ fieldsAt b (e + 1)
 unfolding fieldsAt
@@ -189,26 +201,37 @@ module _ (w b lent : List ℕ) (e c : ℕ) (h : Field b 0 e) (q : c ≡ letter (
   unfolding nextLine nextOf deliveredFrom appliedAs wordsOr bytesOr
   line-bare d s = rw (first-field b e h, ← q, eq-eqb c 68 d, s, fields-past) (record { answer = refl; words = refl; bytes = refl })
 
-  pub line-delivery : (t : Bool) (r : Applied) (after : List ℕ) → c ≡ 68 → Tried (deliveredFrom w (fieldsAt b (e + 1))) w t after → r ≡ deliveryApplied t → Took (nextLine w b) w lent r after lent
+  pub line-delivery : (t : Bool) (r : Applied) (after : List ℕ) → c ≡ 68 → Tried (deliveredFrom w (fieldsAt b (e + 1))) w t after → r ≡ takenApplied t → Took (nextLine w b) w lent r after lent
   unfolding nextLine nextOf
   line-delivery t r after d y s =
       let z : Quiet lent (deliveredFrom w (fieldsAt b (e + 1))) = quiet-delivery w lent (fieldsAt b (e + 1)) in
-      rw (first-field b e h, ← q, eq-eqb c 68 d) (record { answer = s ∙ ap deliveryApplied (y .answer) ∙ sym (z .answer); words = y .words; bytes = sym (z .bytes) })
+      rw (first-field b e h, ← q, eq-eqb c 68 d) (record { answer = s ∙ ap takenApplied (y .answer) ∙ sym (z .answer); words = y .words; bytes = sym (z .bytes) })
 
   module _ (n : c ≡ 68 → ⊥) where
-    pub line-unknown : (c ≡ 84 → ⊥) → Took (nextLine w b) w lent Wrong w lent
-    unfolding nextLine nextOf appliedAs wordsOr bytesOr
-    line-unknown d = rw (first-field b e h, ← q, ne-eqb c 68 n, ne-eqb c 84 d) (record { answer = refl; words = refl; bytes = refl })
+    pub line-recording-bare : c ≡ 75 → e ≡ length b → Took (nextLine w b) w lent Wrong w lent
+    unfolding nextLine nextOf recordedFrom allProper appliedAs wordsOr bytesOr
+    line-recording-bare d s = rw (first-field b e h, ← q, ne-eqb c 68 n, eq-eqb c 75 d, s, fields-past) (record { answer = refl; words = refl; bytes = refl })
 
-    module _ (d : c ≡ 84) where
-      pub line-longer : e < length b → Took (nextLine w b) w lent Wrong w lent
-      unfolding nextLine nextOf turnedFrom appliedAs wordsOr bytesOr
-      line-longer s = rw (first-field b e h, ← q, ne-eqb c 68 n, eq-eqb c 84 d, field-at b (e + 1) (placeOf TAB b (e + 1)) (omega arith) refl .field) (record { answer = refl; words = refl; bytes = refl })
+    pub line-recording : (t : Bool) (r : Applied) (after : List ℕ) → c ≡ 75 → Tried (recordedFrom w (fieldsAt b (e + 1))) w t after → r ≡ takenApplied t → Took (nextLine w b) w lent r after lent
+    unfolding nextLine nextOf
+    line-recording t r after d y s =
+        let z : Quiet lent (recordedFrom w (fieldsAt b (e + 1))) = quiet-recording w lent (fieldsAt b (e + 1)) in
+        rw (first-field b e h, ← q, ne-eqb c 68 n, eq-eqb c 75 d) (record { answer = s ∙ ap takenApplied (y .answer) ∙ sym (z .answer); words = y .words; bytes = sym (z .bytes) })
 
-      pub line-turn : (r : Applied) (after message : List ℕ) → length b ≤ e → Took (turnedFrom w []) w lent r after message → Took (nextLine w b) w lent r after message
-      unfolding nextLine nextOf
-      line-turn r after message s y =
-          let end : e ≡ length b = omega (arith, h .inside) in
-          rw (first-field b e h, ← q, ne-eqb c 68 n, eq-eqb c 84 d, ap (λ (m : ℕ). fieldsAt b (m + 1)) end ∙ fields-past b) y
+    module _ (k : c ≡ 75 → ⊥) where
+      pub line-unknown : (c ≡ 84 → ⊥) → Took (nextLine w b) w lent Wrong w lent
+      unfolding nextLine nextOf appliedAs wordsOr bytesOr
+      line-unknown d = rw (first-field b e h, ← q, ne-eqb c 68 n, ne-eqb c 75 k, ne-eqb c 84 d) (record { answer = refl; words = refl; bytes = refl })
 
-pub ruleset line-kinds = (line-front, line-bare, line-delivery, line-unknown, line-longer, line-turn)
+      module _ (d : c ≡ 84) where
+        pub line-longer : e < length b → Took (nextLine w b) w lent Wrong w lent
+        unfolding nextLine nextOf turnedFrom appliedAs wordsOr bytesOr
+        line-longer s = rw (first-field b e h, ← q, ne-eqb c 68 n, ne-eqb c 75 k, eq-eqb c 84 d, field-at b (e + 1) (placeOf TAB b (e + 1)) (omega arith) refl .field) (record { answer = refl; words = refl; bytes = refl })
+
+        pub line-turn : (r : Applied) (after message : List ℕ) → length b ≤ e → Took (turnedFrom w []) w lent r after message → Took (nextLine w b) w lent r after message
+        unfolding nextLine nextOf
+        line-turn r after message s y =
+            let end : e ≡ length b = omega (arith, h .inside) in
+            rw (first-field b e h, ← q, ne-eqb c 68 n, ne-eqb c 75 k, eq-eqb c 84 d, ap (λ (m : ℕ). fieldsAt b (m + 1)) end ∙ fields-past b) y
+
+pub ruleset line-kinds = (line-front, line-bare, line-delivery, line-recording-bare, line-recording, line-unknown, line-longer, line-turn)

@@ -1,5 +1,5 @@
--- What a line says is read back: an accepted opening, an accepted delivery, a turn that acts.
-use Prim.Native.Nat.{ℕ, suc, _+_, _-_, _*_, _/_, _%_, _^_, _≤_, _<_}
+-- What a line says is read back: an accepted opening, delivery or recording, a turn that acts.
+use Prim.Native.Nat.{ℕ, zero, suc, _+_, _-_, _*_, _/_, _%_, _^_, _≤_, _<_}
 use mathlib.Core.Bool.{Bool, true, false, cond}
 use mathlib.Core.List.{List, [], _∷_, _++_}
 use mathlib.Core.Logic.{inl, inr, _≢_}
@@ -7,8 +7,8 @@ use mathlib.Core.Option.{none, some}
 use mathlib.Core.Path.{_≡_, refl, sym, ap, _∙_}
 use native.Mathlib.Omega.{arith}
 use native.Mathlib.Nat.{mod-lt}
-use lib.ListN.{length, replicate, take, drop, length-append}
-use lib.Seq.{take-at, drop-at, drop-drop}
+use lib.ListN.{length, replicate, take, drop, getD, length-append}
+use lib.Seq.{take-at, drop-at, drop-drop, getD-drop}
 use lib.Dec.{eqb, leb, ltb}
 use borrow.Author.Tests.{ne-eqb, eqb-true, lt-ltb, le-leb, leb-true, ltb-true}
 use Rattle.quorum.specs.Bools.{and-left, and-right}
@@ -17,23 +17,25 @@ use Rattle.settings.specs.Settings.{namedTa, largestTa, settingsNamed}
 use Rattle.settings.specs.Laws.{Ruled, valid-rules, whole-few}
 use Rattle.records.specs.Layout.{stateWords}
 use Rattle.records.specs.Words.{word}
-use Rattle.session.specs.Session.{numbered}
+use Rattle.session.specs.Session.{numbered, settingsOf}
 use Rattle.opening.specs.Given.{item, weightsWord}
-use Rattle.opening.specs.GivenLaws.{WeightsGiven, are-given, accepted-given}
+use Rattle.opening.specs.GivenLaws.{WeightsGiven, are-given, accepted-given, CoinsGiven, coins-given}
 use Rattle.opening.specs.Opening.{openAnswer, openWords}
 use Rattle.opening.specs.Cases.{Accepted, accepted}
 use Rattle.delivery.specs.Answers.{answer-accepted}
 use Rattle.delivery.specs.Accepting.{accepted-link}
 use Rattle.delivery.specs.Delivery.{deliverAnswer, delivered, verdict}
+use Rattle.recording.specs.Recording.{recordAnswer, recordedWords}
+use Rattle.recording.specs.Laws.{accepted as recordable-told}
 use Rattle.turn.specs.Turn.{turnOutcome, turnWords}
 use Rattle.io.specs.Digits.{digits, glyph}
 use Rattle.text.specs.Fields.{TAB, LF, inFront, fields, letter}
 use Rattle.text.specs.Numbers.{DECIMAL, WORD, PACK, digitOf, allDigits, valueOf, decimalIn, decimalText}
-use Rattle.journal.specs.Lines.{VERSION, numberText, numberTexts, tabbed, openingForms, openingText, hexBytes, deliveryText, turnText}
+use Rattle.journal.specs.Lines.{VERSION, numberText, numberTexts, tabbed, openingForms, figures, openingText, hexBytes, deliveryText, turnText, recordingForms, recordingText}
 use Rattle.journal.specs.Journal.{acts}
 use Rattle.journal.specs.Laws.{acts-outcome, acts-words}
-use Rattle.restore.specs.Reading.{fieldAt, formsFor, weightsFrom, hexRight, bytesOf}
-use Rattle.restore.specs.Restoring.{openedFrom, openingFrom, openingRead, firstOf, firstLine, deliveredFrom, turnedFrom, nextOf, nextLine}
+use Rattle.restore.specs.Reading.{fieldAt, figureCount, formsFor, weightsFrom, boxedFrom, hexRight, bytesOf}
+use Rattle.restore.specs.Restoring.{openedFrom, openingFrom, openingRead, firstOf, firstLine, deliveredFrom, turnedFrom, recordedBy, recordedFrom, nextOf, nextLine}
 use Rattle.restore.specs.Written.{Without, AllWithout, without-append}
 use Rattle.restore.specs.WrittenNumbers.{digit-glyph, decimal-digits, hex-digits, decimal-read, Fits, AllFit, all-fit-append, numbers-proper, numbers-values, numbers-length}
 
@@ -126,20 +128,20 @@ hex-bytes (x ∷ b) h =
 
 -- ---- `O`
 
-module _ (n ta ts own session input : ℕ) (coins weights : List ℕ) where
+module _ (n ta ts own session input : ℕ) (coins weights : List ℕ) (boxed : ℕ) where
   abbrev numbers : List ℕ
-  numbers = VERSION ∷ n ∷ ta ∷ ts ∷ own ∷ session ∷ input ∷ (coins ++ weights)
+  numbers = VERSION ∷ n ∷ ta ∷ ts ∷ own ∷ session ∷ input ∷ (coins ++ figures weights boxed)
 
   abbrev forms : List ℕ
-  forms = openingForms (length coins) (length weights)
+  forms = openingForms (length coins) (length (figures weights boxed))
 
-  pub opening-without : Without LF (openingText n ta ts own session input coins weights)
+  pub opening-without : Without LF (openingText n ta ts own session input coins weights boxed)
   unfolding openingText digitOf
   opening-without =
       tabbed-without LF (λ e. absurd (let z : _≡_ {A = ℕ} 9 10 = e in omega arith)) (79 ∷ []) (numberTexts forms numbers) (λ e. absurd (omega arith), tt)
       (numbers-without LF (omega arith) forms numbers)
 
-  opening-fields : fields (openingText n ta ts own session input coins weights) ≡ (79 ∷ []) ∷ numberTexts forms numbers
+  opening-fields : fields (openingText n ta ts own session input coins weights boxed) ≡ (79 ∷ []) ∷ numberTexts forms numbers
   unfolding openingText digitOf
   opening-fields =
       fields-tabbed (79 ∷ []) (numberTexts forms numbers) (λ e. absurd (omega arith), tt)
@@ -161,12 +163,23 @@ unfolding word
 weights-fit [] h = tt
 weights-fit (w ∷ weights) h = ((omega (arith, h 0 (omega arith)), inl refl), weights-fit weights (λ i l. h (suc i) (omega arith)))
 
-module _ (n ta ts own session input : ℕ) (coins weights : List ℕ) (taken : openAnswer stateWords n ta ts (weightsWord n weights) own (length coins) ≡ 0) where
-  told : Accepted stateWords n ta ts (weightsWord n weights) own (length coins)
-  told = accepted stateWords n ta ts (weightsWord n weights) own (length coins) taken
+-- the weights, and whether coins are boxed
+figures-small : (weights : List ℕ) (boxed : ℕ) → boxed ≤ 1 → ((i : ℕ) → i < length weights → word weights i ≤ 4) → (i : ℕ) → i < length (figures weights boxed) → word (figures weights boxed) i ≤ 4
+unfolding word
+figures-small [] boxed h k zero l = omega (arith, h)
+figures-small [] boxed h k (suc i) l = absurd (omega arith)
+figures-small (x ∷ weights) boxed h k zero l = k 0 (omega arith)
+figures-small (x ∷ weights) boxed h k (suc i) l = figures-small weights boxed h (λ j m. k (suc j) (omega arith)) i (omega arith)
+
+module _ (n ta ts own session input : ℕ) (coins weights : List ℕ) (boxed : ℕ) (taken : openAnswer stateWords n ta ts (weightsWord n weights) own coins boxed ≡ 0) where
+  told : Accepted stateWords n ta ts (weightsWord n weights) own coins boxed
+  told = accepted stateWords n ta ts (weightsWord n weights) own coins boxed taken
 
   given : WeightsGiven n weights
-  given = are-given n weights (accepted-given stateWords n ta ts own (length coins) weights taken)
+  given = are-given n weights (accepted-given stateWords n ta ts own coins weights boxed taken)
+
+  coined : CoinsGiven n coins boxed
+  coined = coins-given n coins boxed (told .given)
 
   weight-small : (i : ℕ) → i < length weights → word weights i ≤ 4
   unfolding item
@@ -194,47 +207,63 @@ module _ (n ta ts own session input : ℕ) (coins weights : List ℕ) (taken : o
 
   module _ (session-fits : session < 2 ^ 32) (input-fits : input < 2 ^ 64) (coins-fit : (i : ℕ) → word coins i < 2 ^ 32) where
     abbrev xs : List ℕ
-    xs = numbers n ta ts own session input coins weights
+    xs = numbers n ta ts own session input coins weights boxed
 
-    all-fit : AllFit (forms n ta ts own session input coins weights) xs
+    all-fit : AllFit (forms n ta ts own session input coins weights boxed) xs
     unfolding openingForms
     all-fit =
         all-fit-append (DECIMAL ∷ DECIMAL ∷ DECIMAL ∷ DECIMAL ∷ DECIMAL ∷ DECIMAL ∷ PACK ∷ []) (VERSION ∷ n ∷ ta ∷ ts ∷ own ∷ session ∷ input ∷ [])
-        (replicate (length coins) WORD ++ replicate (length weights) DECIMAL) (coins ++ weights) (
+        (replicate (length coins) WORD ++ replicate (length (figures weights boxed)) DECIMAL) (coins ++ figures weights boxed) (
           decimal-fits 1 (omega arith),
           (decimal-fits n (omega (arith, rules .few)), (decimal-fits ta ta-small, (decimal-fits ts ts-small, (decimal-fits own own-small, (decimal-fits session (omega (arith, session-fits)), (pack-fits input input-fits, tt)))))),
         )
-        (all-fit-append (replicate (length coins) WORD) coins (replicate (length weights) DECIMAL) weights (words-fit coins coins-fit) (weights-fit weights weight-small))
+        (all-fit-append (replicate (length coins) WORD) coins (replicate (length (figures weights boxed)) DECIMAL) (figures weights boxed) (words-fit coins coins-fit) (weights-fit (figures weights boxed) (figures-small weights boxed (coined .kind) weight-small)))
 
     abbrev fs : List (List ℕ)
-    fs = numberTexts (forms n ta ts own session input coins weights) xs
+    fs = numberTexts (forms n ta ts own session input coins weights boxed) xs
 
-    count : length xs ≡ 7 + n + n
-    count = omega (arith, length-append coins weights, told .coin-words, given .number)
+    figured : length (figures weights boxed) ≡ n + 1
+    figured = omega (arith, length-append weights (boxed ∷ []), given .number)
 
-    forms-are : formsFor n (length fs) ≡ forms n ta ts own session input coins weights
-    unfolding formsFor
+    count : length xs ≡ 7 + n + n + 1
+    count = omega (arith, length-append coins (figures weights boxed), figured, coined .size)
+
+    forms-are : formsFor n (length fs) ≡ forms n ta ts own session input coins weights boxed
+    unfolding formsFor figureCount
     forms-are =
-        rw (numbers-length (forms n ta ts own session input coins weights) xs all-fit, count, ne-eqb (7 + n + n) (7 + n) (λ e. absurd (omega (arith, rules .some))), told .coin-words, given .number)
+        rw (numbers-length (forms n ta ts own session input coins weights boxed) xs all-fit, count, ne-eqb (7 + n + n + 1) (7 + n) (λ e. absurd (omega arith)), ne-eqb (7 + n + n + 1) (7 + n + n) (λ e. absurd (omega arith)), coined .size, figured)
 
     coins-are : take n (drop 7 xs) ≡ coins
-    coins-are = take-at coins weights n (told .coin-words)
+    coins-are = take-at coins (figures weights boxed) n (coined .size)
+
+    figures-are : drop (7 + n) xs ≡ figures weights boxed
+    figures-are = sym (drop-drop n 7 xs) ∙ drop-at coins (figures weights boxed) n (coined .size)
 
     weights-are : weightsFrom n xs ≡ weights
     unfolding weightsFrom
     weights-are =
-        rw (count, ne-eqb (7 + n + n) (7 + n) (λ e. absurd (omega (arith, rules .some))))
-        (sym (drop-drop n 7 xs) ∙ drop-at coins weights n (told .coin-words))
+        rw (count, ne-eqb (7 + n + n + 1) (7 + n) (λ e. absurd (omega arith)), figures-are)
+        (take-at weights (boxed ∷ []) n (given .number))
+
+    boxed-is : boxedFrom n xs ≡ boxed
+    unfolding boxedFrom
+    boxed-is = sym (getD-drop (7 + n) xs n 0) ∙ ap (λ (ys : List ℕ). getD ys n 0) figures-are ∙ last-of weights n (given .number)
+      where
+        last-of : (ys : List ℕ) (k : ℕ) → length ys ≡ k → getD (ys ++ (boxed ∷ [])) k 0 ≡ boxed
+        last-of [] zero e = refl
+        last-of [] (suc k) e = absurd (omega (arith, e))
+        last-of (y ∷ ys) zero e = absurd (omega (arith, e))
+        last-of (y ∷ ys) (suc k) e = last-of ys k (omega (arith, e))
 
     n-read : valueOf DECIMAL (fieldAt fs 1) ≡ n
     unfolding fieldAt numberTexts openingForms numberText
     n-read = decimal-read n (omega (arith, rules .few)) .1
 
     -- an accepted opening
-    pub first-reads : firstLine (openingText n ta ts own session input coins weights) ≡ some (record { words = openWords n ta ts (weightsWord n weights) own session input coins; turned = none })
+    pub first-reads : firstLine (openingText n ta ts own session input coins weights boxed) ≡ some (record { words = openWords n ta ts (weightsWord n weights) own session input coins boxed; turned = none })
     unfolding firstLine firstOf letter openingRead openingFrom openedFrom
     first-reads =
-        rw (opening-fields n ta ts own session input coins weights, n-read, forms-are, le-leb n 16 (rules .few), numbers-proper (forms n ta ts own session input coins weights) xs all-fit, numbers-values (forms n ta ts own session input coins weights) xs all-fit, lt-ltb session (2 ^ 32) session-fits, coins-are, weights-are, taken)
+        rw (opening-fields n ta ts own session input coins weights boxed, n-read, forms-are, le-leb n 16 (rules .few), numbers-proper (forms n ta ts own session input coins weights boxed) xs all-fit, numbers-values (forms n ta ts own session input coins weights boxed) xs all-fit, lt-ltb session (2 ^ 32) session-fits, coins-are, weights-are, boxed-is, taken)
 
 -- ---- `D`
 
@@ -262,6 +291,28 @@ unfolding nextLine nextOf letter deliveredFrom
 delivery-reads w m b each e =
     let small = link-small w m b e in
     rw (delivery-fields m b, decimal-read m small .0, decimal-read m small .1, hex-right b each, hex-bytes b each, e)
+
+-- ---- `K`
+
+pub recording-without : (i r b : ℕ) → Without LF (recordingText i r b)
+unfolding recordingText digitOf
+recording-without i r b =
+    tabbed-without LF (λ e. absurd (let z : _≡_ {A = ℕ} 9 10 = e in omega arith)) (75 ∷ []) (numberTexts recordingForms (i ∷ r ∷ b ∷ [])) (λ e. absurd (omega arith), tt)
+    (numbers-without LF (omega arith) recordingForms (i ∷ r ∷ b ∷ []))
+
+recording-fields : (i r b : ℕ) → fields (recordingText i r b) ≡ (75 ∷ []) ∷ numberTexts recordingForms (i ∷ r ∷ b ∷ [])
+unfolding recordingText digitOf
+recording-fields i r b =
+    fields-tabbed (75 ∷ []) (numberTexts recordingForms (i ∷ r ∷ b ∷ [])) (λ e. absurd (omega arith), tt)
+    (numbers-without TAB (omega arith) recordingForms (i ∷ r ∷ b ∷ []))
+
+-- an accepted recording
+pub recording-reads : (w : List ℕ) (i r b : ℕ) → recordAnswer w i r b ≡ 0 → nextLine w (recordingText i r b) ≡ some (record { words = recordedWords w i r b; turned = none })
+unfolding nextLine nextOf letter recordedFrom recordedBy settingsOf
+recording-reads w i r b e =
+    let k = recordable-told w i r b e in
+    let fit : AllFit recordingForms (i ∷ r ∷ b ∷ []) = (decimal-fits i (omega (arith, k .vote-high, k .state .ruled .few)), (decimal-fits r (omega (arith, k .round-high)), (decimal-fits b (omega (arith, k .bit)), tt))) in
+    rw (recording-fields i r b, numbers-proper recordingForms (i ∷ r ∷ b ∷ []) fit, numbers-values recordingForms (i ∷ r ∷ b ∷ []) fit, e)
 
 -- ---- `T`
 

@@ -6,7 +6,7 @@ ghost use Prim.Native.Nat.{_+_, _≤_, _<_};
 ghost use lib.ListN.{length, getD, take};
 ghost use Rattle.restore.specs.Restoring.{openedFrom, openingFrom, openingRead, firstLine};
 ghost use Rattle.text.specs.Numbers.{valueOf};
-ghost use Rattle.restore.specs.Reading.{fieldAt};
+ghost use Rattle.restore.specs.Reading.{fieldAt, boxedFrom};
 ghost use Rattle.restore.specs.Parts.{fieldsAt};
 ghost use Rattle.restore.specs.Numbers.{numberOf};
 ghost use Rattle.restore.specs.Forms.{formAt, countRight, countedFrom};
@@ -62,8 +62,8 @@ fn store_field(f: &[u8], form: u8, values: &mut [u64], k: usize) -> bool
     }
 }
 
-// Reads all fields from a place on.
-fn read_all(line: &[u8], start: usize, n: usize, values: &mut [u64]) -> Fields
+// Reads all fields from a place on: those of an opening line of n concentrators, of which the first six are decimals.
+pub fn read_all(line: &[u8], start: usize, n: usize, values: &mut [u64]) -> Fields
     requires { ⌜ (start ≤ length (now line)) × (n ≤ 16) ⌝ }
     ensures { λ r. ⌜ FieldsRead n (fieldsAt (now (line .entry)) start) (length (now (values .entry))) r (now (values .exit)) ⌝ }
 {
@@ -123,10 +123,29 @@ fn read_weights(values: &[u64], n: usize, count: usize, weights: &mut [u8]) -> b
     copy_weights(values, 7 + n, n, weights)
 }
 
-// Opens a session with the coin words and weights, and the other numbers of a line.
-fn open_with(copy: &mut [u64], n: usize, values: &[u64], coins: &[u32], weights: &[u8]) -> bool
+// Whether coins are boxed, by so many numbers: the last one, and 0 in an older line without it.
+fn read_boxed(values: &[u64], n: usize, count: usize) -> u64
+    requires { ⌜ (n ≤ 16) × (7 + n + n < length (now values)) × (count ≤ length (now values)) ⌝ }
+    ensures { λ r. ⌜ r ≡ boxedFrom n (take count (now (values .entry))) ⌝ }
+{
+    let place = 7 + n + n;
+    if place < count {
+        return values[place];
+    }
+    0
+}
+
+// Opens a session with the coin words, weights and kind of coins, and the other numbers of a line.
+fn open_with(
+    copy: &mut [u64],
+    n: usize,
+    values: &[u64],
+    coins: &[u32],
+    weights: &[u8],
+    boxed: u64,
+) -> bool
     requires { ⌜ (7 ≤ length (now values)) × (getD (now values) 5 0 < 4294967296) × (length (now copy) ≡ 2048) ⌝ }
-    ensures { λ r. ⌜ Tried (openedFrom n (now (values .entry)) (now (coins .entry)) (now (weights .entry))) (now (copy .entry)) r (now (copy .exit)) ⌝ }
+    ensures { λ r. ⌜ Tried (openedFrom n (now (values .entry)) (now (coins .entry)) (now (weights .entry)) boxed) (now (copy .entry)) r (now (copy .exit)) ⌝ }
 {
     let answer = opening::open(
         copy,
@@ -138,6 +157,7 @@ fn open_with(copy: &mut [u64], n: usize, values: &[u64], coins: &[u32], weights:
         values[6],
         coins,
         weights,
+        boxed,
     );
     answer == 0
 }
@@ -159,7 +179,8 @@ fn open_values(copy: &mut [u64], n: usize, count: usize, values: &[u64]) -> bool
     }
     let mut coins = [0u32; 16];
     copy_coins(values, n, &mut coins);
-    open_with(copy, n, values, &coins[..n], &weights[..n])
+    let boxed = read_boxed(values, n, count);
+    open_with(copy, n, values, &coins[..n], &weights[..n], boxed)
 }
 
 // Whether an opening line of n concentrators has so many numbers.
@@ -167,7 +188,7 @@ fn count_right(n: usize, count: usize) -> bool
     requires { ⌜ n ≤ 16 ⌝ }
     ensures { λ r. ⌜ r ≡ countRight n count ⌝ }
 {
-    (count == 7 + n) | (count == 7 + n + n)
+    (count == 7 + n) | (count == 7 + n + n) | (count == 7 + n + n + 1)
 }
 
 // Opens a session where there are as many numbers as n concentrators have.
@@ -190,7 +211,7 @@ fn open_fields(copy: &mut [u64], line: &[u8], at: usize, n: u64) -> bool
         return false;
     }
     let few = n as usize;
-    let mut values = [0u64; 39];
+    let mut values = [0u64; 40];
     let read = read_all(line, at, few, &mut values);
     match read {
         Fields::Wrong => false,

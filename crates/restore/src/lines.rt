@@ -2,19 +2,24 @@
 use crate::fields;
 use crate::fields::Hex;
 use crate::fields::Number;
+use crate::first;
+use crate::first::Fields;
 use turn::Outcome;
 ghost use Prim.Native.Nat.{_≤_};
 ghost use mathlib.Core.List.{[], _∷_};
-ghost use lib.ListN.{length};
+ghost use lib.ListN.{length, take};
 ghost use mathlib.Core.Path.{_≡_};
-ghost use Rattle.restore.specs.Restoring.{deliveredFrom, turnedFrom, nextLine};
+ghost use Rattle.restore.specs.Restoring.{deliveredFrom, turnedFrom, recordedFrom, nextLine};
 ghost use Rattle.restore.specs.Parts.{fieldsAt};
 ghost use Rattle.restore.specs.Applying.{deliveredHex, Tried};
-ghost use Rattle.restore.specs.Turning.{Took, outcomeApplied, deliveryApplied};
+ghost use Rattle.restore.specs.Recorded.{countedRecording, RecordGiven};
+ghost use Rattle.restore.specs.Turning.{Took, outcomeApplied, takenApplied};
 
 const LETTER_D: u8 = 68;
 
 const LETTER_T: u8 = 84;
+
+const LETTER_K: u8 = 75;
 
 // What became of a line: it cannot be applied, or the length of its message, 0 for none.
 pub enum Applied {
@@ -62,9 +67,33 @@ fn deliver_line(copy: &mut [u64], line: &[u8], at: usize) -> bool
     deliver_fields(copy, &line[at..e], &line[start..g])
 }
 
-// A delivery as a line: it has no message.
-fn by_delivery(taken: bool) -> Applied
-    ensures { λ r. ⌜ r ≡ deliveryApplied taken ⌝ }
+// Records the bit that so many numbers of a line name: vote, round, bit.
+fn record_numbers(copy: &mut [u64], count: usize, values: &[u64]) -> bool
+    requires { ⌜ RecordGiven count (now values) ⌝ }
+    ensures { λ r. ⌜ Tried (countedRecording (now (copy .entry)) (take count (now (values .entry)))) (now (copy .entry)) r (now (copy .exit)) ⌝ }
+{
+    if count != 3 {
+        return false;
+    }
+    recording::record(copy, values[0], values[1], values[2]) == 0
+}
+
+// Applies a `K` line, whose fields after the letter start at a place.
+fn record_line(copy: &mut [u64], line: &[u8], at: usize) -> bool
+    requires { ⌜ at ≤ length (now line) ⌝ }
+    ensures { λ r. ⌜ Tried (recordedFrom (now (copy .entry)) (fieldsAt (now (line .entry)) at)) (now (copy .entry)) r (now (copy .exit)) ⌝ }
+{
+    let mut values = [0u64; 3];
+    let read = first::read_all(line, at, 1, &mut values);
+    match read {
+        Fields::Wrong => false,
+        Fields::Count(k) => record_numbers(copy, k, &values),
+    }
+}
+
+// A delivery or a recording as a line: it has no message.
+fn by_taken(taken: bool) -> Applied
+    ensures { λ r. ⌜ r ≡ takenApplied taken ⌝ }
 {
     if taken {
         return Applied::Right(0);
@@ -105,7 +134,13 @@ pub fn apply_line(copy: &mut [u64], line: &[u8], message: &mut [u8]) -> Applied
         if e == line.len() {
             return Applied::Wrong;
         }
-        return by_delivery(deliver_line(copy, line, e + 1));
+        return by_taken(deliver_line(copy, line, e + 1));
+    }
+    if c == LETTER_K {
+        if e == line.len() {
+            return Applied::Wrong;
+        }
+        return by_taken(record_line(copy, line, e + 1));
     }
     if c != LETTER_T {
         return Applied::Wrong;

@@ -1,5 +1,5 @@
 -- When a lent buffer holds a state: the refusal 9, NO STATE.
-use Prim.Native.Nat.{ℕ, _+_, _*_, _%_, _^_}
+use Prim.Native.Nat.{ℕ, _%_, _^_}
 use mathlib.Core.Bool.{Bool, _&&_, cond}
 use mathlib.Core.List.{List}
 use lib.ListN.{length}
@@ -7,7 +7,7 @@ use lib.Dec.{eqb, leb}
 use Rattle.settings.specs.Settings.{validSettings, settingsFrom, turnBound}
 use Rattle.settings.specs.declared.Settings.{Settings}
 use Rattle.quorum.specs.Every.{every}
-use Rattle.records.specs.Layout.{stateWords, nAt, taAt, tsAt, ownAt, sessionAt, weightsAt, turnsAt, roundAt, commitCountAt}
+use Rattle.records.specs.Layout.{stateWords, nAt, taAt, tsAt, ownAt, sessionAt, weightsAt, boxedAt, turnsAt, roundAt, commitCountAt}
 use Rattle.records.specs.Words.{word}
 use Rattle.session.specs.declared.Session.{Session}
 use Rattle.session.specs.declared.Stored.{Stored}
@@ -25,10 +25,11 @@ roundsRight s n = every (λ i. leb (word s (roundAt i)) 33) n
 unfoldable pub commitsRight : List ℕ → ℕ → Bool
 commitsRight s n = every (λ p. leb (word s (commitCountAt p)) n) n
 
--- the stored numbers beside the settings; "more than 99·n+3 turns" is none
+-- the stored numbers beside n, ta, ts and the weights: the own number, coins that are printed or boxed (request N12), the turns, "more than
+-- 99·n+3" of which is no state, rounds and COMMITs
 unfoldable pub numbersRight : Settings → List ℕ → Bool
 numbersRight g s =
-    numbered (g .n) (word s ownAt) && leb (word s turnsAt) (turnBound g) && roundsRight s (g .n) && commitsRight s (g .n)
+    numbered (g .n) (word s ownAt) && leb (word s boxedAt) 1 && leb (word s turnsAt) (turnBound g) && roundsRight s (g .n) && commitsRight s (g .n)
 
 unfoldable pub settingsOf : List ℕ → Settings
 settingsOf s = settingsFrom (word s nAt) (word s taAt) (word s tsAt) (word s weightsAt)

@@ -60,6 +60,9 @@ fn numbers_right(s: &[u64], g: Settings) -> bool
     if !numbered(g.n as u64, records::word(s, layout::OWN)) {
         return false;
     }
+    if 1 < records::word(s, layout::BOXED) {
+        return false;
+    }
     if g.turn_bound() < records::word(s, layout::TURNS) {
         return false;
     }

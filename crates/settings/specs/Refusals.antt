@@ -50,3 +50,8 @@ HELD = 11
 -- request N10: no complete opening line, or a complete line that cannot be applied; it has the line's number beside it
 abbrev pub JOURNAL : ℕ
 JOURNAL = 15
+
+-- request N12: a requester, vote or round outside the layout, a recorded bit above 1 or against one already there, or a bit recorded in a
+-- printed session
+abbrev pub COIN : ℕ
+COIN = 16

@@ -25,3 +25,5 @@ pub const CLOSED: u64 = 10;
 pub const HELD: u64 = 11;
 // No complete opening line, or a complete line of the journal that cannot be applied.
 pub const JOURNAL: u64 = 15;
+// A requester, vote or round outside the layout, a recorded bit above 1 or against the one there, or one in a printed session.
+pub const COIN: u64 = 16;

@@ -1,5 +1,5 @@
 // Openings with settings on the edge of the rules: for each a line `n ta ts open`, or `n ta ts 1`. Where weights are named,
-// the line has them too.
+// or the kind of coins and the coin words (request N12), the line has them too.
 use libc::STDOUT_FILENO;
 ghost use Prim.Native.Nat.{_≤_};
 
@@ -19,12 +19,12 @@ fn lent(n: u64) -> usize
     if n < 17 { n as usize } else { 17 }
 }
 
-// What an opening by concentrator 1 answers, lent n coin words.
+// What a printed opening by concentrator 1 answers, lent n coin words.
 fn answer(n: u64, ta: u64, ts: u64, weights: &[u8]) -> u64 {
     let mut state = [0u64; 2048];
     let coins = [0u32; 17];
     let count = lent(n);
-    opening::open(&mut state, n, ta, ts, 1, 7, 5, &coins[..count], weights)
+    opening::open(&mut state, n, ta, ts, 1, 7, 5, &coins[..count], weights, 0)
 }
 
 fn print_answer(answer: u64) {
@@ -69,6 +69,38 @@ fn weighted(n: u64, ta: u64, ts: u64, weights: &[u8]) {
     print_answer(answer(n, ta, ts, weights));
 }
 
+// What an opening by concentrator 1 with n 4, ta 1, ts 1 and weights of 1 answers.
+fn kind_answer(kind: u64, coins: &[u32]) -> u64 {
+    let mut state = [0u64; 2048];
+    let ones = [1u8; 4];
+    opening::open(&mut state, 4, 1, 1, 1, 7, 5, coins, &ones, kind)
+}
+
+fn wide_coin(x: u32) -> u64 {
+    x as u64
+}
+
+fn print_coins(coins: &[u32]) {
+    io::write_all(STDOUT_FILENO, b"coins");
+    let mut k: usize = 0;
+    while k < coins.len() {
+        io::write_all(STDOUT_FILENO, b" ");
+        io::print_decimal(STDOUT_FILENO, wide_coin(coins[k]));
+        k += 1;
+    }
+    io::write_all(STDOUT_FILENO, b": ");
+}
+
+fn kind(kind: u64, coins: &[u32]) {
+    number(4);
+    number(1);
+    number(1);
+    io::write_all(STDOUT_FILENO, b"boxed ");
+    number(kind);
+    print_coins(coins);
+    print_answer(kind_answer(kind, coins));
+}
+
 fn main() {
     edge(4, 1, 1);
     edge(7, 0, 3);
@@ -83,6 +115,8 @@ fn main() {
     heavy();
     all_four();
     wrong_weights();
+    boxed();
+    wrong_boxed();
 }
 
 // A ta of 255 is the largest that is left, and refused where 2·ts is n.
@@ -142,4 +176,24 @@ fn wrong_weights() {
     weighted(2, 0, 0, &[1]);
     weighted(2, 0, 0, &[1, 1, 1]);
     weighted(2, 0, 0, &[]);
+}
+
+// Printed coins are any words, boxed ones are 0.
+fn boxed() {
+    kind(0, &[0, 0, 0, 0]);
+    kind(0, &[1, 2, 3, 4294967295]);
+    kind(1, &[0, 0, 0, 0]);
+    kind(1, &[1, 0, 0, 0]);
+    kind(1, &[0, 0, 0, 1]);
+    kind(1, &[0, 2147483648, 0, 0]);
+}
+
+// Neither 0 nor 1, and boxed with not exactly n coin words.
+fn wrong_boxed() {
+    kind(2, &[0, 0, 0, 0]);
+    kind(256, &[0, 0, 0, 0]);
+    kind(LARGEST, &[0, 0, 0, 0]);
+    kind(1, &[0, 0, 0]);
+    kind(1, &[0, 0, 0, 0, 0]);
+    kind(1, &[]);
 }

@@ -11,16 +11,17 @@ use Rattle.records.specs.Layout.{turnsAt}
 use Rattle.records.specs.Words.{word}
 use Rattle.session.specs.Session.{isState}
 use Rattle.delivery.specs.Delivery.{delivered}
+use Rattle.recording.specs.Recording.{recordedWords}
 use Rattle.turn.specs.Turn.{turnOutcome, turnWords}
-use Rattle.journal.specs.Journal.{acts, lineWords, openNumber, openedWords, deliveredWords, turnRoom}
+use Rattle.journal.specs.Journal.{acts, lineWords, openNumber, openedWords, deliveredWords, recordWords, turnRoom}
 use Rattle.journal.specs.Laws.{line-taken, line-words, line-stays}
 use Rattle.restore.specs.Complete.{linesOf, joined}
 use Rattle.restore.specs.Restoring.{Replay, wrong, right, replay, replayAnswer, replayWords, lentAnswer, restoreAnswer, restoredWords, accepted}
 use Rattle.restore.specs.declared.Restored.the-variants as restored
 use Rattle.turn_bound.specs.TurnBound.{Arguments, answer, openedBy, settingsBy, TurnCount}
-use Rattle.turn_bound.specs.Calls.{Call, opening, delivery, turn, report, restore, openNumberBy, restoreTaken, called, afterCalls, begun, turnLines, turnsSince, lineSettings, settingsSince, CallCount}
+use Rattle.turn_bound.specs.Calls.{Call, opening, delivery, turn, report, restore, recording, openNumberBy, restoreTaken, called, afterCalls, begun, turnLines, turnsSince, lineSettings, settingsSince, CallCount}
 use Rattle.turn_bound.specs.Count.{turn-count, refused-words}
-use Rattle.turn_bound.specs.Stepped.{Stepped, opening-stepped, delivery-stepped, turn-stepped, replay-stepped}
+use Rattle.turn_bound.specs.Stepped.{Stepped, opening-stepped, delivery-stepped, turn-stepped, recording-stepped, replay-stepped}
 
 -- an opening with its line: accepted, it is the one without; else the words stay
 module _ (w : List ℕ) (o : Arguments) (line : List ℕ) where
@@ -61,6 +62,14 @@ module _ (w : List ℕ) (k : ℕ) (g : Settings) (x : Stepped w k g) where
       of true = x
       of false = delivery-stepped w k g x link b
 
+  record-lined : (i r b : ℕ) (line : List ℕ) → Stepped (called w (recording i r b line)) k g
+  unfolding called recordWords lineWords
+  record-lined i r b line = of (ltb (length line) 512)
+    where
+      of : (c : Bool) → Stepped (cond c w (recordedWords w i r b)) k g
+      of true = x
+      of false = recording-stepped w k g x i r b
+
   turn-lined : (out line : List ℕ) → Stepped (called w (turn out line)) (cond (acts (turnOutcome w (turnRoom (length out) (length line)))) (k + 1) k) g
   unfolding called turnRoom
   turn-lined out line = of (ltb (length line) 512)
@@ -88,6 +97,7 @@ module _ (s : List ℕ) where
           Stepped (called (afterCalls s cs) (restore journal out)) (cond b (turnLines (linesOf journal)) (turnsSince s cs)) (cond b (lineSettings (linesOf journal)) (settingsSince s cs))
       of true f e again = restore-stepped (afterCalls s cs) journal out f
       of false f e again = rw (restore-refused (afterCalls s cs) journal out f) (again e)
+  calls-stepped (recording i r b line ∷ cs) e = record-lined (afterCalls s cs) (turnsSince s cs) (settingsSince s cs) (calls-stepped cs e) i r b line
 
 pub call-count : CallCount
 unfolding CallCount TurnCount

@@ -1,4 +1,5 @@
--- The count of turns and its bound over the calls as they are made: each with the bytes for its line, and restores among them (request N10).
+-- The count of turns and its bound over the calls as they are made: each with the bytes for its line, restores (request N10) and recordings
+-- (request N12) among them.
 use Prim.Native.Nat.{ℕ, _+_, _≤_}
 use mathlib.Core.Bool.{Bool, true, false, cond}
 use mathlib.Core.List.{List, [], _∷_}
@@ -14,33 +15,36 @@ use Rattle.session.specs.Session.{settingsOf, isState}
 use Rattle.turn.specs.Turn.{turnOutcome, turnWords}
 use Rattle.text.specs.Fields.{fields, letter}
 use Rattle.journal.specs.Lines.{LETTER-T}
-use Rattle.journal.specs.Journal.{acts, openNumber, openedWords, deliveredWords, turnRoom}
+use Rattle.journal.specs.Journal.{acts, openNumber, openedWords, deliveredWords, recordWords, turnRoom}
 use Rattle.restore.specs.Complete.{linesOf}
 use Rattle.restore.specs.Reading.{fieldAt}
 use Rattle.restore.specs.Restoring.{Point, firstLine, restoreAnswer, restoredWords, accepted}
 use Rattle.turn_bound.specs.TurnBound.{Arguments, settingsBy, Reports}
 
--- a call with what it is lent: the bytes for its line come last; a restore is lent a journal and bytes for a message
+-- a call with what it is lent: the bytes for its line come last; a restore is lent a journal and bytes for a message; "each accepted recording, a
+-- repeat too, becomes a `K` line of the journal (vote, round, bit)"
 pub data Call : Type 0 where
   opening : Arguments → List ℕ → Call
   delivery : ℕ → List ℕ → List ℕ → Call
   turn : List ℕ → List ℕ → Call
   report : Call
   restore : List ℕ → List ℕ → Call
+  recording : ℕ → ℕ → ℕ → List ℕ → Call
 
 abbrev pub openNumberBy : List ℕ → Arguments → List ℕ → ℕ
-openNumberBy s o line = openNumber (length s) (o .n) (o .ta) (o .ts) (o .own) (o .coins) (o .weights) (length line)
+openNumberBy s o line = openNumber (length s) (o .n) (o .ta) (o .ts) (o .own) (o .coins) (o .weights) (o .boxed) (length line)
 
 abbrev pub restoreTaken : List ℕ → (journal out : List ℕ) → Bool
 restoreTaken s journal out = accepted (restoreAnswer s journal (length out))
 
 -- the words after a call on the words s
 unfoldable pub called : List ℕ → Call → List ℕ
-called s (opening o line) = openedWords s (o .n) (o .ta) (o .ts) (o .own) (o .session) (o .input) (o .coins) (o .weights) (length line)
+called s (opening o line) = openedWords s (o .n) (o .ta) (o .ts) (o .own) (o .session) (o .input) (o .coins) (o .weights) (o .boxed) (length line)
 called s (delivery link b line) = deliveredWords s link b (length line)
 called s (turn out line) = turnWords s (turnRoom (length out) (length line))
 called s report = s
 called s (restore journal out) = restoredWords s journal (length out)
+called s (recording i r b line) = recordWords s i r b (length line)
 
 -- .. after a list of calls, newest first
 unfoldable pub afterCalls : List ℕ → List Call → List ℕ
@@ -55,6 +59,7 @@ begun s (delivery link b line ∷ cs) = begun s cs
 begun s (turn out line ∷ cs) = begun s cs
 begun s (report ∷ cs) = begun s cs
 begun s (restore journal out ∷ cs) = cond (restoreTaken (afterCalls s cs) journal out) true (begun s cs)
+begun s (recording i r b line ∷ cs) = begun s cs
 
 -- whether a line of a journal is a `T`
 unfoldable pub isTurn : List ℕ → Bool
@@ -74,6 +79,7 @@ turnsSince s (delivery link b line ∷ cs) = turnsSince s cs
 turnsSince s (turn out line ∷ cs) = cond (acts (turnOutcome (afterCalls s cs) (turnRoom (length out) (length line)))) (turnsSince s cs + 1) (turnsSince s cs)
 turnsSince s (report ∷ cs) = turnsSince s cs
 turnsSince s (restore journal out ∷ cs) = cond (restoreTaken (afterCalls s cs) journal out) (turnLines (linesOf journal)) (turnsSince s cs)
+turnsSince s (recording i r b line ∷ cs) = turnsSince s cs
 
 -- the settings in a journal's opening line
 abbrev pub pointSettings : Option Point → Settings
@@ -92,6 +98,7 @@ settingsSince s (delivery link b line ∷ cs) = settingsSince s cs
 settingsSince s (turn out line ∷ cs) = settingsSince s cs
 settingsSince s (report ∷ cs) = settingsSince s cs
 settingsSince s (restore journal out ∷ cs) = cond (restoreTaken (afterCalls s cs) journal out) (lineSettings (linesOf journal)) (settingsSince s cs)
+settingsSince s (recording i r b line ∷ cs) = settingsSince s cs
 
 -- what holds after the calls cs on the words s
 pub record CountedCalls (s : List ℕ) (cs : List Call) : Type 0 where

@@ -17,9 +17,10 @@ use Rattle.turn.specs.Turn.{turnOutcome}
 use Rattle.journal.specs.Journal.{acts}
 use Rattle.report.specs.Report.{figuresOf}
 use Rattle.report.specs.Laws.{report-gives}
-use Rattle.turn_bound.specs.TurnBound.{weightsBy, Arguments, answer, openedBy, settingsBy, Step, opening, delivery, turn, report, after, acting, current, Reports, Counted, TurnCount}
+use Rattle.turn_bound.specs.TurnBound.{weightsBy, Arguments, answer, openedBy, settingsBy, Step, opening, delivery, turn, report, recording, after, acting, current, Reports, Counted, TurnCount}
 use Rattle.turn_bound.specs.Sound.{Sound, sound-bound, sound-state}
 use Rattle.turn_bound.specs.Delivering.{delivery-sound}
+use Rattle.turn_bound.specs.Recorded.{recording-sound}
 use Rattle.turn_bound.specs.Turning.{turn-sound}
 use Rattle.turn_bound.specs.Opened.{opened-ruled, opened-sound, opened-turns}
 
@@ -37,9 +38,9 @@ pub record Going (g : Settings) (w : List ℕ) (k : ℕ) : Type 0 where
 pub opening-going : (w : List ℕ) (o : Arguments) → answer w o ≡ 0 → Going (settingsBy o) (openedBy w o) 0
 opening-going w o e =
     record {
-      ruled = opened-ruled w (o .coins) (o .n) (o .ta) (o .ts) (weightsBy o) (o .own) (o .session) (o .input) e;
-      sound = opened-sound w (o .coins) (o .n) (o .ta) (o .ts) (weightsBy o) (o .own) (o .session) (o .input) e;
-      count = opened-turns w (o .coins) (o .n) (o .ta) (o .ts) (weightsBy o) (o .own) (o .session) (o .input) e;
+      ruled = opened-ruled w (o .coins) (o .n) (o .ta) (o .ts) (weightsBy o) (o .own) (o .session) (o .input) (o .boxed) e;
+      sound = opened-sound w (o .coins) (o .n) (o .ta) (o .ts) (weightsBy o) (o .own) (o .session) (o .input) (o .boxed) e;
+      count = opened-turns w (o .coins) (o .n) (o .ta) (o .ts) (weightsBy o) (o .own) (o .session) (o .input) (o .boxed) e;
     }
 
 pub refused-words : (w : List ℕ) (o : Arguments) → eqb (answer w o) 0 ≡ false → openedBy w o ≡ w
@@ -68,6 +69,10 @@ module _ (g : Settings) (s : List ℕ) (start : Going g s 0) where
         count = y .count ∙ ap (λ (k : ℕ). cond (acts (turnOutcome (after s cs) (length out))) (k + 1) k) (x .count);
       }
   going (report ∷ cs) = going cs
+  going (recording i r b ∷ cs) =
+      let x = going cs in
+      let y = recording-sound (current g s cs) (x .ruled) (after s cs) (x .sound) i r b in
+      record { ruled = x .ruled; sound = y .sound; count = y .count ∙ x .count }
 
   counted : (cs : List Step) → Counted (current g s cs) s cs
   counted cs =

@@ -9,7 +9,7 @@ use lib.ListN.{length, drop}
 use Rattle.settings.specs.Laws.{Ruled}
 use Rattle.settings.specs.declared.Settings.{Settings}
 use Rattle.quorum.specs.Marks.{mark}
-use Rattle.records.specs.Layout.{ownAt, turnsAt, roundAt, estSentAt, auxSentAt, commitCountAt, commitRowAt}
+use Rattle.records.specs.Layout.{ownAt, turnsAt, boxedAt, roundAt, estSentAt, auxSentAt, commitCountAt, commitRowAt}
 use Rattle.records.specs.Words.{word, word-put-same}
 use Rattle.records.specs.Fill.{length-storeOf}
 use Rattle.session.specs.Session.{settingsOf, sessionWith, sessionOf}
@@ -70,49 +70,53 @@ module _ (n : ℕ) (few : n ≤ 16) (s v : List ℕ) (size : length s ≡ 2048) 
       at (yes e) = rw (e, new-count k) (l .1)
       at (no ne) = other-count (Commit k) q (c q lo hi) (no-place ne)
 
--- words that differ only where messages are recorded
-module _ (g : Settings) (ruled : Ruled g) (s t : List ℕ) (same : (a : ℕ) → Untouched a → word t a ≡ word s a) where
+-- words that differ only in coins and where messages are recorded
+abbrev pub Alike : List ℕ → List ℕ → Type 0
+Alike s t = (a : ℕ) → Untouched a → (8 ≤ a → 24 ≤ a) → word t a ≡ word s a
+
+module _ (g : Settings) (ruled : Ruled g) (s t : List ℕ) (same : Alike s t) where
   same-keeps : (k : ℕ) → word t k ≡ word s k → Keeps k s t
   same-keeps k e p h = ap (λ (w : ℕ). mark w p) e ∙ h
 
   same-grows : Grows (g .n) s t
   same-grows =
       record {
-        flags = same-keeps 7 (same 7 (inl (omega arith)));
-        echoes = same-keeps 136 (same 136 (inr (omega arith, omega arith)));
-        readies = same-keeps 137 (same 137 (inr (omega arith, omega arith)));
-        ests = λ i low high. same-keeps (estSentAt i) (same (estSentAt i) (inl (omega (arith, ruled .few))));
-        auxs = λ i low high. same-keeps (auxSentAt i) (same (auxSentAt i) (inl (omega (arith, ruled .few))));
-        moved-out = λ i low high e. same (roundAt i) (inl (omega (arith, ruled .few))) ∙ e;
+        flags = same-keeps 7 (same 7 (inl (omega arith)) (λ z. omega arith));
+        echoes = same-keeps 136 (same 136 (inr (omega arith, omega arith)) (λ z. omega arith));
+        readies = same-keeps 137 (same 137 (inr (omega arith, omega arith)) (λ z. omega arith));
+        ests = λ i low high. same-keeps (estSentAt i) (same (estSentAt i) (inl (omega (arith, ruled .few))) (λ z. omega arith));
+        auxs = λ i low high. same-keeps (auxSentAt i) (same (auxSentAt i) (inl (omega (arith, ruled .few))) (λ z. omega arith));
+        moved-out = λ i low high e. same (roundAt i) (inl (omega (arith, ruled .few))) (λ z. omega arith) ∙ e;
       }
 
-module _ (g : Settings) (ruled : Ruled g) (s t : List ℕ) (same : (a : ℕ) → Untouched a → word t a ≡ word s a) where
-  low-same : (a : ℕ) → a < 72 → word t a ≡ word s a
+module _ (g : Settings) (ruled : Ruled g) (s t : List ℕ) (same : Alike s t) where
+  low-same : (a : ℕ) → a < 72 → (8 ≤ a → 24 ≤ a) → word t a ≡ word s a
   low-same a l = same a (inl (omega arith))
 
   same-settings : word t 141 ≡ word s 141 → settingsOf t ≡ settingsOf s
   unfolding settingsOf
-  same-settings e = rw (low-same 0 (omega arith), low-same 1 (omega arith), low-same 2 (omega arith), e)
+  same-settings e = rw (low-same 0 (omega arith) (λ z. omega arith), low-same 1 (omega arith) (λ z. omega arith), low-same 2 (omega arith) (λ z. omega arith), e)
 
-  same-sound : Sound g s → length t ≡ length s → word t 141 ≡ word s 141 → ((p : ℕ) → 1 ≤ p → p ≤ g .n → word t (commitCountAt p) ≤ g .n) → Sound g t
-  same-sound h l e c =
+  pub same-sound : Sound g s → length t ≡ length s → word t 141 ≡ word s 141 → word t boxedAt ≡ word s boxedAt → ((p : ℕ) → 1 ≤ p → p ≤ g .n → word t (commitCountAt p) ≤ g .n) → Sound g t
+  same-sound h l e k c =
       record {
         size = l ∙ h .size;
         settings = same-settings e ∙ h .settings;
-        own-low = omega (arith, low-same ownAt (omega arith), h .own-low);
-        own-high = omega (arith, low-same ownAt (omega arith), h .own-high);
+        own-low = omega (arith, low-same ownAt (omega arith) (λ z. omega arith), h .own-low);
+        own-high = omega (arith, low-same ownAt (omega arith) (λ z. omega arith), h .own-high);
+        kind = omega (arith, k, h .kind);
         counts = c;
         orderly =
             orderly-kept (g .n) (ruled .few) s t (h .orderly)
-            (still (record { rounds = λ j lo hi. low-same (roundAt j) (omega arith); ests = λ j lo hi. low-same (estSentAt j) (omega arith) }))
+            (still (record { rounds = λ j lo hi. low-same (roundAt j) (omega arith) (λ z. omega arith); ests = λ j lo hi. low-same (estSentAt j) (omega arith) (λ z. omega arith) }))
             (same-grows g ruled s t same .auxs);
         turns =
             omega (
               arith,
-              low-same turnsAt (omega arith),
+              low-same turnsAt (omega arith) (λ z. omega arith),
               h .turns,
               potential-grows (g .n) s t (same-grows g ruled s t same),
-              potential-grows (g .n) t s (same-grows g ruled t s (λ a u. sym (same a u))),
+              potential-grows (g .n) t s (same-grows g ruled t s (λ a u z. sym (same a u z))),
             );
       }
 
@@ -120,6 +124,7 @@ module _ (g : Settings) (ruled : Ruled g) (s t : List ℕ) (same : (a : ℕ) →
 pub record Delivered (g : Settings) (s t : List ℕ) : Type 0 where
   pub sound : Sound g t
   pub count : word t turnsAt ≡ word s turnsAt
+  pub kind : word t boxedAt ≡ word s boxedAt
   pub same : (a : ℕ) → Untouched a → word t a ≡ word s a
 
 module _ (g : Settings) (ruled : Ruled g) (s : List ℕ) (h : Sound g s) (link : ℕ) (b : List ℕ) where
@@ -127,13 +132,18 @@ module _ (g : Settings) (ruled : Ruled g) (s : List ℕ) (h : Sound g s) (link :
   accepted-sound m f =
       record {
         sound =
-            same-sound g ruled s (recorded s link m (drop 12 b)) same h (length-recorded s (drop 12 b) link m)
+            same-sound g ruled s (recorded s link m (drop 12 b)) (λ a u z. same a u) h (length-recorded s (drop 12 b) link m)
             (word-free s (drop 12 b) link m 141 (in-layout (g .n) link m (ruled .few) (f .link-low) (f .link-high) (f .layout)) (omega arith) (omega arith))
+            kind
             (counts-recorded (g .n) (ruled .few) s (drop 12 b) (h .size) link (f .link-low) (f .link-high) m (f .layout) (h .counts));
         count = same turnsAt (inl (omega arith));
+        kind = kind;
         same = same;
       }
     where
+      kind : word (recorded s link m (drop 12 b)) boxedAt ≡ word s boxedAt
+      kind = word-free s (drop 12 b) link m boxedAt (in-layout (g .n) link m (ruled .few) (f .link-low) (f .link-high) (f .layout)) (omega arith) (omega arith)
+
       same : (a : ℕ) → Untouched a → word (recorded s link m (drop 12 b)) a ≡ word s a
       same a u = word-untouched s (drop 12 b) link m a (in-layout (g .n) link m (ruled .few) (f .link-low) (f .link-high) (f .layout)) u
 
@@ -143,7 +153,7 @@ module _ (g : Settings) (ruled : Ruled g) (s : List ℕ) (h : Sound g s) (link :
 
   of-verdict : (v : Verdict) → verdict s link b ≡ v → Delivered g s (wordsAfter v s link b)
   unfolding wordsAfter
-  of-verdict (Refused k) e = record { sound = h; count = refl; same = λ a u. refl }
+  of-verdict (Refused k) e = record { sound = h; count = refl; kind = refl; same = λ a u. refl }
   of-verdict (Accepted m) e =
       accepted-sound m
       (taken-form (g .n) (sessionOf s .number) link b m (rw session-settings at (accepting s link b m e .taken)))

@@ -7,6 +7,7 @@ pub mod Raising
 pub mod ByOne
 pub mod Sound
 pub mod Delivering
+pub mod Recorded
 pub mod Turning
 pub mod Opened
 pub mod Count

@@ -6,11 +6,12 @@ use native.Mathlib.Omega.{arith}
 use lib.ListN.{length}
 use Rattle.records.specs.Fill.{blank, length-blank}
 use Rattle.delivery.specs.Delivery.{delivered}
-use Rattle.journal.specs.Journal.{LINE-BYTES, openNumber, openedWords, deliveredWords, turnRoom}
+use Rattle.recording.specs.Recording.{recordedWords}
+use Rattle.journal.specs.Journal.{LINE-BYTES, openNumber, openedWords, deliveredWords, recordWords, turnRoom}
 use Rattle.journal.specs.Laws.{line-answer, line-words, room-kept}
 use Rattle.turn_bound.specs.TurnBound.{Arguments, answer, openedBy, Step, after, acting}
 use Rattle.turn_bound.specs.TurnBound as step
-use Rattle.turn_bound.specs.Calls.{Call, opening, delivery, turn, report, openNumberBy, called, afterCalls, turnsSince}
+use Rattle.turn_bound.specs.Calls.{Call, opening, delivery, turn, report, recording, openNumberBy, called, afterCalls, turnsSince}
 
 -- the bytes lent for a line
 abbrev pub lineLent : List ℕ
@@ -21,6 +22,7 @@ linedStep (step.opening o) = opening o lineLent
 linedStep (step.delivery link b) = delivery link b lineLent
 linedStep (step.turn out) = turn out lineLent
 linedStep step.report = report
+linedStep (step.recording i r b) = recording i r b lineLent
 
 -- the calls cs after the calls ds
 unfoldable pub lined : List Step → List Call → List Call
@@ -42,6 +44,10 @@ delivery-lined : (w : List ℕ) (link : ℕ) (b : List ℕ) → called w (delive
 unfolding called deliveredWords
 delivery-lined w link b = line-words (length lineLent) w (delivered w link b) lent-enough
 
+recording-lined : (w : List ℕ) (i r b : ℕ) → called w (recording i r b lineLent) ≡ recordedWords w i r b
+unfolding called recordWords
+recording-lined w i r b = line-words (length lineLent) w (recordedWords w i r b) lent-enough
+
 room-lined : (room : ℕ) → turnRoom room (length lineLent) ≡ room
 room-lined room = room-kept room (length lineLent) lent-enough
 
@@ -53,6 +59,7 @@ lined-after s ds (step.opening o ∷ cs) = rw (lined-after s ds cs) (opening-lin
 lined-after s ds (step.delivery link b ∷ cs) = rw (lined-after s ds cs) (delivery-lined (after (afterCalls s ds) cs) link b)
 lined-after s ds (step.turn out ∷ cs) = rw (lined-after s ds cs, room-lined (length out))
 lined-after s ds (step.report ∷ cs) = lined-after s ds cs
+lined-after s ds (step.recording i r b ∷ cs) = rw (lined-after s ds cs) (recording-lined (after (afterCalls s ds) cs) i r b)
 
 -- so is the count after an accepted opening
 module _ (s : List ℕ) (o : Arguments) (e : answer s o ≡ 0) where
@@ -70,6 +77,7 @@ module _ (s : List ℕ) (o : Arguments) (e : answer s o ≡ 0) where
   lined-turns (step.delivery link b ∷ cs) = lined-turns cs
   lined-turns (step.turn out ∷ cs) = rw (words-lined cs, room-lined (length out), lined-turns cs)
   lined-turns (step.report ∷ cs) = lined-turns cs
+  lined-turns (step.recording i r b ∷ cs) = lined-turns cs
 
   pub lined-opened : openNumberBy s o lineLent ≡ 0
   lined-opened = number-lined s o ∙ e

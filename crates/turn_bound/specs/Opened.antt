@@ -1,5 +1,5 @@
 -- The words after an accepted opening are sound.
-use Prim.Native.Nat.{ℕ, zero, suc, _≤_}
+use Prim.Native.Nat.{ℕ, zero, suc, _≤_, _<_}
 use mathlib.Core.Bool.{true, false≢true}
 use mathlib.Core.List.{List}
 use mathlib.Core.Path.{_≡_, refl, sym, ap, _∙_}
@@ -19,22 +19,23 @@ use Rattle.records.specs.Words.{word}
 use Rattle.session.specs.Session.{numbered, settingsOf}
 use Rattle.opening.specs.Opening.{openAnswer, openWords, opened}
 use Rattle.opening.specs.Cases.{Accepted, accepted}
-use Rattle.opening.specs.Laws.{length-first, first-n, first-ta, first-ts, first-own, first-turns, first-flags, first-weights, first-zero}
+use Rattle.opening.specs.GivenLaws.{coins-given}
+use Rattle.opening.specs.Laws.{length-first, first-n, first-ta, first-ts, first-own, first-turns, first-flags, first-weights, first-boxed, first-zero}
 use Rattle.turn_bound.specs.Sums.{zero-count}
 use Rattle.turn_bound.specs.Potential.{instancePart, potential}
 use Rattle.turn_bound.specs.Sound.{Sound}
 
 -- the words of a new state
-module _ (n ta ts w own session input : ℕ) (coins : List ℕ) (few : n ≤ 16) where
+module _ (n ta ts w own session input : ℕ) (coins : List ℕ) (boxed : ℕ) (few : n ≤ 16) where
   abbrev new : List ℕ
-  new = openWords n ta ts w own session input coins
+  new = openWords n ta ts w own session input coins boxed
 
   new-settings : settingsOf new ≡ settingsNamed n ta ts w
   unfolding settingsOf
-  new-settings = rw (first-n n ta ts w own session input coins, first-ta n ta ts w own session input coins, first-ts n ta ts w own session input coins, first-weights n ta ts w own session input coins few)
+  new-settings = rw (first-n n ta ts w own session input coins boxed, first-ta n ta ts w own session input coins boxed, first-ts n ta ts w own session input coins boxed, first-weights n ta ts w own session input coins boxed few)
 
-  new-zero : (k : ℕ) → 24 ≤ k → (k ≡ 141 → ⊥) → word new k ≡ 0
-  new-zero = first-zero n ta ts w own session input coins few
+  new-zero : (k : ℕ) → 24 ≤ k → (k ≤ 142 → k < 141) → word new k ≡ 0
+  new-zero = first-zero n ta ts w own session input coins boxed few
 
   no-est : (j p : ℕ) → 1 ≤ j → j ≤ n → mark (word new (estSentAt j)) p ≡ true → ⊥
   no-est j p lo hi e = false≢true (sym (mark-zero p) ∙ ap (λ (x : ℕ). mark x p) (sym (new-zero (estSentAt j) (omega arith) (λ z. omega arith))) ∙ e)
@@ -58,15 +59,16 @@ module _ (n ta ts w own session input : ℕ) (coins : List ℕ) (few : n ≤ 16)
 
   new-potential : potential n new ≡ 0
   unfolding potential
-  new-potential = omega (arith, zero-count (word new flagsAt) 3 (first-flags n ta ts w own session input coins), parts-zero n (omega arith))
+  new-potential = omega (arith, zero-count (word new flagsAt) 3 (first-flags n ta ts w own session input coins boxed), parts-zero n (omega arith))
 
-  new-sound : 1 ≤ own → own ≤ n → Sound (settingsNamed n ta ts w) new
-  new-sound low high =
+  new-sound : 1 ≤ own → own ≤ n → boxed ≤ 1 → Sound (settingsNamed n ta ts w) new
+  new-sound low high kind =
       record {
-        size = length-first n ta ts w own session input coins;
+        size = length-first n ta ts w own session input coins boxed;
         settings = new-settings;
-        own-low = rw (first-own n ta ts w own session input coins) low;
-        own-high = rw (first-own n ta ts w own session input coins) high;
+        own-low = rw (first-own n ta ts w own session input coins boxed) low;
+        own-high = rw (first-own n ta ts w own session input coins boxed) high;
+        kind = rw (first-boxed n ta ts w own session input coins boxed few) kind;
         counts = λ p lo hi. omega (arith, new-zero (commitCountAt p) (omega arith) (λ z. omega arith));
         orderly =
             record {
@@ -74,22 +76,22 @@ module _ (n ta ts w own session input : ℕ) (coins : List ℕ) (few : n ≤ 16)
               reached = λ j r b lo hi rl rh bb e. absurd (no-est j (estSentMark r b) lo hi e);
               passed = λ j r lo hi l e. absurd (omega (arith, new-zero (roundAt j) (omega arith) (λ z. omega arith)));
             };
-        turns = first-turns n ta ts w own session input coins ∙ sym new-potential;
+        turns = first-turns n ta ts w own session input coins boxed ∙ sym new-potential;
       }
 
-module _ (s coins : List ℕ) (n ta ts w own session input : ℕ) (e : openAnswer (length s) n ta ts w own (length coins) ≡ 0) where
+module _ (s coins : List ℕ) (n ta ts w own session input boxed : ℕ) (e : openAnswer (length s) n ta ts w own coins boxed ≡ 0) where
   abbrev g : Settings
   g = settingsNamed n ta ts w
 
-  is-accepted : Accepted (length s) n ta ts w own (length coins)
-  is-accepted = accepted (length s) n ta ts w own (length coins) e
+  is-accepted : Accepted (length s) n ta ts w own coins boxed
+  is-accepted = accepted (length s) n ta ts w own coins boxed e
 
   pub opened-ruled : Ruled g
   opened-ruled = valid-rules n (namedTa n ta ts w) ts w (is-accepted .valid)
 
-  opened-new : opened s n ta ts w own session input coins ≡ openWords n ta ts w own session input coins
+  opened-new : opened s n ta ts w own session input coins boxed ≡ openWords n ta ts w own session input coins boxed
   unfolding opened
-  opened-new = rw (eq-eqb (openAnswer (length s) n ta ts w own (length coins)) 0 e)
+  opened-new = rw (eq-eqb (openAnswer (length s) n ta ts w own coins boxed) 0 e)
 
   own-low : 1 ≤ own
   unfolding numbered
@@ -99,8 +101,11 @@ module _ (s coins : List ℕ) (n ta ts w own session input : ℕ) (e : openAnswe
   unfolding numbered
   own-high = leb-true own n (and-right (leb 1 own) (leb own n) (is-accepted .own-number))
 
-  pub opened-sound : Sound g (opened s n ta ts w own session input coins)
-  opened-sound = rw opened-new (new-sound n ta ts w own session input coins (opened-ruled .few) own-low own-high)
+  kind : boxed ≤ 1
+  kind = coins-given n coins boxed (is-accepted .given) .kind
 
-  pub opened-turns : word (opened s n ta ts w own session input coins) turnsAt ≡ 0
-  opened-turns = rw opened-new (first-turns n ta ts w own session input coins)
+  pub opened-sound : Sound g (opened s n ta ts w own session input coins boxed)
+  opened-sound = rw opened-new (new-sound n ta ts w own session input coins boxed (opened-ruled .few) own-low own-high kind)
+
+  pub opened-turns : word (opened s n ta ts w own session input coins boxed) turnsAt ≡ 0
+  opened-turns = rw opened-new (first-turns n ta ts w own session input coins boxed)

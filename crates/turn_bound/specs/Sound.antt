@@ -9,7 +9,7 @@ use Rattle.settings.specs.Settings.{turnBound}
 use Rattle.settings.specs.Laws.{Ruled}
 use Rattle.settings.specs.Thresholds.{turn-bound-sum}
 use Rattle.settings.specs.declared.Settings.{Settings}
-use Rattle.records.specs.Layout.{nAt, ownAt, turnsAt, commitCountAt}
+use Rattle.records.specs.Layout.{nAt, ownAt, turnsAt, boxedAt, commitCountAt}
 use Rattle.records.specs.Words.{word}
 use Rattle.session.specs.Session.{settingsOf, isState}
 use Rattle.session.specs.Laws.{State, state-is}
@@ -21,6 +21,7 @@ pub record Sound (g : Settings) (s : List ℕ) : Type 0 where
   pub settings : settingsOf s ≡ g
   pub own-low : 1 ≤ word s ownAt
   pub own-high : word s ownAt ≤ g .n
+  pub kind : word s boxedAt ≤ 1
   pub counts : (p : ℕ) → 1 ≤ p → p ≤ g .n → word s (commitCountAt p) ≤ g .n
   pub orderly : Orderly (g .n) s
   pub turns : word s turnsAt ≡ potential (g .n) s
@@ -41,6 +42,7 @@ module _ (g : Settings) (ruled : Ruled g) (s : List ℕ) (h : Sound g s) where
         ruled = rw (h .settings) ruled;
         own-low = h .own-low;
         own-high = rw same-n (h .own-high);
+        kind = h .kind;
         turns = rw (h .settings) sound-bound;
         rounds = λ i low high. h .orderly .rounds i low (omega (arith, same-n));
         counts = λ p low high. rw same-n (h .counts p low (omega (arith, same-n)));

@@ -13,12 +13,14 @@ use Rattle.records.specs.Fill.{blank, length-blank}
 use Rattle.session.specs.Session.{settingsOf}
 use Rattle.opening.specs.Opening.{openAnswer, openWords, opened}
 use Rattle.delivery.specs.Delivery.{deliverAnswer, delivered}
+use Rattle.recording.specs.Recording.{recordAnswer, recordedWords}
 use Rattle.turn.specs.Turn.{turnOutcome, turnWords}
 use Rattle.text.specs.Fields.{fields, letter}
 use Rattle.text.specs.Numbers.{DECIMAL, valueOf, valuesOf}
+use Rattle.journal.specs.Lines.{recordingForms}
 use Rattle.journal.specs.Journal.{acts}
-use Rattle.restore.specs.Reading.{proper, allProper, fieldAt, formsFor, weightsFrom, hexRight, bytesOf}
-use Rattle.restore.specs.Restoring.{Point, openedFrom, openingFrom, openingRead, firstOf, firstLine, deliveredFrom, turnedFrom, nextOf, nextLine, wrong, right, appliedOr, further, replayFrom, replay}
+use Rattle.restore.specs.Reading.{proper, allProper, fieldAt, formsFor, weightsFrom, boxedFrom, hexRight, bytesOf}
+use Rattle.restore.specs.Restoring.{Point, openedFrom, openingFrom, openingRead, firstOf, firstLine, deliveredFrom, turnedFrom, recordedBy, recordedFrom, nextOf, nextLine, wrong, right, appliedOr, further, replayFrom, replay}
 use Rattle.turn_bound.specs.TurnBound.{weightsBy, Arguments, answer, openedBy, settingsBy, Step, after, acting, current}
 use Rattle.turn_bound.specs.TurnBound as step
 use Rattle.turn_bound.specs.Calls.{delivery, turn, isTurn, turnLines, pointSettings, lineSettings}
@@ -65,6 +67,19 @@ module _ (w : List ℕ) (k : ℕ) (g : Settings) (x : Stepped w k g) where
         settings = x .settings;
       }
 
+  pub recording-stepped : (i r b : ℕ) → Stepped (recordedWords w i r b) k g
+  unfolding after acting current
+  recording-stepped i r b =
+      record {
+        first = x .first;
+        arguments = x .arguments;
+        opens = x .opens;
+        steps = step.recording i r b ∷ x .steps;
+        words = ap (λ (u : List ℕ). recordedWords u i r b) (x .words);
+        count = x .count;
+        settings = x .settings;
+      }
+
   -- the settings are those in the words
   pub stepped-settings : settingsOf w ≡ g
   stepped-settings =
@@ -80,15 +95,15 @@ some-if false y x e = absurd (let z : _≡_ {A = ℕ} 0 1 = cc in omega arith)
 words-of : (z y : Point) → some z ≡ some y → z .words ≡ y .words
 words-of z y e = cc
 
-opened-stepped : (n : ℕ) (xs coins weights : List ℕ) (x : Point) → openedFrom n xs coins weights ≡ some x → Stepped (x .words) 0 (settingsOf (x .words))
+opened-stepped : (n : ℕ) (xs coins weights : List ℕ) (boxed : ℕ) (x : Point) → openedFrom n xs coins weights boxed ≡ some x → Stepped (x .words) 0 (settingsOf (x .words))
 unfolding openedFrom opened
-opened-stepped n xs coins weights x e =
-    let o : Arguments = record { n = n; ta = getD xs 2 0; ts = getD xs 3 0; own = getD xs 4 0; session = getD xs 5 0; input = getD xs 6 0; coins = coins; weights = weights } in
-    let z : Point = record { words = openWords (o .n) (o .ta) (o .ts) (weightsBy o) (o .own) (o .session) (o .input) coins; turned = none } in
-    let t = some-if (eqb (openAnswer 2048 (o .n) (o .ta) (o .ts) (weightsBy o) (o .own) (length coins)) 0) (some z) x e in
+opened-stepped n xs coins weights boxed x e =
+    let o : Arguments = record { n = n; ta = getD xs 2 0; ts = getD xs 3 0; own = getD xs 4 0; session = getD xs 5 0; input = getD xs 6 0; coins = coins; weights = weights; boxed = boxed } in
+    let z : Point = record { words = openWords (o .n) (o .ta) (o .ts) (weightsBy o) (o .own) (o .session) (o .input) coins boxed; turned = none } in
+    let t = some-if (eqb (openAnswer 2048 (o .n) (o .ta) (o .ts) (weightsBy o) (o .own) coins boxed) 0) (some z) x e in
     of o (t .0) (words-of z x (t .1))
   where
-    of : (o : Arguments) → eqb (openAnswer 2048 (o .n) (o .ta) (o .ts) (weightsBy o) (o .own) (length (o .coins))) 0 ≡ true → openWords (o .n) (o .ta) (o .ts) (weightsBy o) (o .own) (o .session) (o .input) (o .coins) ≡ x .words → Stepped (x .words) 0 (settingsOf (x .words))
+    of : (o : Arguments) → eqb (openAnswer 2048 (o .n) (o .ta) (o .ts) (weightsBy o) (o .own) (o .coins) (o .boxed)) 0 ≡ true → openWords (o .n) (o .ta) (o .ts) (weightsBy o) (o .own) (o .session) (o .input) (o .coins) (o .boxed) ≡ x .words → Stepped (x .words) 0 (settingsOf (x .words))
     of o a f =
         let taken : answer (blank 2048) o ≡ 0 = rw length-blank (eqb-true _ 0 a) in
         let words : openedBy (blank 2048) o ≡ x .words = rw (length-blank, a) f in
@@ -102,8 +117,8 @@ first-stepped b x e = of (fields b) e
   where
     numbers : (n : ℕ) (xs : List ℕ) → openingFrom n xs ≡ some x → Stepped (x .words) 0 (settingsOf (x .words))
     numbers n xs e =
-        let t = some-if (eqb (getD xs 0 0) 1 && ltb (getD xs 5 0) (2 ^ 32)) (openedFrom n xs (take n (drop 7 xs)) (weightsFrom n xs)) x e in
-        opened-stepped n xs (take n (drop 7 xs)) (weightsFrom n xs) x (t .1)
+        let t = some-if (eqb (getD xs 0 0) 1 && ltb (getD xs 5 0) (2 ^ 32)) (openedFrom n xs (take n (drop 7 xs)) (weightsFrom n xs) (boxedFrom n xs)) x e in
+        opened-stepped n xs (take n (drop 7 xs)) (weightsFrom n xs) (boxedFrom n xs) x (t .1)
 
     read : (n : ℕ) (fs : List (List ℕ)) → openingRead n fs ≡ some x → Stepped (x .words) 0 (settingsOf (x .words))
     read n fs e =
@@ -135,6 +150,15 @@ module _ (w : List ℕ) (k : ℕ) (g : Settings) (h : Stepped w k g) (y : Point)
       rw (words-of z y (t .1)) at (rw (size, t .0) at (turn-stepped w k g h (blank 140)))
   turned-stepped (f ∷ fs) e = absurd (let z : _≡_ {A = ℕ} 0 1 = cc in omega arith)
 
+  pub recorded-stepped : (fs : List (List ℕ)) → recordedFrom w fs ≡ some y → Stepped (y .words) k g
+  unfolding recordedFrom recordedBy
+  recorded-stepped fs e =
+      let xs = valuesOf recordingForms fs in
+      let t = some-if (allProper recordingForms fs) (recordedBy w xs) y e in
+      let z : Point = record { words = recordedWords w (getD xs 0 0) (getD xs 1 0) (getD xs 2 0); turned = none } in
+      let q = some-if (eqb (recordAnswer w (getD xs 0 0) (getD xs 1 0) (getD xs 2 0)) 0) (some z) y (t .1) in
+      rw (words-of z y (q .1)) at (recording-stepped w k g h (getD xs 0 0) (getD xs 1 0) (getD xs 2 0))
+
 -- a further line
 pub next-stepped : (w : List ℕ) (k : ℕ) (g : Settings) → Stepped w k g → (b : List ℕ) (y : Point) → nextLine w b ≡ some y → Stepped (y .words) (k + cond (isTurn b) 1 0) g
 unfolding nextLine nextOf isTurn fieldAt
@@ -143,15 +167,18 @@ next-stepped w k g h b y e = of (fields b) e
     none-more : k + 0 ≡ k
     none-more = omega arith
 
-    letters : (f : List ℕ) (fs : List (List ℕ)) (d : Bool) → eqb (letter f) 68 ≡ d → (t : Bool) → eqb (letter f) 84 ≡ t → cond d (deliveredFrom w fs) (cond t (turnedFrom w fs) none) ≡ some y → Stepped (y .words) (k + cond t 1 0) g
-    letters f fs true p true q e = absurd (let u = eqb-true (letter f) 68 p in let v = eqb-true (letter f) 84 q in omega (arith, u, v))
-    letters f fs true p false q e = rw none-more (delivered-stepped w k g h y fs e)
-    letters f fs false p true q e = turned-stepped w k g h y fs e
-    letters f fs false p false q e = absurd (let z : _≡_ {A = ℕ} 0 1 = cc in omega arith)
+    letters : (f : List ℕ) (fs : List (List ℕ)) (d : Bool) → eqb (letter f) 68 ≡ d → (c : Bool) → eqb (letter f) 75 ≡ c → (t : Bool) → eqb (letter f) 84 ≡ t →
+        cond d (deliveredFrom w fs) (cond c (recordedFrom w fs) (cond t (turnedFrom w fs) none)) ≡ some y → Stepped (y .words) (k + cond t 1 0) g
+    letters f fs true p c q true r e = absurd (let u = eqb-true (letter f) 68 p in let v = eqb-true (letter f) 84 r in omega (arith, u, v))
+    letters f fs true p c q false r e = rw none-more (delivered-stepped w k g h y fs e)
+    letters f fs false p true q true r e = absurd (let u = eqb-true (letter f) 75 q in let v = eqb-true (letter f) 84 r in omega (arith, u, v))
+    letters f fs false p true q false r e = rw none-more (recorded-stepped w k g h y fs e)
+    letters f fs false p false q true r e = turned-stepped w k g h y fs e
+    letters f fs false p false q false r e = absurd (let z : _≡_ {A = ℕ} 0 1 = cc in omega arith)
 
     of : (fs : List (List ℕ)) → nextOf w fs ≡ some y → Stepped (y .words) (k + cond (eqb (letter (getD fs 0 [])) 84) 1 0) g
     of [] e = absurd (let z : _≡_ {A = ℕ} 0 1 = cc in omega arith)
-    of (f ∷ fs) e = letters f fs (eqb (letter f) 68) refl (eqb (letter f) 84) refl e
+    of (f ∷ fs) e = letters f fs (eqb (letter f) 68) refl (eqb (letter f) 75) refl (eqb (letter f) 84) refl e
 
 -- which is no `T`
 first-no-turn : (b : List ℕ) (x : Point) → firstLine b ≡ some x → isTurn b ≡ false

@@ -13,6 +13,7 @@ use Rattle.session.specs.Session.{isState}
 use Rattle.opening.specs.Given.{weightsWord}
 use Rattle.opening.specs.Opening.{openAnswer, opened}
 use Rattle.delivery.specs.Delivery.{delivered}
+use Rattle.recording.specs.Recording.{recordedWords}
 use Rattle.turn.specs.Turn.{turnOutcome, turnWords}
 use Rattle.report.specs.Report.{reportAnswer}
 use Rattle.report.specs.declared.Figures.{Figures}
@@ -29,6 +30,8 @@ pub record Arguments : Type 0 where
   pub input : ℕ
   pub coins : List ℕ
   pub weights : List ℕ
+  -- "Opening says whether coins are printed or boxed" (request N12): 0 or 1
+  pub boxed : ℕ
 
 -- the weights as one word
 abbrev pub weightsBy : Arguments → ℕ
@@ -36,21 +39,23 @@ weightsBy o = weightsWord (o .n) (o .weights)
 
 -- the answer of an opening of the words s: 0 is accepted
 abbrev pub answer : List ℕ → Arguments → ℕ
-answer s o = openAnswer (length s) (o .n) (o .ta) (o .ts) (weightsBy o) (o .own) (length (o .coins))
+answer s o = openAnswer (length s) (o .n) (o .ta) (o .ts) (weightsBy o) (o .own) (o .coins) (o .boxed)
 
 -- the words after it
 abbrev pub openedBy : List ℕ → Arguments → List ℕ
-openedBy s o = opened s (o .n) (o .ta) (o .ts) (weightsBy o) (o .own) (o .session) (o .input) (o .coins)
+openedBy s o = opened s (o .n) (o .ta) (o .ts) (weightsBy o) (o .own) (o .session) (o .input) (o .coins) (o .boxed)
 
 abbrev pub settingsBy : Arguments → Settings
 settingsBy o = settingsNamed (o .n) (o .ta) (o .ts) (weightsBy o)
 
--- a call: an opening, a delivery of any bytes from any link, a turn lent any bytes, or a report
+-- a call: an opening, a delivery of any bytes from any link, a turn lent any bytes, a report, or "the host has recorded that round's bit in the
+-- state" (request N12): a recording of any vote, round and bit
 pub data Step : Type 0 where
   opening : Arguments → Step
   delivery : ℕ → List ℕ → Step
   turn : List ℕ → Step
   report : Step
+  recording : ℕ → ℕ → ℕ → Step
 
 -- the words after a list of calls, newest first, on the words s; a report writes none of them
 unfoldable pub after : List ℕ → List Step → List ℕ
@@ -59,14 +64,16 @@ after s (opening o ∷ cs) = openedBy (after s cs) o
 after s (delivery link b ∷ cs) = delivered (after s cs) link b
 after s (turn out ∷ cs) = turnWords (after s cs) (length out)
 after s (report ∷ cs) = after s cs
+after s (recording i r b ∷ cs) = recordedWords (after s cs) i r b
 
--- "the number of turns since opening that did not answer idle": an accepted opening starts anew
+-- "the number of turns since opening that did not answer idle": an accepted opening starts anew, a recording is no turn
 unfoldable pub acting : List ℕ → List Step → ℕ
 acting s [] = 0
 acting s (opening o ∷ cs) = cond (eqb (answer (after s cs) o) 0) 0 (acting s cs)
 acting s (delivery link b ∷ cs) = acting s cs
 acting s (turn out ∷ cs) = cond (acts (turnOutcome (after s cs) (length out))) (acting s cs + 1) (acting s cs)
 acting s (report ∷ cs) = acting s cs
+acting s (recording i r b ∷ cs) = acting s cs
 
 -- the settings of the last accepted opening, g before any
 unfoldable pub current : Settings → List ℕ → List Step → Settings
@@ -75,6 +82,7 @@ current g s (opening o ∷ cs) = cond (eqb (answer (after s cs) o) 0) (settingsB
 current g s (delivery link b ∷ cs) = current g s cs
 current g s (turn out ∷ cs) = current g s cs
 current g s (report ∷ cs) = current g s cs
+current g s (recording i r b ∷ cs) = current g s cs
 
 -- a report lent 16 words for each set gives the count k
 pub record Reports (w : List ℕ) (k : ℕ) : Type 0 where

@@ -9,7 +9,7 @@ use lib.ListN.{length}
 use Rattle.settings.specs.Laws.{Ruled}
 use Rattle.settings.specs.Settings.{roundLimit}
 use Rattle.settings.specs.declared.Settings.{Settings}
-use Rattle.records.specs.Layout.{ownAt, turnsAt, commitCountAt}
+use Rattle.records.specs.Layout.{ownAt, turnsAt, boxedAt, commitCountAt}
 use Rattle.records.specs.Words.{word}
 use Rattle.records.specs.Records.{closed, coin}
 use Rattle.acts.specs.Acts.{isDue}
@@ -76,6 +76,7 @@ module _ (g : Settings) (ruled : Ruled g) (s : List ℕ) (h : Sound g s) where
           settings = same-settings ∙ h .settings;
           own-low = omega (arith, kept ownAt (omega arith), h .own-low);
           own-high = omega (arith, kept ownAt (omega arith), h .own-high);
+          kind = omega (arith, applied-kept s a placed boxedAt (beyond (omega arith)), h .kind);
           counts = λ p low high. omega (arith, applied-kept s a placed (commitCountAt p) (held (omega arith) (omega (arith, ruled .few))), h .counts p low high);
           orderly = act-orderly s (h .size) g ruled (h .orderly) unclosed a told;
           turns = omega (arith, counted-one d, h .turns, act-raises s (h .size) g ruled (h .orderly) unclosed a d told, act-by-one s (h .size) g ruled a told);

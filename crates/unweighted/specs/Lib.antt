@@ -6,6 +6,7 @@ pub mod Commits
 pub mod Session
 pub mod Opening
 pub mod Delivery
+pub mod Recording
 pub mod Due
 pub mod Turn
 pub mod Report

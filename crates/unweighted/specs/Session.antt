@@ -4,7 +4,7 @@ use mathlib.Core.Bool.{Bool, _&&_}
 use mathlib.Core.List.{List}
 use lib.ListN.{length}
 use lib.Dec.{eqb, leb}
-use Rattle.records.specs.Layout.{stateWords, nAt, taAt, tsAt, ownAt, sessionAt, turnsAt}
+use Rattle.records.specs.Layout.{stateWords, nAt, taAt, tsAt, ownAt, sessionAt, turnsAt, boxedAt}
 use Rattle.records.specs.Words.{word}
 use Rattle.session.specs.Session.{numbered, roundsRight, commitsRight}
 use Rattle.unweighted.specs.Settings.{Settings, validSettings, turnBound}
@@ -16,10 +16,10 @@ settingsOf s = record { n = word s nAt; ta = word s taAt; ts = word s tsAt }
 unfoldable pub sessionNumber : List ℕ → ℕ
 sessionNumber s = word s sessionAt % 2 ^ 32
 
--- the stored numbers beside the settings; "more than 99·n+3 turns" is none
+-- the stored numbers beside the settings: coins that are printed or boxed (request N12); "more than 99·n+3 turns" is none
 unfoldable pub numbersRight : Settings → List ℕ → Bool
 numbersRight g s =
-    numbered (g .n) (word s ownAt) && leb (word s turnsAt) (turnBound g) && roundsRight s (g .n) && commitsRight s (g .n)
+    numbered (g .n) (word s ownAt) && leb (word s boxedAt) 1 && leb (word s turnsAt) (turnBound g) && roundsRight s (g .n) && commitsRight s (g .n)
 
 -- "wrong word count, stored settings or own number that opening would refuse (a stored ta of 255 too), ..": no such thing
 unfoldable pub isState : List ℕ → Bool

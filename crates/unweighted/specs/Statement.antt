@@ -14,29 +14,31 @@ use Rattle.opening.specs.Given.{weightsWord}
 use Rattle.opening.specs.Ones.{onesGiven}
 use Rattle.opening.specs.Opening.{openAnswer, opened}
 use Rattle.delivery.specs.Delivery.{deliverAnswer, delivered}
+use Rattle.recording.specs.Recording.{recordAnswer, recordedWords}
 use Rattle.turn.specs.Turn.{turnOutcome, turnWords, turnBytes}
 use Rattle.report.specs.Report.{reportAnswer, reportNamed, reportInForce}
-use Rattle.turn_bound.specs.TurnBound.{Arguments, answer, openedBy, Step, opening, delivery, turn, report, after}
+use Rattle.turn_bound.specs.TurnBound.{Arguments, answer, openedBy, Step, opening, delivery, turn, report, recording, after}
 use Rattle.unweighted.specs.Opening as unweighted-opening
 use Rattle.unweighted.specs.Delivery as unweighted-delivery
+use Rattle.unweighted.specs.Recording as unweighted-recording
 use Rattle.unweighted.specs.Turn as unweighted-turn
 use Rattle.unweighted.specs.Report as unweighted-report
 
 -- ---- an opening that is given n weights of 1
 
--- its answer, where the buffer has so many words, and so many coin words are given
+-- its answer, where the buffer has so many words; coins are printed or boxed
 unfoldable pub AnswersAlike : Type 0
 AnswersAlike =
-    (words n ta ts own coinWords : ℕ) →
-    openAnswer words n ta ts (weightsWord n (onesGiven n)) own coinWords ≡ unweighted-opening.openAnswer words n ta ts own coinWords
+    (words n ta ts own : ℕ) (coins : List ℕ) (boxed : ℕ) →
+    openAnswer words n ta ts (weightsWord n (onesGiven n)) own coins boxed ≡ unweighted-opening.openAnswer words n ta ts own coins boxed
 
 -- the words after it, on any words s
-pub record OpensAlike (s : List ℕ) (n ta ts own session input : ℕ) (coins : List ℕ) : Type 0 where
+pub record OpensAlike (s : List ℕ) (n ta ts own session input : ℕ) (coins : List ℕ) (boxed : ℕ) : Type 0 where
   -- accepted: the unweighted words but for the word of the weights
-  pub accepted : unweighted-opening.openAnswer (length s) n ta ts own (length coins) ≡ 0 → opened s n ta ts (weightsWord n (onesGiven n)) own session input coins ≡ put (unweighted-opening.opened s n ta ts own session input coins) weightsAt (2 ^ n - 1)
+  pub accepted : unweighted-opening.openAnswer (length s) n ta ts own coins boxed ≡ 0 → opened s n ta ts (weightsWord n (onesGiven n)) own session input coins boxed ≡ put (unweighted-opening.opened s n ta ts own session input coins boxed) weightsAt (2 ^ n - 1)
   -- refused: the words are untouched
-  pub refused : unweighted-opening.openAnswer (length s) n ta ts own (length coins) ≢ 0 → opened s n ta ts (weightsWord n (onesGiven n)) own session input coins ≡ s
-  pub unweighted-refused : unweighted-opening.openAnswer (length s) n ta ts own (length coins) ≢ 0 → unweighted-opening.opened s n ta ts own session input coins ≡ s
+  pub refused : unweighted-opening.openAnswer (length s) n ta ts own coins boxed ≢ 0 → opened s n ta ts (weightsWord n (onesGiven n)) own session input coins boxed ≡ s
+  pub unweighted-refused : unweighted-opening.openAnswer (length s) n ta ts own coins boxed ≢ 0 → unweighted-opening.opened s n ta ts own session input coins boxed ≡ s
 
 -- ---- the other calls, on words in which all weights are 1
 
@@ -44,10 +46,12 @@ pub record OpensAlike (s : List ℕ) (n ta ts own session input : ℕ) (coins : 
 unfoldable pub AllOne : List ℕ → Type 0
 AllOne s = (p : ℕ) → 1 ≤ p → p ≤ word s nAt → weightOf (word s weightsAt) p ≡ 1
 
--- every delivery, turn and report on the words s gives what the unweighted one gives: answer, words, lent bytes and lent words
+-- every delivery, recording, turn and report on the words s gives what the unweighted one gives: answer, words, lent bytes and lent words
 pub record Alike (s : List ℕ) : Type 0 where
   pub delivery-answer : (link : ℕ) (b : List ℕ) → deliverAnswer s link b ≡ unweighted-delivery.deliverAnswer s link b
   pub delivery-words : (link : ℕ) (b : List ℕ) → delivered s link b ≡ unweighted-delivery.delivered s link b
+  pub recording-answer : (i r b : ℕ) → recordAnswer s i r b ≡ unweighted-recording.recordAnswer s i r b
+  pub recording-words : (i r b : ℕ) → recordedWords s i r b ≡ unweighted-recording.recordedWords s i r b
   pub turn-outcome : (room : ℕ) → turnOutcome s room ≡ unweighted-turn.turnOutcome s room
   pub turn-words : (room : ℕ) → turnWords s room ≡ unweighted-turn.turnWords s room
   pub turn-bytes : (out : List ℕ) → turnBytes s out ≡ unweighted-turn.turnBytes s out
@@ -68,13 +72,14 @@ EachGivenOnes (opening o ∷ cs) = GivenOnes o × EachGivenOnes cs
 EachGivenOnes (delivery link b ∷ cs) = EachGivenOnes cs
 EachGivenOnes (turn out ∷ cs) = EachGivenOnes cs
 EachGivenOnes (report ∷ cs) = EachGivenOnes cs
+EachGivenOnes (recording i r b ∷ cs) = EachGivenOnes cs
 
 -- an unweighted opening takes the same arguments but the weights
 abbrev pub unweightedAnswer : List ℕ → Arguments → ℕ
-unweightedAnswer s o = unweighted-opening.openAnswer (length s) (o .n) (o .ta) (o .ts) (o .own) (length (o .coins))
+unweightedAnswer s o = unweighted-opening.openAnswer (length s) (o .n) (o .ta) (o .ts) (o .own) (o .coins) (o .boxed)
 
 abbrev pub unweightedOpenedBy : List ℕ → Arguments → List ℕ
-unweightedOpenedBy s o = unweighted-opening.opened s (o .n) (o .ta) (o .ts) (o .own) (o .session) (o .input) (o .coins)
+unweightedOpenedBy s o = unweighted-opening.opened s (o .n) (o .ta) (o .ts) (o .own) (o .session) (o .input) (o .coins) (o .boxed)
 
 -- the words after a list of calls of an unweighted session, newest first, on the words s; a report writes none of them
 unfoldable pub unweightedAfter : List ℕ → List Step → List ℕ
@@ -83,6 +88,7 @@ unweightedAfter s (opening o ∷ cs) = unweightedOpenedBy (unweightedAfter s cs)
 unweightedAfter s (delivery link b ∷ cs) = unweighted-delivery.delivered (unweightedAfter s cs) link b
 unweightedAfter s (turn out ∷ cs) = unweighted-turn.turnWords (unweightedAfter s cs) (length out)
 unweightedAfter s (report ∷ cs) = unweightedAfter s cs
+unweightedAfter s (recording i r b ∷ cs) = unweighted-recording.recordedWords (unweightedAfter s cs) i r b
 
 -- two runs side by side: w are the words of one with weights of 1, u those of the unweighted one
 pub record SideBySide (w u : List ℕ) : Type 0 where
@@ -94,6 +100,8 @@ pub record SideBySide (w u : List ℕ) : Type 0 where
   pub opening-answer : (o : Arguments) → GivenOnes o → answer w o ≡ unweightedAnswer u o
   -- a further delivery has the same answer
   pub delivery-answer : (link : ℕ) (b : List ℕ) → deliverAnswer w link b ≡ unweighted-delivery.deliverAnswer u link b
+  -- a further recording has the same answer
+  pub recording-answer : (i r b : ℕ) → recordAnswer w i r b ≡ unweighted-recording.recordAnswer u i r b
   -- a further turn has the same outcome ..
   pub turn-outcome : (room : ℕ) → turnOutcome w room ≡ unweighted-turn.turnOutcome u room
   -- .. and leaves the same bytes, those of its message among them
@@ -110,7 +118,7 @@ pub record Unweighted : Type 0 where
   -- an opening given weights of 1 has the unweighted answer ..
   pub openings-answer : AnswersAlike
   -- .. and leaves the unweighted words but for that of the weights, on any words, foreign ones too
-  pub openings : (s : List ℕ) (n ta ts own session input : ℕ) (coins : List ℕ) → OpensAlike s n ta ts own session input coins
+  pub openings : (s : List ℕ) (n ta ts own session input : ℕ) (coins : List ℕ) (boxed : ℕ) → OpensAlike s n ta ts own session input coins boxed
   -- every other call is the unweighted one on any words in which all weights are 1, foreign ones too
   pub calls : (s : List ℕ) → AllOne s → Alike s
   -- after an accepted opening of any words and every list of calls, further openings among them, each given weights of 1, the run

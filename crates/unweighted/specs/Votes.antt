@@ -5,7 +5,7 @@ use mathlib.Core.List.{List}
 use lib.Dec.{eqb, leb, ltb}
 use Rattle.settings.specs.Settings.{roundLimit}
 use Rattle.quorum.specs.Total.{count}
-use Rattle.records.specs.Records.{estHeld, auxHeld, round, estSent, auxSent, decidedOne}
+use Rattle.records.specs.Records.{estHeld, auxHeld, round, estSent, auxSent, coinKnown, decidedOne}
 use Rattle.acts.specs.Acts.{orAct, firstAct}
 use Rattle.acts.specs.declared.Act.{Act}
 use Rattle.acts.specs.declared.Act.the-variants.{Idle, Start, Relay, Aux, Move}
@@ -68,10 +68,10 @@ view g s i r a0 a1 = viewOf (a0 && ltb 0 (auxCount g s i r 0)) (a1 && ltb 0 (aux
 unfoldable pub moveValue : Settings → List ℕ → ℕ → ℕ → Bool → Bool → Act
 moveValue g s i r a0 a1 = cond (leb (voteQuorum g) (carriers g s i r a0 a1)) (Move i r (view g s i r a0 a1)) Idle
 
--- "Move, after the own AUX"
+-- "Move, after the own AUX"; "In a boxed session every move is due only once the host has recorded that round's bit in the state"
 unfoldable pub moveAct : Settings → List ℕ → ℕ → Act
 moveAct g s i =
-    cond (auxSent s i (round s i))
+    cond (auxSent s i (round s i) && coinKnown s i (round s i))
     (moveValue g s i (round s i) (accepted g s i (round s i) 0) (accepted g s i (round s i) 1))
     Idle
 

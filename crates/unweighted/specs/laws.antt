@@ -6,6 +6,7 @@ pub mod Commits
 pub mod Due
 pub mod Session
 pub mod Delivery
+pub mod Recording
 pub mod Turn
 pub mod Report
 pub mod Opening

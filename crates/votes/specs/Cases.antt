@@ -17,7 +17,7 @@ use Rattle.quorum.specs.Weights.{weightOf, weigh}
 use Rattle.quorum.specs.TotalLaws.{total-agree}
 use Rattle.records.specs.Layout.{voteAt, decidedOneAt}
 use Rattle.records.specs.Words.{word, marked}
-use Rattle.records.specs.Records.{estHeld, auxHeld, decidedOne, round, estSent, auxSent}
+use Rattle.records.specs.Records.{estHeld, auxHeld, decidedOne, round, estSent, auxSent, coinKnown}
 use Rattle.acts.specs.Acts.{isDue, orAct, firstAct}
 use Rattle.acts.specs.declared.Act.{Act}
 use Rattle.acts.specs.declared.Act.the-variants.{Idle, Start, Relay, Aux, Move}
@@ -125,13 +125,13 @@ module _ (g : Settings) (s : List ℕ) (i r : ℕ) (t : Bool) (e : r ≡ round s
   unfolding auxAct
   aux-now a h d = rw (← e, ← f, h) d
 
-  pub move-waits : t ≡ false → Idle ≡ moveAct g s i
+  pub move-waits : (k : Bool) → k ≡ coinKnown s i r → (t && k) ≡ false → Idle ≡ moveAct g s i
   unfolding moveAct
-  move-waits h = rw (← e, ← f, h)
+  move-waits k q h = rw (← e, ← f, ← q, h)
 
-  pub move-now : (a : Act) (a0 a1 : Bool) → t ≡ true → a0 ≡ accepted g s i r 0 → a1 ≡ accepted g s i r 1 → a ≡ moveValue g s i r a0 a1 → a ≡ moveAct g s i
+  pub move-now : (a : Act) (k : Bool) → k ≡ coinKnown s i r → (a0 a1 : Bool) → (t && k) ≡ true → a0 ≡ accepted g s i r 0 → a1 ≡ accepted g s i r 1 → a ≡ moveValue g s i r a0 a1 → a ≡ moveAct g s i
   unfolding moveAct
-  move-now a a0 a1 h z o d = rw (← e, ← f, h, ← z, ← o) d
+  move-now a k q a0 a1 h z o d = rw (← e, ← f, ← q, h, ← z, ← o) d
 
 pub ruleset auxes = (aux-zero, aux-one, aux-waits, aux-was-sent, aux-now)
 

@@ -1,6 +1,6 @@
 -- Each act that is due in a vote tells what the rules ask for it.
 use Prim.Native.Nat.{ℕ, min, _≤_}
-use mathlib.Core.Bool.{Bool, true, false, cond}
+use mathlib.Core.Bool.{Bool, true, false, _&&_, cond}
 use mathlib.Core.List.{List}
 use mathlib.Core.Path.{_≡_, refl, subst}
 use native.Mathlib.Omega.{arith}
@@ -13,7 +13,7 @@ use Rattle.settings.specs.Thresholds.{ruled-bounds}
 use Rattle.settings.specs.declared.Settings.{Settings}
 use Rattle.quorum.specs.Marks.{mark}
 use Rattle.quorum.specs.Whole.{weightsRight}
-use Rattle.records.specs.Records.{round, estSent, auxSent}
+use Rattle.records.specs.Records.{round, estSent, auxSent, coinKnown}
 use Rattle.acts.specs.Acts.{orAct}
 use Rattle.acts.specs.declared.Act.{Act}
 use Rattle.acts.specs.declared.Act.the-variants.{Idle, Start, Relay, Aux, Move}
@@ -75,7 +75,7 @@ module _ (g : Settings) (right : weightsRight (g .weights) (g .n) ≡ true) (s :
       abbrev one-accepted : Bool
       one-accepted = accepted g s i (round s i) 1
 
-      move-value-told : auxSent s i (round s i) ≡ true → P (moveValue g s i (round s i) zero-accepted one-accepted)
+      move-value-told : (auxSent s i (round s i) && coinKnown s i (round s i)) ≡ true → P (moveValue g s i (round s i) zero-accepted one-accepted)
       unfolding moveValue
       move-value-told e =
           all-cond P (leb (voteQuorum g) (carriers g s i (round s i) zero-accepted one-accepted))
@@ -90,7 +90,8 @@ module _ (g : Settings) (right : weightsRight (g .weights) (g .n) ≡ true) (s :
               current = refl;
               low = low;
               high = high;
-              sent = e;
+              sent = and-left (auxSent s i (round s i)) (coinKnown s i (round s i)) e;
+              known = and-right (auxSent s i (round s i)) (coinKnown s i (round s i)) e;
               enough = q;
               shown = view-shown g s i (round s i) right zero-accepted one-accepted refl refl some q;
             },
@@ -98,7 +99,7 @@ module _ (g : Settings) (right : weightsRight (g .weights) (g .n) ≡ true) (s :
 
       move-told : P (moveAct g s i)
       unfolding moveAct
-      move-told = all-cond P (auxSent s i (round s i)) (moveValue g s i (round s i) zero-accepted one-accepted) Idle move-value-told (λ e. tt)
+      move-told = all-cond P (auxSent s i (round s i) && coinKnown s i (round s i)) (moveValue g s i (round s i) zero-accepted one-accepted) Idle move-value-told (λ e. tt)
 
   module _ (some : 1 ≤ voteQuorum g) where
     round-told : P (roundAct g s i)

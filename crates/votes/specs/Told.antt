@@ -5,7 +5,7 @@ use mathlib.Core.List.{List}
 use mathlib.Core.Path.{_≡_}
 use Rattle.settings.specs.Settings.{voteQuorum, relay, roundLimit}
 use Rattle.settings.specs.declared.Settings.{Settings}
-use Rattle.records.specs.Records.{round, estSent, auxSent}
+use Rattle.records.specs.Records.{round, estSent, auxSent, coinKnown}
 use Rattle.acts.specs.declared.Act.{Act}
 use Rattle.acts.specs.declared.Act.the-variants.{Idle, InForce, Commit, Send, Echo, Ready, Start, Relay, Aux, Move}
 use Rattle.acts.specs.declared.View.{View}
@@ -61,6 +61,7 @@ pub record MoveTold (g : Settings) (s : List ℕ) (i r : ℕ) (v : View) : Type 
   pub low : 1 ≤ r
   pub high : r ≤ roundLimit
   pub sent : auxSent s i r ≡ true
+  pub known : coinKnown s i r ≡ true
   pub enough : voteQuorum g ≤ carriers g s i r (accepted g s i r 0) (accepted g s i r 1)
   pub shown : Shown g s i r v
 

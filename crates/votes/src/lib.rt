@@ -186,12 +186,12 @@ fn move_value(s: &[u64], g: Settings, i: u8, r: u8, a0: bool, a1: bool) -> Act
     Act::Idle
 }
 
-// The move of vote i, where it is due: after the own AUX.
+// The move of vote i, where it is due: after the own AUX, once the coin is known.
 pub fn move_act(s: &[u64], g: Settings, i: u8) -> Act
     ensures { λ a. ⌜ a ≡ moveAct g (now (s .entry)) i ⌝ }
 {
     let r = records::round(s, i);
-    if records::aux_sent(s, i, r) {
+    if records::aux_sent(s, i, r) & records::coin_known(s, i, r) {
         return move_value(s, g, i, r, accepted(s, g, i, r, 0), accepted(s, g, i, r, 1));
     }
     Act::Idle

@@ -1,18 +1,18 @@
-//! The five C functions of another engine, as an [`Engine`].
+//! The C functions of another engine on a state, as an [`Engine`].
 
 use std::ops::{Deref, DerefMut};
 
 use crate::attack::random::Random;
-use crate::engine::Engine;
+use crate::engine::{Coin, Engine};
 use crate::journal::LINE_BYTES;
 use crate::session::Opening;
 
-use calls::{pack_deliver, pack_open, pack_report, pack_restore, pack_turn};
+use calls::{pack_deliver, pack_open, pack_record, pack_report, pack_restore, pack_turn};
 
 /// "The state is a lent buffer of exactly 2,048 words of 64 bits."
 pub const STATE_WORDS: usize = 2_048;
 
-/// The five functions of `include/pack_agreement.h`.
+/// The functions of `include/pack_agreement.h` on a state.
 pub mod calls {
     extern "C" {
         pub fn pack_open(
@@ -28,6 +28,7 @@ pub mod calls {
             coin_words: usize,
             weights: *const u8,
             weight_count: usize,
+            boxed: u64,
             line: *mut u8,
             line_bytes: usize,
         ) -> u64;
@@ -63,6 +64,15 @@ pub mod calls {
             journal_bytes: usize,
             message: *mut u8,
             capacity: usize,
+        ) -> u64;
+        pub fn pack_record(
+            state: *mut u64,
+            words: usize,
+            vote: u64,
+            round: u64,
+            bit: u64,
+            line: *mut u8,
+            line_bytes: usize,
         ) -> u64;
     }
 }
@@ -125,7 +135,7 @@ pub fn words(own: &[u64]) -> Words {
 #[derive(Clone, Copy, Debug, Default)]
 pub struct CEngine;
 
-/// Panics unless all five calls answer 9 to states of other lengths and leave them, whatever else is wrong; each holds the
+/// Panics unless all calls answer 9 to states of other lengths and leave them, whatever else is wrong; each holds the
 /// front of an open one.
 pub fn check_word_counts(opening: &Opening) {
     let mut opened = CEngine.blank();
@@ -143,13 +153,15 @@ pub fn check_word_counts(opening: &Opening) {
             assert_eq!(CEngine.turn(state, &mut [], line), 9, "turn with {count} words");
             assert_eq!(CEngine.restore(state, &[], line), 9, "restore with {count} words");
             assert_eq!(CEngine.restore(state, journal, line), 9, "restore with {count} words");
+            let coin = Coin { vote: 1, round: 1, bit: lent as u64 };
+            assert_eq!(CEngine.record(state, coin, line), 9, "recording with {count} words");
         }
         assert_eq!(CEngine.report(state, &mut [], &mut []), 9, "report with {count} words");
     }
 }
 
 /// Makes a call on the state, and checks that a refusal leaves it as it was and that its guards stand.
-fn checked(state: &mut Words, call: impl FnOnce(*mut u64, usize) -> u64) -> u64 {
+pub(crate) fn checked(state: &mut Words, call: impl FnOnce(*mut u64, usize) -> u64) -> u64 {
     let before = state.clone();
     let answer = call(state.as_mut_ptr(), state.len());
     assert!(state.guarded(), "a call wrote beside the state");
@@ -175,7 +187,7 @@ fn lend<T: Copy + PartialEq>(
 }
 
 /// Lends a guarded copy of a buffer that the call only reads; an empty one as null.
-fn show<T: Copy + PartialEq>(
+pub(crate) fn show<T: Copy + PartialEq>(
     buffer: &[T],
     guard: T,
     call: impl FnOnce(*const T, usize) -> u64,
@@ -201,7 +213,7 @@ impl Engine for CEngine {
     }
 
     fn open(&self, state: &mut Words, opening: &Opening, line: &mut [u8]) -> u64 {
-        let Opening { n, ta, ts, own, session, input, coins, weights } = *opening;
+        let Opening { n, ta, ts, own, session, input, coins, weights, boxed } = *opening;
         let call = |state, words, coins, coin_words, weights, weight_count, line, line_bytes| unsafe {
             pack_open(
                 state,
@@ -216,6 +228,7 @@ impl Engine for CEngine {
                 coin_words,
                 weights,
                 weight_count,
+                boxed,
                 line,
                 line_bytes,
             )
@@ -271,6 +284,15 @@ impl Engine for CEngine {
                 lend(message, 0x5a, |bytes, capacity| unsafe {
                     pack_restore(words, count, journal, journal_bytes, bytes, capacity)
                 })
+            })
+        })
+    }
+
+    fn record(&self, state: &mut Words, coin: Coin, line: &mut [u8]) -> u64 {
+        let Coin { vote, round, bit } = coin;
+        checked(state, |words, count| {
+            lend(line, 0x5a, |line, line_bytes| unsafe {
+                pack_record(words, count, vote, round, bit, line, line_bytes)
             })
         })
     }

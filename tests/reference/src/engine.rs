@@ -6,7 +6,7 @@ use crate::packing::{pack_line, pack_report, pack_restore, pack_turn};
 use crate::refusal::Refusal;
 use crate::session::{Opening, Session};
 
-/// Opening, delivery, turn, report and restore on a state that only these calls write.
+/// Opening, delivery, turn, report, restore and recording on a state that only these calls write.
 pub trait Engine {
     type State;
 
@@ -19,6 +19,15 @@ pub trait Engine {
     fn turn(&self, state: &mut Self::State, message: &mut [u8], line: &mut [u8]) -> u64;
     fn report(&self, state: &Self::State, named: &mut [u64], in_force: &mut [u64]) -> u64;
     fn restore(&self, state: &mut Self::State, journal: &[u8], message: &mut [u8]) -> u64;
+    fn record(&self, state: &mut Self::State, coin: Coin, line: &mut [u8]) -> u64;
+}
+
+/// What a recording says: the bit of a vote in a round.
+#[derive(Clone, Copy, Debug, PartialEq, Eq)]
+pub struct Coin {
+    pub vote: u64,
+    pub round: u64,
+    pub bit: u64,
 }
 
 /// The engine of this package, with or without a fault.
@@ -69,6 +78,12 @@ impl Engine for Reference {
             *state = Some(restored.session);
         }
         number
+    }
+
+    fn record(&self, state: &mut Self::State, coin: Coin, line: &mut [u8]) -> u64 {
+        let Coin { vote, round, bit } = coin;
+        let session = state.as_mut().ok_or(Refusal::NoState);
+        pack_line(&session.and_then(|session| session.record_with_line(vote, round, bit, line)))
     }
 }
 
@@ -131,6 +146,14 @@ impl<A: Engine, B: Engine> Engine for Lockstep<A, B> {
         let second = self.second.restore(&mut state.1, journal, &mut copy);
         let text = || String::from_utf8_lossy(&journal[..journal.len().min(4_096)]).into_owned();
         assert_eq!((first, &*message), (second, &*copy), "restores of {:?} differ", text());
+        first
+    }
+
+    fn record(&self, state: &mut Self::State, coin: Coin, line: &mut [u8]) -> u64 {
+        let mut copy = line.to_vec();
+        let first = self.first.record(&mut state.0, coin, line);
+        let second = self.second.record(&mut state.1, coin, &mut copy);
+        assert_eq!((first, &*line), (second, &*copy), "recordings of {coin:?} differ");
         first
     }
 }

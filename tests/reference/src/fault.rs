@@ -1,5 +1,5 @@
-//! 01, "Faults seen in code of this trade", and two that weights bring (02, N11): built in on request, so that a test
-//! can show that it finds them.
+//! 01, "Faults seen in code of this trade", two that weights bring and one of boxed coins (02, N11 and N12):
+//! built in on request, so that a test can show that it finds them.
 
 /// A fault that a session is opened with. Everything but a test takes `None`.
 #[derive(Clone, Copy, Debug, Default, PartialEq, Eq)]
@@ -20,10 +20,12 @@ pub enum Fault {
     HeadMajority,
     /// Concentrators counted, whatever their weights, in all thresholds.
     Heads,
+    /// A move that does not wait for the recorded bit, and takes 0 for it.
+    UnrecordedCoin,
 }
 
 impl Fault {
-    pub const ALL: [Fault; 8] = [
+    pub const ALL: [Fault; 9] = [
         Fault::None,
         Fault::OpenVote,
         Fault::TaForTs,
@@ -32,6 +34,7 @@ impl Fault {
         Fault::UnacceptedAux,
         Fault::HeadMajority,
         Fault::Heads,
+        Fault::UnrecordedCoin,
     ];
 
     /// The name taken on a command line.
@@ -45,6 +48,7 @@ impl Fault {
             Fault::UnacceptedAux => "unaccepted-aux",
             Fault::HeadMajority => "head-majority",
             Fault::Heads => "heads",
+            Fault::UnrecordedCoin => "unrecorded-coin",
         }
     }
 

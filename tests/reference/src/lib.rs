@@ -1,10 +1,15 @@
-//! A second, independent implementation of the pack agreement engine (document 01, with N8, N10 and N11 of document 02), as a
-//! check on the proved one. Each module follows one section of document 01, or one request of 02.
+//! A second, independent implementation of the pack agreement engine (document 01, with N8 and N10 to N12 of document 02), as
+//! a check on the proved one. Each module follows one section of document 01, or one request of 02.
 
 pub mod attack;
+pub mod box_engine;
 mod broadcasts;
 #[cfg(feature = "c-engine")]
+pub mod c_box;
+#[cfg(feature = "c-engine")]
 pub mod c_engine;
+pub mod coin_box;
+mod coins;
 mod commits;
 pub mod compare;
 pub mod drill;

@@ -1,6 +1,7 @@
 //! Answers as single 64-bit numbers, as the C functions of the proved engine give them.
 //! Bits 0-7 hold the refusal, and 0 if the call was accepted.
 
+use crate::coin_box::Reply;
 use crate::exits::Exit;
 use crate::journal::{NotRestored, Restored};
 use crate::message::{Message, HEAD};
@@ -8,7 +9,7 @@ use crate::refusal::Refusal;
 use crate::report::Report;
 use crate::session::Outcome;
 
-/// An opening or a delivery: bits 16-31 the length of its line.
+/// An opening, a delivery or a recording: bits 16-31 the length of its line.
 pub fn pack_line(answer: &Result<usize, Refusal>) -> u64 {
     match answer {
         Ok(length) => (*length as u64) << 16,
@@ -56,6 +57,31 @@ pub fn pack_restore(answer: &Result<Restored, NotRestored>) -> u64 {
         }
         Err(NotRestored::Short) => u64::from(Refusal::Short.number()),
         Err(NotRestored::Journal { line }) => u64::from(Refusal::Journal.number()) | line << 8,
+    }
+}
+
+/// The opening of a box: the refusal alone.
+pub fn pack_box_opening(answer: &Result<(), Refusal>) -> u64 {
+    answer.err().map_or(0, |refusal| u64::from(refusal.number()))
+}
+
+/// A request to a box: bits 8-15 are 0 for sealed and 1 for a bit, which stands in bits 16-23.
+pub fn pack_request(answer: &Result<Reply, Refusal>) -> u64 {
+    match answer {
+        Ok(Reply::Sealed) => 0,
+        Ok(Reply::Bit(bit)) => 1 << 8 | u64::from(*bit) << 16,
+        Err(refusal) => u64::from(refusal.number()),
+    }
+}
+
+/// Reads the answer to a request; `None` if no request answers so.
+pub fn unpack_request(answer: u64) -> Option<Result<Reply, Refusal>> {
+    match answer {
+        0 => Some(Ok(Reply::Sealed)),
+        0x100 => Some(Ok(Reply::Bit(false))),
+        0x1_0100 => Some(Ok(Reply::Bit(true))),
+        16 => Some(Err(Refusal::Coin)),
+        _ => None,
     }
 }
 

@@ -19,10 +19,12 @@ pub enum Refusal {
     Held = 11,
     /// 02, N10.
     Journal = 15,
+    /// 02, N12.
+    Coin = 16,
 }
 
 impl Refusal {
-    pub const ALL: [Refusal; 12] = [
+    pub const ALL: [Refusal; 13] = [
         Refusal::Settings,
         Refusal::Length,
         Refusal::Kind,
@@ -35,6 +37,7 @@ impl Refusal {
         Refusal::Closed,
         Refusal::Held,
         Refusal::Journal,
+        Refusal::Coin,
     ];
 
     /// The published number.
@@ -61,6 +64,7 @@ impl Refusal {
             Refusal::Closed => "CLOSED",
             Refusal::Held => "HELD",
             Refusal::Journal => "JOURNAL",
+            Refusal::Coin => "COIN",
         }
     }
 }

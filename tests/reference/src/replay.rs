@@ -2,7 +2,7 @@
 //! tabs; the answer stands last:
 //!
 //! - `O` n ta ts own session input coins **refusal**: input in hexadecimal, coins in hexadecimal parted by commas; all
-//!   weights are 1;
+//!   weights are 1, and coins are printed;
 //! - `D` link bytes **refusal**: bytes in hexadecimal;
 //! - `T` bytes-lent **refusal outcome message**: outcome 0 idle, 1 sent, 2 moved out of round 32, 3 in force; the message
 //!   in hexadecimal.
@@ -72,6 +72,7 @@ fn open(
         input: u64::from_str_radix(input, 16).ok()?,
         coins: &coins,
         weights: Settings::ones(n?),
+        boxed: 0,
     };
     Some(refusal_of(Session::open(&opening).map(|opened| *session = Some(opened))))
 }

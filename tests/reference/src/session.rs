@@ -2,6 +2,7 @@
 
 use std::collections::{BTreeMap, BTreeSet};
 
+use crate::coins::Coins;
 use crate::fault::Fault;
 use crate::message::{Message, LONGEST};
 use crate::records::Records;
@@ -20,6 +21,8 @@ pub struct Opening<'a> {
     pub input: u64,
     pub coins: &'a [u32],
     pub weights: &'a [u8],
+    /// 0 for printed coins, 1 for boxed ones.
+    pub boxed: u64,
 }
 
 /// What a turn answers.
@@ -38,7 +41,7 @@ pub struct Session {
     pub(crate) own: Number,
     pub(crate) session: u32,
     pub(crate) input: u64,
-    pub(crate) coins: Vec<u32>,
+    pub(crate) coins: Coins,
     pub(crate) records: Records,
     pub(crate) send_sent: bool,
     pub(crate) echoes_sent: BTreeSet<Number>,
@@ -59,15 +62,13 @@ impl Session {
     pub fn open_with(opening: &Opening, fault: Fault) -> Result<Session, Refusal> {
         let settings = Settings::new(opening.n, opening.ta, opening.ts, opening.weights)?;
         let own = settings.number(opening.own).ok_or(Refusal::Settings)?;
-        if opening.coins.len() != usize::from(settings.n()) {
-            return Err(Refusal::Settings);
-        }
+        let coins = Coins::given(&settings, opening.coins, opening.boxed)?;
         Ok(Session {
             settings: settings.with_fault(fault),
             own,
             session: opening.session,
             input: opening.input,
-            coins: opening.coins.to_vec(),
+            coins,
             records: Records::default(),
             send_sent: false,
             echoes_sent: BTreeSet::new(),

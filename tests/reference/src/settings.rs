@@ -93,6 +93,11 @@ impl Settings {
         self.numbers().find(|&number| u64::from(number) == given)
     }
 
+    /// A round given from outside, if it is one in which a vote sends.
+    pub fn round(given: u64) -> Option<Round> {
+        (1..=Self::ROUND_LIMIT).find(|&round| u64::from(round) == given)
+    }
+
     /// The weights of 1 to n.
     pub fn weights(&self) -> &[u8] {
         &self.weights[..usize::from(self.n)]

@@ -92,7 +92,8 @@ impl Session {
         Some(Message::Aux { instance, round, value })
     }
 
-    /// Move, after the own AUX: when held AUXs of at least W−ta carry accepted values.
+    /// Move, after the own AUX: when held AUXs of at least W−ta carry accepted values. N12: "In a boxed session every move
+    /// is due only once the host has recorded that round's bit".
     fn move_on(&mut self, instance: Number) -> Option<Outcome> {
         let round = self.vote(instance).open_round()?;
         if !self.vote(instance).aux_sent {
@@ -103,7 +104,7 @@ impl Session {
         if weight < self.settings.vote_quorum() {
             return None;
         }
-        let coin = self.coin(instance, round);
+        let coin = self.coin(instance, round)?;
         let estimate = match only_value(&carried) {
             Some(value) => {
                 self.decide(instance, value, coin);
@@ -150,10 +151,10 @@ impl Session {
         self.settings.weight(self.records.est_senders(instance, round, value))
     }
 
-    /// "Bit r−1 of word i, lowest bit 0, is the coin of vote i in round r."
-    fn coin(&self, instance: Number, round: Round) -> bool {
-        let word = self.coins[usize::from(instance) - 1];
-        word >> (round - 1) & 1 == 1
+    /// `None` where a boxed session still waits for it.
+    fn coin(&self, instance: Number, round: Round) -> Option<bool> {
+        let unrecorded = (self.fault == Fault::UnrecordedCoin).then_some(false);
+        self.coins.coin(instance, round).or(unrecorded)
     }
 
     /// s, the weight of the votes decided 1.

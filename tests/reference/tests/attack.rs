@@ -1,25 +1,33 @@
 //! The attack holds against the sound engine and finds each fault.
 
-use pack_reference::attack::{attack, run_feeder, Journals, Violation};
+use pack_reference::attack::{attack, run_feeder, Conditions, Violation};
 use pack_reference::compare::random_calls;
 use pack_reference::engine::{Lockstep, Reference};
 use pack_reference::{Fault, Refusal};
 
-const SEED: u64 = 6;
-const FEEDERS: u64 = 60;
+const SEED: u64 = 3;
+const FEEDERS: u64 = 300;
 
 #[test]
 fn sound_engine_holds() {
-    let (statistics, finding) = attack(&Reference::default(), Journals::Kept, SEED, FEEDERS);
+    let (statistics, finding) = attack(&Reference::default(), Conditions::Met, SEED, FEEDERS);
     assert!(finding.is_none(), "{}", finding.unwrap());
     assert!(statistics.exits.iter().all(|&seen| seen > 0), "{statistics}");
     assert!(statistics.closed > 0);
     assert!(statistics.restores > 0 && statistics.lost_lines > 0, "{statistics}");
+    assert!(statistics.boxed > 0 && statistics.recordings > 0, "{statistics}");
 }
 
 #[test]
 fn lost_lines_of_messages_that_left_are_found() {
-    let (_, finding) = attack(&Reference::default(), Journals::Lost, SEED, FEEDERS);
+    let (_, finding) = attack(&Reference::default(), Conditions::LostLines, SEED, FEEDERS);
+    let violation = finding.map(|finding| finding.violation);
+    assert!(matches!(violation, Some(Violation::TwoSets { .. })), "{violation:?}");
+}
+
+#[test]
+fn recorded_bits_that_differ_are_found() {
+    let (_, finding) = attack(&Reference::default(), Conditions::OtherBits, SEED, FEEDERS);
     let violation = finding.map(|finding| finding.violation);
     assert!(matches!(violation, Some(Violation::TwoSets { .. })), "{violation:?}");
 }
@@ -28,9 +36,9 @@ fn lost_lines_of_messages_that_left_are_found() {
 fn each_fault_is_found_and_repeats() {
     for fault in Fault::ALL.into_iter().filter(|&fault| fault != Fault::None) {
         let engine = Reference { fault };
-        let (_, finding) = attack(&engine, Journals::Kept, SEED, FEEDERS);
+        let (_, finding) = attack(&engine, Conditions::Met, SEED, FEEDERS);
         let finding = finding.unwrap_or_else(|| panic!("{} was not found", fault.name()));
-        let (_, again) = run_feeder(&engine, Journals::Kept, finding.seed);
+        let (_, again) = run_feeder(&engine, Conditions::Met, finding.seed);
         assert_eq!(again, Err(finding.violation));
     }
 }
@@ -48,7 +56,7 @@ fn lockstep_notices_each_fault() {
     for fault in Fault::ALL.into_iter().filter(|&fault| fault != Fault::None) {
         let engine = Lockstep { first: Reference::default(), second: Reference { fault } };
         let noticed =
-            std::panic::catch_unwind(|| attack(&engine, Journals::Kept, SEED, FEEDERS)).is_err();
+            std::panic::catch_unwind(|| attack(&engine, Conditions::Met, SEED, FEEDERS)).is_err();
         assert!(noticed, "{}", fault.name());
     }
 }

@@ -15,9 +15,10 @@ const OPENING: Opening = Opening {
     input: 0xabc,
     coins: &[0xf, 0x8000_0000],
     weights: &[1, 4],
+    boxed: 0,
 };
 const OPENING_LINE: &str =
-    "O\t1\t2\t255\t0\t2\t4294967295\t0000000000000abc\t0000000f\t80000000\t1\t4\n";
+    "O\t1\t2\t255\t0\t2\t4294967295\t0000000000000abc\t0000000f\t80000000\t1\t4\t0\n";
 
 fn restored(journal: &str) -> Result<Restored, NotRestored> {
     restore(journal.as_bytes(), &mut [0; 140], Fault::None)
@@ -193,6 +194,12 @@ fn opening_lines_of_the_wrong_form() {
         (11, "260"),
         (11, "4\t1"),
         (11, "04"),
+        (12, "2"),
+        (12, "00"),
+        (12, ""),
+        (12, "0\t0"),
+        // Boxed, and coin words that are not 0.
+        (12, "1"),
     ];
     assert_eq!(refused_at(OPENING_LINE), None);
     for (place, other) in wrong {
@@ -203,11 +210,11 @@ fn opening_lines_of_the_wrong_form() {
 
 #[test]
 fn an_opening_line_without_weights() {
-    let line = OPENING_LINE.replace("\t1\t4\n", "\n");
+    let line = OPENING_LINE.replace("\t1\t4\t0\n", "\n");
     let given = restored(&line).unwrap().session;
     assert_eq!(given, Session::open(&Opening { weights: &[1, 1], ..OPENING }).unwrap());
     assert_eq!(Line::read(line.trim_end().as_bytes()), {
-        let weighted = OPENING_LINE.replace("\t1\t4\n", "\t1\t1");
+        let weighted = OPENING_LINE.replace("\t1\t4\t0\n", "\t1\t1\t0");
         Line::read(weighted.as_bytes())
     });
 }

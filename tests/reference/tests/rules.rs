@@ -51,7 +51,7 @@ fn faults_change_their_rows() {
 
 fn opening(n: u64, ta: u64, ts: u64, own: u64, coins: &[u32]) -> Opening<'_> {
     let weights = Settings::ones(n);
-    Opening { n, ta, ts, own, session: SESSION, input: 5, coins, weights }
+    Opening { n, ta, ts, own, session: SESSION, input: 5, coins, weights, boxed: 0 }
 }
 
 fn open(n: u64, ta: u64, ts: u64) -> Result<Session, Refusal> {

@@ -13,7 +13,8 @@ const SESSION: u32 = 7;
 /// Concentrator n of n, with input 9.
 fn open(n: u64, ta: u64, ts: u64, weights: &[u8]) -> Result<Session, Refusal> {
     let coins = &vec![0; n as usize][..];
-    Session::open(&Opening { n, ta, ts, own: n, session: SESSION, input: 9, coins, weights })
+    let (own, session, input, boxed) = (n, SESSION, 9, 0);
+    Session::open(&Opening { n, ta, ts, own, session, input, coins, weights, boxed })
 }
 
 #[test]

@@ -19,6 +19,9 @@ numbered-requires c κs = search needs
 returns-3 : tie.Need-returns-3
 returns-3 c = search open-cases
 
+coins-given-requires : tie.Need-coins-given-requires
+coins-given-requires c κs = search needs
+
 returns-4 : tie.Need-returns-4
 returns-4 c = search open-cases
 
@@ -34,5 +37,6 @@ open-answer-spec =
     returns-2
     numbered-requires
     returns-3
+    coins-given-requires
     returns-4
     returns-5)

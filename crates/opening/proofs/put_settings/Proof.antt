@@ -1,4 +1,4 @@
--- Six words in their order.
+-- Eight words in their order.
 use Rattle.opening.specs.Opening.{withSettings}
 use borrow.Author.Needs.{needs}
 use Rattle.opening.proofs.put_settings.Statement.{statement}
@@ -25,6 +25,9 @@ put-requires-6 c κs = search needs
 put-requires-7 : tie.Need-put-requires-7
 put-requires-7 c κs = search needs
 
+put-requires-8 : tie.Need-put-requires-8
+put-requires-8 c κs = search needs
+
 same-length : tie.Need-same-length
 same-length c = search needs
 
@@ -43,5 +46,6 @@ put-settings-spec =
     put-requires-5
     put-requires-6
     put-requires-7
+    put-requires-8
     same-length
     returns)

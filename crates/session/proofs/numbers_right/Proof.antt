@@ -16,14 +16,20 @@ numbered-requires c κs = search needs
 returns : tie.Need-returns
 returns c = search number-cases
 
-turn-bound-requires : tie.Need-turn-bound-requires
-turn-bound-requires c κs = search needs
-
 word-requires-2 : tie.Need-word-requires-2
 word-requires-2 c κs = search needs
 
 returns-2 : tie.Need-returns-2
 returns-2 c = search number-cases
+
+turn-bound-requires : tie.Need-turn-bound-requires
+turn-bound-requires c κs = search needs
+
+word-requires-3 : tie.Need-word-requires-3
+word-requires-3 c κs = search needs
+
+returns-3 : tie.Need-returns-3
+returns-3 c = search number-cases
 
 cast-all-limited : tie.Need-cast-all-limited
 cast-all-limited c = search needs
@@ -31,8 +37,8 @@ cast-all-limited c = search needs
 all-limited-requires : tie.Need-all-limited-requires
 all-limited-requires c κs = search needs
 
-returns-3 : tie.Need-returns-3
-returns-3 c = search number-cases
+returns-4 : tie.Need-returns-4
+returns-4 c = search number-cases
 
 cast-all-limited-2 : tie.Need-cast-all-limited-2
 cast-all-limited-2 c = search needs
@@ -43,8 +49,8 @@ cast-all-limited-3 c = search needs
 all-limited-requires-2 : tie.Need-all-limited-requires-2
 all-limited-requires-2 c κs = search needs
 
-returns-4 : tie.Need-returns-4
-returns-4 c = search number-cases
+returns-5 : tie.Need-returns-5
+returns-5 c = search number-cases
 
 pub numbers-right-spec : {M : Type 1} → statement M
 numbers-right-spec =
@@ -54,13 +60,15 @@ numbers-right-spec =
     word-requires
     numbered-requires
     returns
-    turn-bound-requires
     word-requires-2
     returns-2
+    turn-bound-requires
+    word-requires-3
+    returns-3
     cast-all-limited
     all-limited-requires
-    returns-3
+    returns-4
     cast-all-limited-2
     cast-all-limited-3
     all-limited-requires-2
-    returns-4)
+    returns-5)

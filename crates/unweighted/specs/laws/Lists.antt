@@ -10,11 +10,12 @@ use Rattle.settings.specs.Laws.{Ruled}
 use Rattle.settings.specs.declared.Settings.{Settings}
 use Rattle.session.specs.Session.{settingsOf}
 use Rattle.opening.specs.Given.{weightsWord}
-use Rattle.turn_bound.specs.TurnBound.{Arguments, answer, openedBy, settingsBy, Step, opening, delivery, turn, report, after, current}
+use Rattle.turn_bound.specs.TurnBound.{Arguments, answer, openedBy, settingsBy, Step, opening, delivery, turn, report, recording, after, current}
 use Rattle.turn_bound.specs.Count.{opening-going, going}
 use Rattle.unweighted.specs.Statement.{AllOne, Alike, GivenOnes, EachGivenOnes, AnswersAlike, Unweighted}
 use Rattle.unweighted.specs.laws.Counts.{Ones, whole-count}
 use Rattle.unweighted.specs.laws.Delivery.{deliver-answer-same, delivered-same}
+use Rattle.unweighted.specs.laws.Recording.{record-answer-same, recorded-same}
 use Rattle.unweighted.specs.laws.Turn.{turn-outcome-same, turn-words-same, turn-bytes-same}
 use Rattle.unweighted.specs.laws.Report.{report-answer-same, report-named-same, report-in-force-same}
 use Rattle.unweighted.specs.laws.Opening.{each-one, answer-same, opens-same}
@@ -39,6 +40,7 @@ current-ones g s one (opening o ∷ cs) h = at (eqb (answer (after s cs) o) 0) r
 current-ones g s one (delivery link b ∷ cs) h = current-ones g s one cs h
 current-ones g s one (turn out ∷ cs) h = current-ones g s one cs h
 current-ones g s one (report ∷ cs) h = current-ones g s one cs h
+current-ones g s one (recording i r b ∷ cs) h = current-ones g s one cs h
 
 stored-one : (s : List ℕ) → Ones (settingsOf s) → AllOne s
 unfolding AllOne settingsOf
@@ -55,6 +57,8 @@ alike s all =
     record {
       delivery-answer = deliver-answer-same s all;
       delivery-words = delivered-same s all;
+      recording-answer = record-answer-same s all;
+      recording-words = recorded-same s all;
       turn-outcome = turn-outcome-same s all;
       turn-words = turn-words-same s all;
       turn-bytes = turn-bytes-same s all;
@@ -71,7 +75,7 @@ pub all-ones : Unweighted
 all-ones =
     record {
       openings-answer = answers-alike;
-      openings = λ s n ta ts own session input coins. opens-same n ta ts own session input coins s;
+      openings = λ s n ta ts own session input coins boxed. opens-same n ta ts own session input coins boxed s;
       calls = alike;
       runs = λ s o e h cs hs. runs s o e h cs hs (kept s o e h);
     }

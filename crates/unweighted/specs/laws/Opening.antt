@@ -12,7 +12,7 @@ use Rattle.quorum.specs.Weights.{weightOf}
 use Rattle.quorum.specs.Whole.{ones-weight}
 use Rattle.settings.specs.Laws.{valid-rules}
 use Rattle.settings.specs.Settings as weighted-settings
-use Rattle.records.specs.Layout.{weightsAt, coinAt}
+use Rattle.records.specs.Layout.{weightsAt, boxedAt, coinAt}
 use Rattle.records.specs.Words.{put}
 use Rattle.records.specs.Fill.{storeOf}
 use Rattle.opening.specs.Given.{item, weightsWord}
@@ -46,45 +46,52 @@ ones-valid n ta ts = at (decLe 1 n) (decLe n 16)
     at (yes some) (no few) = rw (lt-leb n 16 (omega arith), le-leb 1 n some)
     at (no some) d = rw (lt-leb 1 n (omega arith))
 
-pub answer-same : (words n ta ts own coinWords : ℕ) → weighted.openAnswer words n ta ts (onesWord n) own coinWords ≡ openAnswer words n ta ts own coinWords
+pub answer-same : (words n ta ts own : ℕ) (coins : List ℕ) (boxed : ℕ) → weighted.openAnswer words n ta ts (onesWord n) own coins boxed ≡ openAnswer words n ta ts own coins boxed
 unfolding weighted.openAnswer openAnswer
-answer-same words n ta ts own coinWords = rw (ones-valid n ta ts)
+answer-same words n ta ts own coins boxed = rw (ones-valid n ta ts)
+
+pub put-swap : (s : List ℕ) (k j v w : ℕ) → k ≢ j → put (put s k v) j w ≡ put (put s j w) k v
+unfolding put
+put-swap s k j v w ne = set-comm s k j v w ne
 
 -- a run of stores beside a word that is put
 pub store-put : (f : ℕ → ℕ) (a : ℕ) (s : List ℕ) (k v n : ℕ) → ((j : ℕ) → 1 ≤ j → j ≤ n → k ≢ a + j) → storeOf f a (put s k v) n ≡ put (storeOf f a s n) k v
-unfolding storeOf put
+unfolding storeOf
 store-put f a s k v zero h = refl
 store-put f a s k v (suc n) h =
     ap (λ (t : List ℕ). put t (a + suc n) (f (suc n))) (store-put f a s k v n (λ j lo hi. h j lo (omega arith)))
-    ∙ set-comm (storeOf f a s n) k (a + suc n) v (f (suc n)) (h (suc n) (omega arith) (omega arith))
+    ∙ put-swap (storeOf f a s n) k (a + suc n) v (f (suc n)) (h (suc n) (omega arith) (omega arith))
 
-module _ (n ta ts own session input : ℕ) (coins : List ℕ) where
-  words-same : 1 ≤ n → n ≤ 16 → weighted.openWords n ta ts (onesWord n) own session input coins ≡ put (openWords n ta ts own session input coins) weightsAt (onesWord n)
+module _ (n ta ts own session input : ℕ) (coins : List ℕ) (boxed : ℕ) where
+  words-same : 1 ≤ n → n ≤ 16 → weighted.openWords n ta ts (onesWord n) own session input coins boxed ≡ put (openWords n ta ts own session input coins boxed) weightsAt (onesWord n)
   unfolding weighted.openWords weighted.withSettings withCoins openWords withSettings
-  words-same some few = rw (ones-named n ta ts some few) (store-put (item coins) (coinAt 0) _ weightsAt (onesWord n) n (λ j lo hi z. omega arith))
+  words-same some few =
+      rw (ones-named n ta ts some few)
+      (ap (λ (t : List ℕ). storeOf (item coins) (coinAt 0) t n) (put-swap _ weightsAt boxedAt (onesWord n) boxed (λ z. omega arith))
+      ∙ store-put (item coins) (coinAt 0) _ weightsAt (onesWord n) n (λ j lo hi z. omega arith))
 
   module _ (s : List ℕ) where
-    pub accepted-few : openAnswer (length s) n ta ts own (length coins) ≡ 0 → (1 ≤ n) × (n ≤ 16)
+    pub accepted-few : openAnswer (length s) n ta ts own coins boxed ≡ 0 → (1 ≤ n) × (n ≤ 16)
     accepted-few e =
-        let same = answer-same (length s) n ta ts own (length coins) in
-        let r = valid-rules n (weighted-settings.namedTa n ta ts (onesWord n)) ts (onesWord n) (weighted-cases.accepted (length s) n ta ts (onesWord n) own (length coins) (same ∙ e) .valid) in
+        let same = answer-same (length s) n ta ts own coins boxed in
+        let r = valid-rules n (weighted-settings.namedTa n ta ts (onesWord n)) ts (onesWord n) (weighted-cases.accepted (length s) n ta ts (onesWord n) own coins boxed (same ∙ e) .valid) in
         (r .some, r .few)
 
-    opened-accepted : openAnswer (length s) n ta ts own (length coins) ≡ 0 → weighted.opened s n ta ts (onesWord n) own session input coins ≡ put (opened s n ta ts own session input coins) weightsAt (2 ^ n - 1)
+    opened-accepted : openAnswer (length s) n ta ts own coins boxed ≡ 0 → weighted.opened s n ta ts (onesWord n) own session input coins boxed ≡ put (opened s n ta ts own session input coins boxed) weightsAt (2 ^ n - 1)
     unfolding weighted.opened opened
     opened-accepted e =
         let few = accepted-few e in
-        rw (answer-same (length s) n ta ts own (length coins), eq-eqb (openAnswer (length s) n ta ts own (length coins)) 0 e)
-        (words-same (few .0) (few .1) ∙ ap (put (openWords n ta ts own session input coins) weightsAt) (ones-word n (few .0) (few .1)))
+        rw (answer-same (length s) n ta ts own coins boxed, eq-eqb (openAnswer (length s) n ta ts own coins boxed) 0 e)
+        (words-same (few .0) (few .1) ∙ ap (put (openWords n ta ts own session input coins boxed) weightsAt) (ones-word n (few .0) (few .1)))
 
-    opened-refused : openAnswer (length s) n ta ts own (length coins) ≢ 0 → weighted.opened s n ta ts (onesWord n) own session input coins ≡ s
+    opened-refused : openAnswer (length s) n ta ts own coins boxed ≢ 0 → weighted.opened s n ta ts (onesWord n) own session input coins boxed ≡ s
     unfolding weighted.opened
     opened-refused ne =
-        rw (answer-same (length s) n ta ts own (length coins), ne-eqb (openAnswer (length s) n ta ts own (length coins)) 0 ne)
+        rw (answer-same (length s) n ta ts own coins boxed, ne-eqb (openAnswer (length s) n ta ts own coins boxed) 0 ne)
 
-    both-refused : openAnswer (length s) n ta ts own (length coins) ≢ 0 → opened s n ta ts own session input coins ≡ s
+    both-refused : openAnswer (length s) n ta ts own coins boxed ≢ 0 → opened s n ta ts own session input coins boxed ≡ s
     unfolding opened
-    both-refused ne = rw (ne-eqb (openAnswer (length s) n ta ts own (length coins)) 0 ne)
+    both-refused ne = rw (ne-eqb (openAnswer (length s) n ta ts own coins boxed) 0 ne)
 
-    pub opens-same : OpensAlike s n ta ts own session input coins
+    pub opens-same : OpensAlike s n ta ts own session input coins boxed
     opens-same = record { accepted = opened-accepted; refused = opened-refused; unweighted-refused = both-refused }

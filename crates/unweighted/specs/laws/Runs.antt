@@ -7,25 +7,28 @@ use native.Mathlib.Decide.{ℕ-discrete}
 use lib.ListN.{length}
 use lib.Seq.{set-set, set-getD}
 use borrow.Author.Tests.{eq-eqb}
-use Rattle.records.specs.Layout.{stateWords, nAt, taAt, tsAt, ownAt, sessionAt, inputAt, weightsAt, coinAt}
+use Rattle.records.specs.Layout.{stateWords, nAt, taAt, tsAt, ownAt, sessionAt, inputAt, weightsAt, boxedAt, coinAt}
 use Rattle.records.specs.Words.{word, put, length-put, word-put-other}
 use Rattle.records.specs.Fill.{word-blank, store-other}
 use Rattle.opening.specs.Given.{item, weightsWord}
 use Rattle.opening.specs.Ones.{onesGiven}
 use Rattle.opening.specs.Opening.{withCoins}
 use Rattle.opening.specs.Opening as weighted-opening
-use Rattle.turn_bound.specs.TurnBound.{Arguments, answer, openedBy, Step, opening, delivery, turn, report, after}
+use Rattle.turn_bound.specs.TurnBound.{Arguments, answer, openedBy, Step, opening, delivery, turn, report, recording, after}
 use Rattle.unweighted.specs.Settings.{namedTa}
 use Rattle.unweighted.specs.Opening.{openAnswer, withSettings, openWords, opened}
 use Rattle.unweighted.specs.Delivery.{deliverAnswer, delivered}
+use Rattle.unweighted.specs.Recording.{recordAnswer, recordedWords}
 use Rattle.unweighted.specs.Turn.{turnOutcome, turnWords, turnBytes}
 use Rattle.unweighted.specs.Report.{reportAnswer, reportNamed, reportInForce}
 use Rattle.unweighted.specs.Statement.{AllOne, GivenOnes, EachGivenOnes, OpensAlike, unweightedAnswer, unweightedOpenedBy, unweightedAfter, SideBySide}
 use Rattle.unweighted.specs.laws.Opening.{answer-same, opens-same, accepted-few}
 use Rattle.unweighted.specs.laws.Delivery.{deliver-answer-same, delivered-same}
+use Rattle.unweighted.specs.laws.Recording.{record-answer-same, recorded-same}
 use Rattle.unweighted.specs.laws.Turn.{turn-outcome-same, turn-words-same, turn-bytes-same}
 use Rattle.unweighted.specs.laws.Report.{report-answer-same, report-named-same, report-in-force-same}
 use Rattle.unweighted.specs.laws.apart.Delivery.{deliver-answer-apart, delivered-apart}
+use Rattle.unweighted.specs.laws.apart.Recording.{record-answer-apart, recorded-apart}
 use Rattle.unweighted.specs.laws.apart.Turn.{turn-outcome-apart, turn-words-apart, turn-bytes-apart}
 use Rattle.unweighted.specs.laws.apart.Report.{report-answer-apart, report-named-apart, report-in-force-apart}
 
@@ -41,10 +44,11 @@ put-word s k v e = ap (put s k) (sym e) ∙ set-getD s k 0
 
 module _ (o : Arguments) where
   -- an unweighted opening leaves 0 in the word of the weights
-  words-zero : o .n ≤ 16 → word (openWords (o .n) (o .ta) (o .ts) (o .own) (o .session) (o .input) (o .coins)) weightsAt ≡ 0
+  words-zero : o .n ≤ 16 → word (openWords (o .n) (o .ta) (o .ts) (o .own) (o .session) (o .input) (o .coins) (o .boxed)) weightsAt ≡ 0
   unfolding openWords withSettings withCoins
   words-zero few =
       store-other (item (o .coins)) (coinAt 0) _ (o .n) weightsAt (λ j lo hi z. omega arith)
+      ∙ word-put-other _ boxedAt (o .boxed) weightsAt (λ z. omega arith)
       ∙ word-put-other _ inputAt (o .input) weightsAt (λ z. omega arith)
       ∙ word-put-other _ sessionAt (o .session) weightsAt (λ z. omega arith)
       ∙ word-put-other _ ownAt (o .own) weightsAt (λ z. omega arith)
@@ -54,33 +58,33 @@ module _ (o : Arguments) where
       ∙ word-blank stateWords weightsAt (omega arith)
 
   -- accepted, it sets all words
-  opened-all : (s : List ℕ) → unweightedAnswer s o ≡ 0 → unweightedOpenedBy s o ≡ openWords (o .n) (o .ta) (o .ts) (o .own) (o .session) (o .input) (o .coins)
+  opened-all : (s : List ℕ) → unweightedAnswer s o ≡ 0 → unweightedOpenedBy s o ≡ openWords (o .n) (o .ta) (o .ts) (o .own) (o .session) (o .input) (o .coins) (o .boxed)
   unfolding opened
   opened-all s e = rw (eq-eqb (unweightedAnswer s o) 0 e)
 
   same-length : (s t : List ℕ) → length t ≡ length s → unweightedAnswer t o ≡ unweightedAnswer s o
-  same-length s t l = ap (λ (k : ℕ). openAnswer k (o .n) (o .ta) (o .ts) (o .own) (length (o .coins))) l
+  same-length s t l = ap (λ (k : ℕ). openAnswer k (o .n) (o .ta) (o .ts) (o .own) (o .coins) (o .boxed)) l
 
   module _ (ones : GivenOnes o) where
     answer-alike : (s : List ℕ) → answer s o ≡ unweightedAnswer s o
     unfolding GivenOnes
     answer-alike s =
-        ap (λ (ws : List ℕ). weighted-opening.openAnswer (length s) (o .n) (o .ta) (o .ts) (weightsWord (o .n) ws) (o .own) (length (o .coins))) ones
-        ∙ answer-same (length s) (o .n) (o .ta) (o .ts) (o .own) (length (o .coins))
+        ap (λ (ws : List ℕ). weighted-opening.openAnswer (length s) (o .n) (o .ta) (o .ts) (weightsWord (o .n) ws) (o .own) (o .coins) (o .boxed)) ones
+        ∙ answer-same (length s) (o .n) (o .ta) (o .ts) (o .own) (o .coins) (o .boxed)
 
     module _ (s : List ℕ) where
-      with-ones : openedBy s o ≡ weighted-opening.opened s (o .n) (o .ta) (o .ts) (weightsWord (o .n) (onesGiven (o .n))) (o .own) (o .session) (o .input) (o .coins)
+      with-ones : openedBy s o ≡ weighted-opening.opened s (o .n) (o .ta) (o .ts) (weightsWord (o .n) (onesGiven (o .n))) (o .own) (o .session) (o .input) (o .coins) (o .boxed)
       unfolding GivenOnes
-      with-ones = ap (λ (ws : List ℕ). weighted-opening.opened s (o .n) (o .ta) (o .ts) (weightsWord (o .n) ws) (o .own) (o .session) (o .input) (o .coins)) ones
+      with-ones = ap (λ (ws : List ℕ). weighted-opening.opened s (o .n) (o .ta) (o .ts) (weightsWord (o .n) ws) (o .own) (o .session) (o .input) (o .coins) (o .boxed)) ones
 
-      alike : OpensAlike s (o .n) (o .ta) (o .ts) (o .own) (o .session) (o .input) (o .coins)
-      alike = opens-same (o .n) (o .ta) (o .ts) (o .own) (o .session) (o .input) (o .coins) s
+      alike : OpensAlike s (o .n) (o .ta) (o .ts) (o .own) (o .session) (o .input) (o .coins) (o .boxed)
+      alike = opens-same (o .n) (o .ta) (o .ts) (o .own) (o .session) (o .input) (o .coins) (o .boxed) s
 
       -- accepted, from words of the same number
       accepted-beside : (t : List ℕ) → length t ≡ length s → unweightedAnswer s o ≡ 0 → unweightedOpenedBy t o ≡ put (openedBy s o) weightsAt 0
       accepted-beside t l e =
           let all = opened-all s e in
-          let few = accepted-few (o .n) (o .ta) (o .ts) (o .own) (o .session) (o .input) (o .coins) s e .1 in
+          let few = accepted-few (o .n) (o .ta) (o .ts) (o .own) (o .session) (o .input) (o .coins) (o .boxed) s e .1 in
           opened-all t (same-length s t l ∙ e)
           ∙ sym (put-word _ weightsAt 0 (words-zero few))
           ∙ sym (put-put _ weightsAt (2 ^ o .n - 1) 0)
@@ -97,7 +101,7 @@ module _ (o : Arguments) where
           by : Dec (unweightedAnswer s o ≡ 0) → unweightedOpenedBy t o ≡ put (openedBy s o) weightsAt 0
           by (yes e) = accepted-beside t l e
           by (no ne) =
-              opens-same (o .n) (o .ta) (o .ts) (o .own) (o .session) (o .input) (o .coins) t .unweighted-refused (λ e. ne (sym (same-length s t l) ∙ e))
+              opens-same (o .n) (o .ta) (o .ts) (o .own) (o .session) (o .input) (o .coins) (o .boxed) t .unweighted-refused (λ e. ne (sym (same-length s t l) ∙ e))
               ∙ same
               ∙ ap (λ (u : List ℕ). put u weightsAt 0) (sym (with-ones ∙ alike .refused ne))
 
@@ -118,6 +122,10 @@ module _ (s t : List ℕ) (same : t ≡ put s weightsAt 0) (kept : (cs : List St
       ∙ turn-words-apart (after s cs) 0 (length out)
       ∙ ap (λ (u : List ℕ). put u weightsAt 0) (sym (turn-words-same (after s cs) (kept cs hs) (length out)))
   after-beside (report ∷ cs) hs = after-beside cs hs
+  after-beside (recording i r b ∷ cs) hs =
+      ap (λ (u : List ℕ). recordedWords u i r b) (after-beside cs hs)
+      ∙ recorded-apart (after s cs) 0 i r b
+      ∙ ap (λ (u : List ℕ). put u weightsAt 0) (sym (recorded-same (after s cs) (kept cs hs) i r b))
 
 -- words that are the same but for that of the weights
 beside : (w u : List ℕ) → u ≡ put w weightsAt 0 → AllOne w → SideBySide w u
@@ -127,6 +135,7 @@ beside w u same all =
       weights = all;
       opening-answer = λ o ones. answer-alike o ones w ∙ sym (same-length o w u (ap (λ (v : List ℕ). length v) same ∙ length-put w weightsAt 0));
       delivery-answer = λ link b. deliver-answer-same w all link b ∙ sym (ap (λ (v : List ℕ). deliverAnswer v link b) same ∙ deliver-answer-apart w 0 link b);
+      recording-answer = λ i r b. record-answer-same w all i r b ∙ sym (ap (λ (v : List ℕ). recordAnswer v i r b) same ∙ record-answer-apart w 0 i r b);
       turn-outcome = λ room. turn-outcome-same w all room ∙ sym (ap (λ (v : List ℕ). turnOutcome v room) same ∙ turn-outcome-apart w 0 room);
       turn-bytes = λ out. turn-bytes-same w all out ∙ sym (ap (λ (v : List ℕ). turnBytes v out) same ∙ turn-bytes-apart w 0 out);
       report-answer = λ a b. report-answer-same w all a b ∙ sym (ap (λ (v : List ℕ). reportAnswer v a b) same ∙ report-answer-apart w 0 a b);

@@ -1,4 +1,4 @@
--- `move_act` waits for the own AUX.
+-- `move_act` waits for the own AUX and a known coin.
 use Rattle.votes.specs.Cases.{moves}
 use borrow.Author.Needs.{needs}
 use Rattle.votes.proofs.move_act.Statement.{statement}
@@ -9,6 +9,9 @@ round-requires c κs = search needs
 
 aux-sent-requires : tie.Need-aux-sent-requires
 aux-sent-requires c κs = search needs
+
+coin-known-requires : tie.Need-coin-known-requires
+coin-known-requires c κs = search needs
 
 accepted-requires : tie.Need-accepted-requires
 accepted-requires c κs = search needs
@@ -31,6 +34,7 @@ move-act-spec =
     (tie.spec
     round-requires
     aux-sent-requires
+    coin-known-requires
     accepted-requires
     accepted-requires-2
     move-value-requires

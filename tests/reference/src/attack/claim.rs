@@ -6,6 +6,16 @@ use std::fmt;
 use crate::message::PackSet;
 use crate::settings::Number;
 
+/// What demand 3 asks of the list of calls, and whether a feeder keeps to it.
+#[derive(Clone, Copy, Debug, PartialEq, Eq)]
+pub enum Conditions {
+    Met,
+    /// Restored ones may have lost any line but the first, of messages that left too; they would count as liars.
+    LostLines,
+    /// Sessions are boxed, and honest ones of the two groups record different bits.
+    OtherBits,
+}
+
 /// What a report shows at an opened honest concentrator.
 #[derive(Clone, Debug, PartialEq, Eq)]
 pub struct Shown {

@@ -3,19 +3,20 @@
 use std::collections::BTreeMap;
 use std::rc::Rc;
 
-use super::claim::{Claim, Shown, Violation};
+use super::claim::{Claim, Conditions, Shown, Violation};
+use super::coins::{Seen, Waiting};
 use super::face::Face;
-use super::journal::{Journal, Journals, Noted, Sent};
+use super::journal::{Journal, Noted, Sent};
 use super::plan::{Opened, Plan};
 use super::random::Random;
 use super::Statistics;
+use crate::box_engine::BoxEngine;
 use crate::engine::Engine;
 use crate::journal::{LINE_BYTES, TURN_LINE};
 use crate::message::{PackSet, LONGEST};
 use crate::packing::{refusal, unpack_report, unpack_turn, TurnAnswer};
 use crate::refusal::Refusal;
 use crate::report::SET_WORDS;
-use crate::session::Opening;
 use crate::settings::Number;
 
 /// Lent words hold this before a report.
@@ -28,6 +29,8 @@ pub(super) struct Honest<S> {
     /// Turns that did not answer idle.
     pub taken: u64,
     pub journal: Journal,
+    /// The coins that its host waits for, where they are boxed.
+    pub waiting: Waiting,
 }
 
 #[derive(Clone, Copy)]
@@ -42,13 +45,16 @@ pub(super) struct Parcel {
     pub sent: Sent,
 }
 
-pub struct Feeder<'a, E: Engine> {
+pub struct Feeder<'a, E: Engine + BoxEngine> {
     pub(super) engine: &'a E,
     pub(super) plan: &'a Plan,
-    pub(super) journals: Journals,
+    pub(super) conditions: Conditions,
     pub(super) random: Random,
     pub(super) honest: BTreeMap<Number, Honest<E::State>>,
-    faces: Vec<Face>,
+    pub(super) faces: Vec<Face>,
+    /// The one box of the feeder, and what liars saw of its coins.
+    pub(super) coin_box: E::CoinBox,
+    pub(super) seen: Seen,
     /// By the step at which they are due, then in order of sending.
     pub(super) parcels: BTreeMap<(u64, u64), Parcel>,
     parcel_count: u64,
@@ -59,20 +65,23 @@ pub struct Feeder<'a, E: Engine> {
     pub statistics: Statistics,
 }
 
-impl<'a, E: Engine> Feeder<'a, E> {
-    pub fn new(engine: &'a E, plan: &'a Plan, journals: Journals, seed: u64) -> Self {
+impl<'a, E: Engine + BoxEngine> Feeder<'a, E> {
+    pub fn new(engine: &'a E, plan: &'a Plan, conditions: Conditions, seed: u64) -> Self {
         let blank = |&number: &Number| {
             let (opened, closed, taken) = (false, false, 0);
             let journal = Journal::default();
-            (number, Honest { state: engine.blank(), opened, closed, taken, journal })
+            let (state, waiting) = (engine.blank(), Waiting::default());
+            (number, Honest { state, opened, closed, taken, journal, waiting })
         };
         Feeder {
             engine,
             plan,
-            journals,
+            conditions,
             random: Random::new(seed),
             honest: plan.inputs.keys().map(blank).collect(),
             faces: Face::all(plan),
+            coin_box: engine.blank_box(),
+            seen: Seen::default(),
             parcels: BTreeMap::new(),
             parcel_count: 0,
             now: 0,
@@ -85,6 +94,7 @@ impl<'a, E: Engine> Feeder<'a, E> {
     /// Runs until nothing is on its way and all are idle, or the plan's limit of calls is reached.
     pub fn run(&mut self) -> Result<(), Violation> {
         self.statistics.settings.insert(self.plan.settings);
+        self.open_box()?;
         self.send_script();
         (0..self.faces.len()).for_each(|face| self.act_as_face(face));
         while self.statistics.calls < self.plan.pace.call_limit {
@@ -94,6 +104,9 @@ impl<'a, E: Engine> Feeder<'a, E> {
             }
             if self.plan.pace.power_losses.is_some_and(|times| self.random.once_in(times)) {
                 self.lose_power()?;
+            }
+            if self.plan.boxed && self.random.once_in(self.plan.pace.peeks) {
+                self.peek();
             }
             if let Some(((due, _), parcel)) = self.parcels.pop_first() {
                 self.now = self.now.max(due) + 1;
@@ -167,11 +180,15 @@ impl<'a, E: Engine> Feeder<'a, E> {
         Ok(acted)
     }
 
-    /// Turns until idle or closed. Answers whether a turn was not idle.
+    /// Turns until idle or closed, and coins recorded where they are boxed. Answers whether anything was done.
     pub(super) fn act(&mut self, number: Number) -> Result<bool, Violation> {
-        let before = self.honest[&number].taken;
-        while self.turn(number)? {}
-        Ok(self.honest[&number].taken > before)
+        let before = self.honest[&number].journal.len();
+        loop {
+            while self.turn(number)? {}
+            if !self.ask(number)? {
+                return Ok(self.honest[&number].journal.len() > before);
+            }
+        }
     }
 
     /// One turn. Answers whether another can follow.
@@ -189,6 +206,7 @@ impl<'a, E: Engine> Feeder<'a, E> {
         };
         let length = if let TurnAnswer::Sent { length } = read { length } else { 0 };
         let message: Rc<[u8]> = lent[..length].into();
+        honest.waiting.note_sent(&message);
         if read != TurnAnswer::Idle {
             honest.taken += 1;
             let noted = Noted::Turn { answer: read, message: Rc::clone(&message) };
@@ -306,81 +324,10 @@ impl<'a, E: Engine> Feeder<'a, E> {
         self.statistics.note(number, &shown, turns_share);
         self.claim.check(number, &shown)
     }
-
-    /// Lends too little, delivers broken bytes, or opens with settings that are refused.
-    fn make_refused_call(&mut self) -> Result<(), Violation> {
-        let numbers: Vec<Number> = self.honest.keys().copied().collect();
-        if numbers.is_empty() {
-            return Ok(());
-        }
-        let number = self.random.pick(&numbers);
-        let link = u64::from(self.random.pick(&numbers));
-        let mut message = vec![1, 1, link as u8, link as u8, 0, 1, 0, 0];
-        message.extend(self.plan.session.to_be_bytes());
-        message.extend([0; 8]);
-        let choice = self.random.below(10);
-        let line = &mut [0; LINE_BYTES];
-        let state = &mut self.honest.get_mut(&number).expect("an honest number").state;
-        let refused_opening = Opening { ts: 100, ..self.plan.opening(number, 0) };
-        let answer = match choice {
-            0 => self.engine.turn(state, &mut [0; LONGEST - 1], line),
-            1 => self.engine.report(state, &mut [0; SET_WORDS], &mut [0; SET_WORDS - 1]),
-            2 => self.engine.deliver(state, link, &message[..11], line),
-            3 => self.engine.deliver(state, link + 256, &message, line),
-            4 => self.engine.open(state, &refused_opening, line),
-            5 => self.engine.turn(state, &mut [0; LONGEST], &mut line[1..]),
-            6 => self.engine.restore(state, b"O\t1\n", &mut [0; LONGEST - 1]),
-            place => {
-                message[[0, 6, 8][place as usize - 7]] ^= 0x80;
-                self.engine.deliver(state, link, &message, line)
-            }
-        };
-        if refusal(answer).is_none() || answer > 0xff {
-            return Err(Violation::Answer { at: number, call: "refused call", answer });
-        }
-        self.check(number)
-    }
-
-    /// What all liars send ahead of everything else.
-    fn send_script(&mut self) {
-        let plan = self.plan;
-        for (lie, &liar) in
-            plan.script.lies.iter().flat_map(|lie| plan.liars.iter().map(move |liar| (lie, liar)))
-        {
-            let message: Rc<[u8]> = lie.message.to_bytes(liar, plan.session).into();
-            let in_group = |number: &&Number| plan.groups[number] == lie.group;
-            for &number in plan.inputs.keys().filter(in_group) {
-                for _ in 0..lie.times {
-                    let sent = Sent { link: liar, message: Rc::clone(&message), line: None };
-                    self.send(Receiver::Honest(number), sent, 0);
-                }
-            }
-        }
-    }
-
-    /// A face turns until idle. It talks to the honest ones of its group and to the faces of its group.
-    fn act_as_face(&mut self, face: usize) {
-        let plan = self.plan;
-        for message in self.faces[face].act() {
-            let Face { liar, group, .. } = self.faces[face];
-            let sent = Sent { link: liar, message: message.into(), line: None };
-            for &number in plan.inputs.keys() {
-                if self.faces[face].talks_to(plan.groups[&number]) {
-                    let delay = plan.delay(&mut self.random, &sent.message, number);
-                    self.send(Receiver::Honest(number), sent.clone(), delay);
-                }
-            }
-            for other in 0..self.faces.len() {
-                if self.faces[other].group == group {
-                    self.send(Receiver::Face(other), sent.clone(), 0);
-                }
-            }
-        }
-    }
 }
 
-/// The line of an opening or a delivery that was accepted; `None` if there is none, or it does not end with its LF.
-fn written_line(answer: u64, lent: &[u8]) -> Option<&[u8]> {
+/// The line of an opening, a delivery or a recording that was accepted; `None` if there is none, or it does not end with its LF.
+pub(super) fn written_line(answer: u64, lent: &[u8]) -> Option<&[u8]> {
     let line = lent.get(..(answer >> 16) as usize)?;
     (answer & 0xffff == 0 && line.ends_with(b"\n")).then_some(line)
 }

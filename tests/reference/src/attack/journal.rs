@@ -2,18 +2,11 @@
 
 use std::rc::Rc;
 
+use super::claim::Conditions;
+use super::coins::Waiting;
 use super::random::Random;
 use crate::packing::TurnAnswer;
-use crate::settings::Number;
-
-/// What a restored concentrator still has of its journal.
-#[derive(Clone, Copy, Debug, PartialEq, Eq)]
-pub enum Journals {
-    /// The line of every message that left; it counts as honest.
-    Kept,
-    /// Any of its lines but the first may be lost, messages that left or not; it would count as a liar.
-    Lost,
-}
+use crate::settings::{Number, Round};
 
 /// A message on its way: the link it comes over, and the line of its sender's journal that sent it, if that one is honest.
 #[derive(Clone, Debug)]
@@ -28,6 +21,7 @@ pub enum Noted {
     Opening,
     Delivery(Sent),
     Turn { answer: TurnAnswer, message: Rc<[u8]> },
+    Recording { vote: Number, round: Round },
 }
 
 /// The lines so far.
@@ -60,15 +54,17 @@ impl Journal {
     }
 
     /// What is left when power is lost: so many lines, and a part of the next.
-    pub fn cut(&self, random: &mut Random, journals: Journals) -> (usize, Vec<u8>) {
-        let kept = match journals {
-            Journals::Kept => {
+    pub fn cut(&self, random: &mut Random, conditions: Conditions) -> (usize, Vec<u8>) {
+        let kept = match conditions {
+            Conditions::LostLines if random.once_in(4) => {
+                1 + random.below(self.len() as u64) as usize
+            }
+            Conditions::LostLines => 1,
+            Conditions::Met | Conditions::OtherBits => {
                 let most_lost = (self.len() - self.needed) as u64;
                 let lost = if random.once_in(2) { most_lost } else { most_lost.min(4) };
                 self.len() - random.below(lost + 1) as usize
             }
-            Journals::Lost if random.once_in(4) => 1 + random.below(self.len() as u64) as usize,
-            Journals::Lost => 1,
         };
         let end = self.end(kept);
         let torn = match self.lines.get(kept) {
@@ -110,6 +106,19 @@ impl Journal {
     /// Turns that did not answer idle.
     pub fn taken(&self) -> u64 {
         self.turns().count() as u64
+    }
+
+    /// The coins that the host waits for: those of the rounds that its messages entered, but for the recorded ones.
+    pub fn waiting(&self) -> Waiting {
+        let mut waiting = Waiting::default();
+        for (noted, _) in &self.lines {
+            match noted {
+                Noted::Turn { message, .. } => waiting.note_sent(message),
+                Noted::Recording { vote, round } => waiting.note_recorded(*vote, *round),
+                Noted::Opening | Noted::Delivery(_) => {}
+            }
+        }
+        waiting
     }
 
     pub fn closed(&self) -> bool {

@@ -1,22 +1,25 @@
 //! Whole feeders under attack: every call is followed by a check of demand 3.
 
 mod claim;
+mod coins;
 mod face;
 mod feeder;
 mod journal;
+mod lying;
 mod pick;
 mod plan;
 mod power;
 pub(crate) mod random;
+mod refused;
 mod script;
 
 use std::collections::BTreeSet;
 use std::fmt;
 
-pub use claim::{Claim, Shown, Violation};
-pub use journal::Journals;
+pub use claim::{Claim, Conditions, Shown, Violation};
 pub use plan::Plan;
 
+use crate::box_engine::BoxEngine;
 use crate::compare::all_settings;
 use crate::engine::Engine;
 use crate::settings::{Number, Settings};
@@ -39,6 +42,9 @@ pub struct Statistics {
     /// Restores after power was lost, and the lines that were lost.
     pub restores: u64,
     pub lost_lines: u64,
+    /// Boxed feeders, and the bits that honest ones recorded.
+    pub boxed: u64,
+    pub recordings: u64,
     seen: BTreeSet<u8>,
     closed_here: BTreeSet<Number>,
 }
@@ -68,6 +74,8 @@ impl Statistics {
         self.most_turns = self.most_turns.max(other.most_turns);
         self.restores += other.restores;
         self.lost_lines += other.lost_lines;
+        self.boxed += other.boxed;
+        self.recordings += other.recordings;
     }
 }
 
@@ -77,14 +85,16 @@ impl fmt::Display for Statistics {
         write!(
             f,
             "{} feeders of {} settings, {} calls; exit 1 seen in {one}, exit 2 in {two}, exit 3 in {three}, closed in \
-             {}; at most {} % of the turns that 99n+3 allows; {} restores, {} lines lost",
+             {}; at most {} % of the turns that 99n+3 allows; {} restores, {} lines lost; {} boxed, {} bits recorded",
             self.feeders,
             self.settings.len(),
             self.calls,
             self.closed,
             self.most_turns,
             self.restores,
-            self.lost_lines
+            self.lost_lines,
+            self.boxed,
+            self.recordings
         )
     }
 }
@@ -106,22 +116,22 @@ impl fmt::Display for Finding {
 }
 
 /// Runs the feeder of one seed.
-pub fn run_feeder<E: Engine>(
+pub fn run_feeder<E: Engine + BoxEngine>(
     engine: &E,
-    journals: Journals,
+    conditions: Conditions,
     seed: u64,
 ) -> (Statistics, Result<(), Violation>) {
-    let plan = Plan::new(seed, journals);
-    let mut feeder = Feeder::new(engine, &plan, journals, !seed);
+    let plan = Plan::new(seed, conditions);
+    let mut feeder = Feeder::new(engine, &plan, conditions, !seed);
     let result = feeder.run();
     (feeder.statistics, result)
 }
 
 /// Runs so many feeders and then more, until all settings with n up to 7 and weights of 1 had one; it ends early where
 /// demand 3 is broken.
-pub fn attack<E: Engine>(
+pub fn attack<E: Engine + BoxEngine>(
     engine: &E,
-    journals: Journals,
+    conditions: Conditions,
     seed: u64,
     feeders: u64,
 ) -> (Statistics, Option<Finding>) {
@@ -130,10 +140,10 @@ pub fn attack<E: Engine>(
     let mut left: BTreeSet<Settings> = all_settings(pick::MOST as u64).collect();
     while total.feeders < feeders || !left.is_empty() {
         let seed = random.word();
-        if feeders <= total.feeders && !left.contains(&Plan::new(seed, journals).settings) {
+        if feeders <= total.feeders && !left.contains(&Plan::new(seed, conditions).settings) {
             continue;
         }
-        let (statistics, result) = run_feeder(engine, journals, seed);
+        let (statistics, result) = run_feeder(engine, conditions, seed);
         total.add_feeder(&statistics);
         left.retain(|settings| !total.settings.contains(settings));
         if let Err(violation) = result {

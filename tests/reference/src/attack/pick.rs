@@ -2,10 +2,10 @@
 
 use std::collections::{BTreeMap, BTreeSet};
 
-use super::journal::Journals;
+use super::claim::Conditions;
 use super::plan::{Aim, Faces, Group, Hold, Opened, Pace};
 use super::random::Random;
-use super::script::Script;
+use super::script::{Script, Watch};
 use crate::compare::all_settings;
 use crate::settings::{Number, Settings};
 
@@ -16,14 +16,18 @@ const WHOLE_SESSION: u64 = 1_000_000;
 /// A delay that lasts until votes that do not wait for anything are decided.
 const UNTIL_DECIDED: u64 = 3_000;
 
+/// A delay that lasts until ESTs were relayed.
+const UNTIL_ACCEPTED: u64 = 300;
+
 pub fn aim(random: &mut Random) -> Aim {
-    match random.below(11) {
+    match random.below(13) {
         0..=2 => Aim::Agreement,
         3 | 4 => Aim::EqualPacks,
         5 | 6 => Aim::BlockedBroadcast,
         7 => Aim::HeavyAgainstLight,
         8 => Aim::SplitVote,
-        _ => Aim::SplitStart,
+        9 | 10 => Aim::SplitStart,
+        _ => Aim::SplitCoin,
     }
 }
 
@@ -34,6 +38,10 @@ pub fn settings(random: &mut Random, aim: Aim) -> Settings {
         Aim::EqualPacks => settings.ts() > 0,
         // With ta = 0 no vote can start with 0, and the first half has no liars.
         Aim::BlockedBroadcast | Aim::SplitVote | Aim::SplitStart => settings.ta() > 0,
+        // Two light enough: the target, and one that starts its vote with 0.
+        Aim::SplitCoin => {
+            settings.numbers().filter(|&number| is_in_ta(settings, number)).count() > 2
+        }
         // All heavy ones make Exit 1; without one of them votes start with 0, and the light ones are more in number.
         Aim::HeavyAgainstLight => {
             let light = settings.numbers().filter(|&number| is_light(settings, number));
@@ -60,8 +68,12 @@ fn is_light(settings: &Settings, number: Number) -> bool {
     settings.weight([number]) == 1
 }
 
+fn is_in_ta(settings: &Settings, number: Number) -> bool {
+    settings.weight([number]) <= settings.ta().into()
+}
+
 fn is_heavy_in_ta(settings: &Settings, number: Number) -> bool {
-    !is_light(settings, number) && settings.weight([number]) <= settings.ta().into()
+    !is_light(settings, number) && is_in_ta(settings, number)
 }
 
 /// From 1 to 4, for up to 7 concentrators.
@@ -84,15 +96,7 @@ pub fn unnamed(random: &mut Random, settings: &Settings) -> BTreeSet<Number> {
 pub fn liars(random: &mut Random, settings: &Settings, aim: Aim) -> BTreeSet<Number> {
     let most = u64::from(if aim == Aim::EqualPacks { settings.ts() } else { settings.ta() });
     let less = if random.once_in(4) { random.below(most + 1) } else { 0 };
-    let shuffled = random.some(settings.numbers().collect(), MOST);
-    let mut liars = BTreeSet::new();
-    for number in shuffled {
-        let weight = settings.weight(liars.iter().copied().chain([number]));
-        if u64::from(weight) <= most - less {
-            liars.insert(number);
-        }
-    }
-    liars
+    of_weight(random, settings, settings.numbers().collect(), most - less)
 }
 
 /// Seven different packs.
@@ -117,7 +121,7 @@ pub fn inputs(
             let pack = |number: Number| packs[usize::from(is_light(settings, number))];
             return honest.iter().map(|&number| (number, pack(number))).collect();
         }
-        Aim::SplitVote | Aim::SplitStart => MOST,
+        Aim::SplitVote | Aim::SplitStart | Aim::SplitCoin => MOST,
     };
     let in_turn = kinds == MOST || random.once_in(2);
     let shuffled = random.some(honest.to_vec(), honest.len());
@@ -127,10 +131,38 @@ pub fn inputs(
     shuffled.into_iter().enumerate().map(|(place, number)| (number, input(place))).collect()
 }
 
-pub fn groups(random: &mut Random, settings: &Settings) -> BTreeMap<Number, Group> {
+/// At random; or so that group A makes up all quorums of a vote with the liars.
+pub fn groups(
+    random: &mut Random,
+    settings: &Settings,
+    honest: &[Number],
+    aim: Aim,
+) -> BTreeMap<Number, Group> {
+    if aim == Aim::SplitCoin {
+        let second = of_weight(random, settings, honest.to_vec(), settings.ta().into());
+        let group = |number| if second.contains(&number) { Group::B } else { Group::A };
+        return settings.numbers().map(|number| (number, group(number))).collect();
+    }
     let share = random.pick(&[2, 2, 4]);
     let mut group = || if random.once_in(share) { Group::B } else { Group::A };
     settings.numbers().map(|number| (number, group())).collect()
+}
+
+/// Some that weigh no more than this in all, as many as come.
+fn of_weight(
+    random: &mut Random,
+    settings: &Settings,
+    numbers: Vec<Number>,
+    most: u64,
+) -> BTreeSet<Number> {
+    let mut some = BTreeSet::new();
+    for number in random.some(numbers, MOST) {
+        let weight = settings.weight(some.iter().copied().chain([number]));
+        if u64::from(weight) <= most {
+            some.insert(number);
+        }
+    }
+    some
 }
 
 /// Random words, or words with more ones, at times with 1 in round 1.
@@ -153,10 +185,11 @@ pub fn opened(random: &mut Random) -> Opened {
 }
 
 /// The first packs are those that honest ones put in.
-pub fn faces(random: &mut Random, packs: &[u64]) -> Faces {
+pub fn faces(random: &mut Random, packs: &[u64], aim: Aim) -> Faces {
     let known = random.pick(&packs[..2]);
     let any = random.pick(packs);
     match random.below(5) {
+        _ if aim == Aim::SplitCoin => Faces::One(any),
         0 => Faces::None,
         1 => Faces::One(known),
         2 => Faces::One(any),
@@ -164,23 +197,32 @@ pub fn faces(random: &mut Random, packs: &[u64]) -> Faces {
     }
 }
 
+/// A third of the feeders are boxed, those whose aim is about that, and all where recorded bits differ.
+pub fn boxed(random: &mut Random, aim: Aim, conditions: Conditions) -> bool {
+    random.once_in(3) || aim == Aim::SplitCoin || conditions == Conditions::OtherBits
+}
+
+/// Of boxed coins a script knows nothing; what liars do once they see one is noted there.
 pub fn script(
     random: &mut Random,
     settings: &Settings,
-    coins: &[u32],
+    coins: Option<&[u32]>,
     packs: &[u64],
     aim: Aim,
     target: Number,
 ) -> Script {
     let mut script = Script::default();
-    let coins_of = |vote: Number| coins[usize::from(vote) - 1];
     let flood_in = match aim {
         Aim::SplitVote => {
-            script.add_split(target, coins_of(target));
+            script.add_split(target, coins);
             return script;
         }
         Aim::SplitStart => {
-            script.add_fight(random, target);
+            script.add_fight(random, target, coins.is_none());
+            return script;
+        }
+        Aim::SplitCoin => {
+            script.watches.insert(target, Watch::Lead);
             return script;
         }
         Aim::EqualPacks => 2,
@@ -193,8 +235,8 @@ pub fn script(
     if random.once_in(2) {
         for vote in some_numbers(random, settings) {
             match random.below(2) {
-                0 => script.add_split(vote, coins_of(vote)),
-                _ => script.add_fight(random, vote),
+                0 => script.add_split(vote, coins),
+                _ => script.add_fight(random, vote, coins.is_none()),
             }
         }
     }
@@ -210,8 +252,11 @@ fn some_numbers(random: &mut Random, settings: &Settings) -> Vec<Number> {
 
 /// The instance that an aim is about.
 pub fn target(random: &mut Random, settings: &Settings, aim: Aim) -> Number {
-    let suits =
-        |&number: &Number| aim != Aim::HeavyAgainstLight || is_heavy_in_ta(settings, number);
+    let suits = |&number: &Number| match aim {
+        Aim::HeavyAgainstLight => is_heavy_in_ta(settings, number),
+        Aim::SplitCoin => is_in_ta(settings, number),
+        _ => true,
+    };
     random.pick(&settings.numbers().filter(suits).collect::<Vec<Number>>())
 }
 
@@ -220,26 +265,35 @@ pub fn pace(
     settings: &Settings,
     aim: Aim,
     target: Number,
-    journals: Journals,
+    conditions: Conditions,
 ) -> Pace {
     Pace {
         holds: holds(random, settings, aim, target),
         jitter: random.pick(&[1, 1, 5, 30, 200]),
         laziness: random.pick(&[1, 1, 2, 5]),
         refused_calls: random.pick(&[20, 200]),
-        call_limit: random.pick(&[3_000, 6_000, 12_000]),
-        power_losses: power_losses(random, journals),
+        call_limit: if aim == Aim::SplitCoin {
+            20_000
+        } else {
+            random.pick(&[3_000, 6_000, 12_000])
+        },
+        power_losses: power_losses(random, conditions),
+        asking: match aim {
+            Aim::SplitCoin => (1, random.pick(&[1, 60, 60])),
+            _ => random.pick(&[(1, 1), (1, 1), (3, 3), (1, 20), (20, 1)]),
+        },
+        peeks: random.pick(&[4, 40]),
     }
 }
 
 /// In one of three feeders; always where lines of messages that left may be lost.
-fn power_losses(random: &mut Random, journals: Journals) -> Option<u64> {
-    match (journals, random.below(9)) {
-        (Journals::Lost, _) => Some(50),
-        (Journals::Kept, 0) => Some(10),
-        (Journals::Kept, 1) => Some(60),
-        (Journals::Kept, 2) => Some(300),
-        (Journals::Kept, _) => None,
+fn power_losses(random: &mut Random, conditions: Conditions) -> Option<u64> {
+    match (conditions, random.below(9)) {
+        (Conditions::LostLines, _) => Some(50),
+        (_, 0) => Some(10),
+        (_, 1) => Some(60),
+        (_, 2) => Some(300),
+        _ => None,
     }
 }
 
@@ -257,6 +311,12 @@ fn holds(random: &mut Random, settings: &Settings, aim: Aim, target: Number) -> 
             holds.push(Hold { delay: UNTIL_DECIDED, ..readies });
         }
         Aim::SplitStart => holds.push(Hold { to_group: Some(Group::B), ..readies }),
+        Aim::SplitCoin => {
+            // Group B then sees both values in its AUXs.
+            let auxes = Hold { kinds: (5, 5), delay: UNTIL_ACCEPTED, ..readies };
+            let to_group = Some(Group::B);
+            holds.extend([Hold { to_group, ..readies }, Hold { to_group, ..auxes }]);
+        }
         Aim::BlockedBroadcast => {
             holds.push(Hold { to_one: Some(random.pick(&numbers)), ..readies });
         }

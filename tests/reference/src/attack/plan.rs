@@ -2,10 +2,11 @@
 
 use std::collections::{BTreeMap, BTreeSet};
 
-use super::journal::Journals;
+use super::claim::Conditions;
 use super::pick;
 use super::random::Random;
 use super::script::Script;
+use crate::coin_box::BoxOpening;
 use crate::session::Opening;
 use crate::settings::{Number, Settings, Weight};
 
@@ -25,6 +26,9 @@ pub enum Aim {
     SplitVote,
     /// First half; all packs different, one broadcast's READYs kept from one group, and its vote fought over.
     SplitStart,
+    /// First half; boxed, all packs different, one broadcast's READYs kept from a group of weight ta at most, and liars lead
+    /// its vote by the coins that they see.
+    SplitCoin,
 }
 
 /// Liars can treat the honest ones of the two groups differently.
@@ -85,6 +89,10 @@ pub struct Pace {
     pub refused_calls: u64,
     /// Once in so many steps an honest one loses power, if ever.
     pub power_losses: Option<u64>,
+    /// An honest one of group A, or of group B, asks for the coins that it waits for once in so many times that it could.
+    pub asking: (u64, u64),
+    /// Once in so many steps a liar asks for any coin.
+    pub peeks: u64,
     pub call_limit: u64,
 }
 
@@ -94,7 +102,11 @@ pub struct Plan {
     /// Who gives ta as 255.
     unnamed: BTreeSet<Number>,
     pub session: u32,
+    /// Whether the coins are in a box.
+    pub boxed: bool,
     coins: Vec<u32>,
+    /// What a boxed session is opened with in their place.
+    no_coins: Vec<u32>,
     /// Of the honest ones.
     pub inputs: BTreeMap<Number, u64>,
     pub openings: BTreeMap<Number, Opened>,
@@ -108,7 +120,7 @@ pub struct Plan {
 }
 
 impl Plan {
-    pub fn new(seed: u64, journals: Journals) -> Plan {
+    pub fn new(seed: u64, conditions: Conditions) -> Plan {
         let random = &mut Random::new(seed);
         let aim = pick::aim(random);
         let settings = pick::settings(random, aim);
@@ -118,6 +130,8 @@ impl Plan {
         let packs = pick::packs(random);
         let coins = pick::coins(random, &settings);
         let target = pick::target(random, &settings, aim);
+        let boxed = pick::boxed(random, aim, conditions);
+        let printed = (!boxed).then_some(&coins[..]);
         Plan {
             settings,
             unnamed: pick::unnamed(random, &settings),
@@ -126,10 +140,12 @@ impl Plan {
             openings: honest.iter().map(|&number| (number, pick::opened(random))).collect(),
             used_before: random.once_in(4),
             liars,
-            groups: pick::groups(random, &settings),
-            faces: pick::faces(random, &packs),
-            script: pick::script(random, &settings, &coins, &packs, aim, target),
-            pace: pick::pace(random, &settings, aim, target, journals),
+            groups: pick::groups(random, &settings, &honest, aim),
+            faces: pick::faces(random, &packs, aim),
+            script: pick::script(random, &settings, printed, &packs, aim, target),
+            pace: pick::pace(random, &settings, aim, target, conditions),
+            boxed,
+            no_coins: vec![0; coins.len()],
             coins,
         }
     }
@@ -144,9 +160,17 @@ impl Plan {
             own: u64::from(own),
             session: self.session,
             input,
-            coins: &self.coins,
+            coins: if self.boxed { &self.no_coins } else { &self.coins },
             weights: self.settings.weights(),
+            boxed: u64::from(self.boxed),
         }
+    }
+
+    /// The opening of the box, with ta named.
+    pub fn box_opening(&self) -> BoxOpening<'_> {
+        let [n, ta, ts] =
+            [self.settings.n(), self.settings.ta(), self.settings.ts()].map(u64::from);
+        BoxOpening { n, ta, ts, coins: &self.coins, weights: self.settings.weights() }
     }
 
     /// The steps that a message takes on its way.

@@ -1,32 +1,33 @@
 //! Honest ones that lose power and are restored from their journals.
 
-use super::claim::Violation;
+use super::claim::{Conditions, Violation};
 use super::feeder::{Feeder, Receiver};
-use super::journal::{Journals, Noted, Sent};
+use super::journal::{Noted, Sent};
+use crate::box_engine::BoxEngine;
 use crate::engine::Engine;
 use crate::message::LONGEST;
 use crate::packing::{unpack_restore, RestoreAnswer};
 use crate::settings::Number;
 
-impl<E: Engine> Feeder<'_, E> {
+impl<E: Engine + BoxEngine> Feeder<'_, E> {
     /// One of those that are open loses power and is restored. Where lines of messages that left may be lost, all do once a
     /// set was named, and then one of the feeder is not heard any more: so the others may come to another set.
     pub(super) fn lose_power(&mut self) -> Result<(), Violation> {
         let open = self.honest.iter().filter(|(_, honest)| honest.opened);
         let mut numbers: Vec<Number> = open.map(|(&number, _)| number).collect();
-        match self.journals {
-            Journals::Kept => numbers = self.random.some(numbers, 1),
-            Journals::Lost if self.claim.is_agreed() && self.muted.is_none() => {
+        match self.conditions {
+            Conditions::Met | Conditions::OtherBits => numbers = self.random.some(numbers, 1),
+            Conditions::LostLines if self.claim.is_agreed() && self.muted.is_none() => {
                 let all: Vec<Number> = self.plan.settings.numbers().collect();
                 self.muted = Some(self.random.pick(&all));
             }
-            Journals::Lost => return Ok(()),
+            Conditions::LostLines => return Ok(()),
         }
         numbers.into_iter().try_for_each(|number| self.lose_power_at(number))
     }
 
     fn lose_power_at(&mut self, number: Number) -> Result<(), Violation> {
-        let (kept, bytes) = self.honest[&number].journal.cut(&mut self.random, self.journals);
+        let (kept, bytes) = self.honest[&number].journal.cut(&mut self.random, self.conditions);
         let lost = self.restore(number, kept, &bytes)?;
         self.statistics.note_restore(lost.len());
         // What lost lines sent is on its way no more.
@@ -52,6 +53,7 @@ impl<E: Engine> Feeder<'_, E> {
         let lost = honest.journal.truncate(kept);
         honest.taken = honest.journal.taken();
         honest.closed = honest.journal.closed();
+        honest.waiting = honest.journal.waiting();
         honest.state = self.engine.littered(self.random.word());
         let mut lent = [0; LONGEST];
         let answer = self.engine.restore(&mut honest.state, bytes, &mut lent);
@@ -75,7 +77,7 @@ impl<E: Engine> Feeder<'_, E> {
         for noted in lost {
             let Noted::Delivery(sent) = noted else { continue };
             // Where all lose their lines, honest ones say anew what they say.
-            let said_anew = self.journals == Journals::Lost && sent.line.is_some();
+            let said_anew = self.conditions == Conditions::LostLines && sent.line.is_some();
             if !said_anew && !self.random.once_in(5) {
                 let delay = self.random.below(self.plan.pace.jitter);
                 self.send(Receiver::Honest(number), sent, delay);

@@ -1,11 +1,14 @@
-//! What liars send ahead of everything else: floods, and a fight over single votes.
+//! What liars send ahead of everything else, floods and a fight over single votes, and what they send once they see a
+//! boxed coin.
+
+use std::collections::BTreeMap;
 
 use super::plan::Group;
 use super::random::Random;
 use crate::message::{Message, PackSet};
 use crate::settings::{Number, Round, Settings};
 
-/// A message that every liar sends at the start to the honest ones of a group, so many times.
+/// A message that every liar sends to the honest ones of a group, so many times.
 #[derive(Clone, Debug)]
 pub struct Lie {
     pub message: Message,
@@ -13,9 +16,21 @@ pub struct Lie {
     pub times: usize,
 }
 
+/// What liars do in a vote once a coin of it is no longer sealed.
+#[derive(Clone, Copy, Debug, PartialEq, Eq)]
+pub enum Watch {
+    /// As [`Script::add_split`] does with coins that are known from the start.
+    Split,
+    /// One group is shown the coin as the only value, the other one the opposite.
+    Part,
+    /// Group A is left to decide 1 in the first round with that coin, group B is shown both values; then all are led to 0.
+    Lead,
+}
+
 #[derive(Clone, Debug, Default)]
 pub struct Script {
     pub lies: Vec<Lie>,
+    pub watches: BTreeMap<Number, Watch>,
 }
 
 const GROUPS: [Group; 2] = [Group::A, Group::B];
@@ -54,8 +69,16 @@ impl Script {
         }
     }
 
-    /// ESTs and AUXs of one vote, at random and different for the two groups.
-    pub fn add_fight(&mut self, random: &mut Random, instance: Number) {
+    /// ESTs and AUXs of one vote, at random and different for the two groups; of a boxed one mostly only once its coins are
+    /// seen.
+    pub fn add_fight(&mut self, random: &mut Random, instance: Number, boxed: bool) {
+        if boxed {
+            let watch = random.pick(&[Watch::Part, Watch::Lead]);
+            self.watches.insert(instance, watch);
+            if !random.once_in(4) {
+                return;
+            }
+        }
         for (round, group) in (1..=ROUNDS).flat_map(|round| GROUPS.map(|group| (round, group))) {
             for value in [false, true] {
                 if random.once_in(3) {
@@ -69,10 +92,53 @@ impl Script {
         }
     }
 
+    /// Whether a message is of a vote that is led.
+    pub fn leads(&self, message: &[u8]) -> bool {
+        (4..=5).contains(&message[1]) && self.watches.get(&message[3]) == Some(&Watch::Lead)
+    }
+
+    /// The lies about a vote and round whose coin is seen now; `before` has those of lower rounds.
+    pub fn lies_about(
+        &self,
+        (instance, round): (Number, Round),
+        coin: bool,
+        before: &[bool],
+    ) -> Vec<Lie> {
+        let lie = |message, group| Lie { message, group, times: 1 };
+        let aux = |value, group| lie(Message::Aux { instance, round, value }, group);
+        let est = |value, group| lie(Message::Est { instance, round, value }, group);
+        match self.watches.get(&instance) {
+            None => Vec::new(),
+            Some(Watch::Split) => {
+                let mut lies = vec![aux(false, Group::B)];
+                if before.contains(&true) {
+                    lies.push(aux(false, Group::A));
+                }
+                lies
+            }
+            Some(Watch::Part) => {
+                let ests = [est(false, Group::B), est(true, Group::B), est(coin, Group::A)];
+                ests.into_iter().chain([aux(coin, Group::A), aux(!coin, Group::B)]).collect()
+            }
+            Some(Watch::Lead) => {
+                let mut lies = vec![est(false, Group::A), est(false, Group::B)];
+                if !before.contains(&true) {
+                    lies.extend([est(true, Group::A), est(true, Group::B)]);
+                }
+                lies.extend([aux(!before.contains(&true), Group::A), aux(false, Group::B)]);
+                lies
+            }
+        }
+    }
+
     /// AUXs of 0 against one vote. Up to the first round with coin 1, only group B gets them, and group A is left
     /// to decide 1. Then all get them until a coin is 0: counted, they would turn all estimates to 0.
-    pub fn add_split(&mut self, instance: Number, coins: u32) {
-        let coin = |round: Round| coins >> (round - 1) & 1 == 1;
+    pub fn add_split(&mut self, instance: Number, coins: Option<&[u32]>) {
+        let Some(coins) = coins else {
+            self.watches.insert(instance, Watch::Split);
+            return;
+        };
+        let coin = |round: Round| coins[usize::from(instance) - 1] >> (round - 1) & 1 == 1;
         let first_one = (1..=ROUNDS).find(|&round| coin(round)).unwrap_or(ROUNDS);
         let next_zero = (first_one + 1..=ROUNDS).find(|&round| !coin(round)).unwrap_or(ROUNDS);
         for round in 1..=next_zero {

@@ -1,9 +1,9 @@
-//! Attacks the reference engine, sound, with each fault, and sound with lost lines of the journals. Arguments: seed, number of
-//! feeders, and optionally one of these. It succeeds if the sound engine holds and everything else is found.
+//! Attacks the reference engine, sound, with each fault, and sound with lost lines of the journals or with recorded bits
+//! that differ. Arguments: seed, number of feeders, and optionally one of these. It succeeds if the sound engine holds and everything else is found.
 
 use std::process::ExitCode;
 
-use pack_reference::attack::{attack, Journals};
+use pack_reference::attack::{attack, Conditions};
 use pack_reference::engine::Reference;
 use pack_reference::Fault;
 
@@ -12,13 +12,14 @@ use pack_reference::Fault;
 struct Target {
     name: &'static str,
     fault: Fault,
-    journals: Journals,
+    conditions: Conditions,
 }
 
 fn targets() -> Vec<Target> {
-    let faulty = |fault: Fault| Target { name: fault.name(), fault, journals: Journals::Kept };
-    let lost = Target { name: "lost-lines", fault: Fault::None, journals: Journals::Lost };
-    Fault::ALL.into_iter().map(faulty).chain([lost]).collect()
+    let faulty = |fault: Fault| Target { name: fault.name(), fault, conditions: Conditions::Met };
+    let unmet = [("lost-lines", Conditions::LostLines), ("other-bits", Conditions::OtherBits)];
+    let sound = unmet.map(|(name, conditions)| Target { name, fault: Fault::None, conditions });
+    Fault::ALL.into_iter().map(faulty).chain(sound).collect()
 }
 
 fn main() -> ExitCode {
@@ -47,14 +48,14 @@ fn read_arguments(arguments: &[String]) -> Option<(u64, u64, Vec<Target>)> {
     Some((seed.parse().ok()?, feeders.parse().ok()?, targets))
 }
 
-/// Answers whether the run ended as it should: with a finding exactly if there is a fault or lines are lost.
+/// Answers whether the run ended as it should: with a finding exactly if there is a fault or a condition is not met.
 fn run(seed: u64, feeders: u64, target: &Target) -> bool {
-    let Target { name, fault, journals } = *target;
-    let (statistics, finding) = attack(&Reference { fault }, journals, seed, feeders);
+    let Target { name, fault, conditions } = *target;
+    let (statistics, finding) = attack(&Reference { fault }, conditions, seed, feeders);
     println!("fault {name}: {statistics}");
     match &finding {
         Some(finding) => println!("  violation in {finding}"),
         None => println!("  no violation"),
     }
-    finding.is_some() == (fault != Fault::None || journals == Journals::Lost)
+    finding.is_some() == (fault != Fault::None || conditions != Conditions::Met)
 }

@@ -5,10 +5,13 @@ use std::fmt::Display;
 use std::process::ExitCode;
 use std::time::Instant;
 
-use pack_reference::attack::{attack, Journals};
+use pack_reference::attack::{attack, Conditions};
+use pack_reference::c_box::check_box_word_counts;
 use pack_reference::c_engine::{check_word_counts, CEngine};
+use pack_reference::coin_box::BoxOpening;
 use pack_reference::compare::{
-    damaged_deliveries, foreign_calls, longest_sessions, random_calls, restores, unnamed_openings,
+    damaged_deliveries, edge_recordings, foreign_boxes, foreign_calls, longest_sessions,
+    random_boxes, random_calls, restores, unnamed_openings,
 };
 use pack_reference::engine::{Lockstep, Reference};
 use pack_reference::Opening;
@@ -22,16 +25,9 @@ fn main() -> ExitCode {
     };
     println!("seed {seed}");
     let (coins, weights) = (&[0], &[1]);
-    check_word_counts(&Opening {
-        n: 1,
-        ta: 0,
-        ts: 0,
-        own: 1,
-        session: 0,
-        input: 0,
-        coins,
-        weights,
-    });
+    let (n, ta, ts, own, session, input, boxed) = (1, 0, 0, 1, 0, 0, 0);
+    check_word_counts(&Opening { n, ta, ts, own, session, input, coins, weights, boxed });
+    check_box_word_counts(&BoxOpening { n, ta, ts, coins, weights });
     let engine = Lockstep { first: Reference::default(), second: CEngine };
     let start = Instant::now();
     let note = |part: &str, what: &dyn Display| {
@@ -41,9 +37,12 @@ fn main() -> ExitCode {
     note("longest sessions", &longest_sessions(&engine, 7));
     note("ta unnamed", &unnamed_openings(&engine, seed, 20));
     note("restores", &restores(&engine, seed, 12));
+    note("recordings", &edge_recordings(&engine));
+    note("boxes", &random_boxes(&engine, seed, calls));
     note("random calls", &random_calls(&engine, seed, calls));
     note("planted words", &foreign_calls(&CEngine, &CEngine, seed, foreign));
-    let (statistics, finding) = attack(&engine, Journals::Kept, seed, feeders);
+    note("planted boxes", &foreign_boxes(&CEngine, &CEngine, seed, foreign));
+    let (statistics, finding) = attack(&engine, Conditions::Met, seed, feeders);
     note("attack", &statistics);
     match finding {
         Some(finding) => {

@@ -1,8 +1,9 @@
-//! Calls with random arguments on one state, restores from its journal among them, each followed by a report.
+//! Calls with random arguments on one state, recordings and restores from its journal among them, each followed by a
+//! report.
 
 use super::Answers;
 use crate::attack::random::Random;
-use crate::engine::Engine;
+use crate::engine::{Coin, Engine};
 use crate::journal::LINE_BYTES;
 use crate::message::{Message, PackSet, LONGEST};
 use crate::packing::refusal;
@@ -17,6 +18,8 @@ struct Caller<'a, E: Engine> {
     state: E::State,
     session: u32,
     left: Vec<(Number, Message)>,
+    /// Coins still to be recorded, if it is boxed.
+    coins: Vec<Coin>,
     /// The lines since the last opening.
     journal: Vec<u8>,
     /// The last turn did something.
@@ -33,6 +36,7 @@ pub fn random_calls<E: Engine>(engine: &E, seed: u64, calls: u64) -> Answers {
         state: engine.blank(),
         session: 0,
         left: Vec::new(),
+        coins: Vec::new(),
         journal: Vec::new(),
         busy: false,
         random,
@@ -41,6 +45,9 @@ pub fn random_calls<E: Engine>(engine: &E, seed: u64, calls: u64) -> Answers {
     for _ in 0..calls {
         let answer = match caller.random.below(12) {
             _ if caller.random.once_in(400) => caller.restore(),
+            _ if caller.random.once_in(if caller.coins.is_empty() { 100 } else { 4 }) => {
+                caller.record()
+            }
             // Mostly turns until idle, or votes would get nowhere.
             0..=5 if caller.busy && !caller.random.once_in(8) => caller.turn(),
             0..=5 => match caller.left.pop() {
@@ -72,19 +79,21 @@ impl<E: Engine> Caller<'_, E> {
             _ => n,
         };
         let ones = random.pick(&[0, u32::MAX]);
-        let coins: Vec<u32> = (0..words).map(|_| random.word() as u32 | ones).collect();
+        let mut coins: Vec<u32> = (0..words).map(|_| random.word() as u32 | ones).collect();
+        let boxed = boxed_flag(random, &mut coins);
         damage_weights(random, &mut weights);
         let session = random.pick(&[0, 7, u32::MAX]);
         let input = random.below(3);
         let [n, ta, ts, own] = numbers;
         let (coins, weights) = (&coins[..], &weights[..]);
-        let opening = Opening { n, ta, ts, own, session, input, coins, weights };
+        let opening = Opening { n, ta, ts, own, session, input, coins, weights, boxed };
         let mut line = vec![0xa5; length(random, LINE_BYTES)];
         let answer = self.engine.open(&mut self.state, &opening, &mut line);
         if refusal(answer).is_none() {
             self.journal = line[..line_length(answer)].to_vec();
             self.session = session;
             self.left = messages(random, n as u8);
+            self.coins = if boxed == 0 { Vec::new() } else { all_coins(random, n) };
         }
         answer
     }
@@ -119,6 +128,27 @@ impl<E: Engine> Caller<'_, E> {
         answer
     }
 
+    /// Mostly the next coin; at times another number in its place, or one again.
+    fn record(&mut self) -> u64 {
+        let random = &mut self.random;
+        let next =
+            Coin { vote: 1 + random.below(4), round: 1 + random.below(32), bit: random.below(2) };
+        let coin = self.coins.pop().unwrap_or(next);
+        let given = random_coin(random, coin);
+        let mut line = vec![0xa5; length(random, LINE_BYTES)];
+        let answer = self.engine.record(&mut self.state, given, &mut line);
+        match refusal(answer) {
+            Some(Refusal::Closed | Refusal::NoState) => self.coins.clear(),
+            Some(Refusal::Coin) if given == coin => {}
+            None if given == coin && !random.once_in(20) => {}
+            // It comes again.
+            _ => self.coins.push(coin),
+        }
+        self.busy |= refusal(answer).is_none();
+        self.journal.extend(&line[..line_length(answer)]);
+        answer
+    }
+
     fn turn(&mut self) -> u64 {
         let mut message = vec![0xa5; length(&mut self.random, LONGEST)];
         let mut line = vec![0xa5; length(&mut self.random, LINE_BYTES)];
@@ -140,7 +170,7 @@ impl<E: Engine> Caller<'_, E> {
         journal.truncate(self.journal.len() - random.below(most) as usize);
         if random.once_in(8) && !journal.is_empty() {
             let place = random.below(journal.len() as u64) as usize;
-            journal[place] = random.pick(b"\n\t0aATDO\r\xff");
+            journal[place] = random.pick(b"\n\t0aATDOK\r\xff");
         }
         let mut state = self.engine.littered(random.word());
         let answer =
@@ -167,7 +197,7 @@ impl<E: Engine> Caller<'_, E> {
     }
 }
 
-/// The length of the line that an opening or a delivery wrote; 0 where it was refused.
+/// The length of the line that an opening, a delivery or a recording wrote; 0 where it was refused.
 pub fn line_length(answer: u64) -> usize {
     (answer >> 16 & 0xffff) as usize
 }
@@ -200,6 +230,49 @@ pub fn damage_weights(random: &mut Random, weights: &mut Vec<u8>) {
         }
         1 => weights.resize(random.pick(&[0, count.saturating_sub(1), count + 1, 17]), 1),
         _ => {}
+    }
+}
+
+/// One of three is boxed, mostly with coin words of 0; at times a number that says neither.
+pub fn boxed_flag(random: &mut Random, coins: &mut [u32]) -> u64 {
+    let boxed = match random.below(60) {
+        0 => random.pick(&EDGES),
+        k => u64::from(k % 3 == 0),
+    };
+    if boxed != 0 && !random.once_in(20) {
+        coins.fill(0);
+    }
+    if boxed == 1 && random.once_in(40) {
+        coins.iter_mut().last().into_iter().for_each(|word| *word = random.pick(&[1, 1 << 31]));
+    }
+    boxed
+}
+
+/// A bit for nearly every vote and round; the last of the list is recorded first.
+pub fn all_coins(random: &mut Random, n: u64) -> Vec<Coin> {
+    let ones = random.pick(&[2, 2, 10]);
+    let missing = random.pick(&[2, 1_000_000]);
+    let mut coins = Vec::new();
+    for (round, vote) in (1..=32).rev().flat_map(|round| (1..=n).map(move |vote| (round, vote))) {
+        let bit = u64::from(!random.once_in(ones));
+        if !random.once_in(missing) {
+            coins.push(Coin { vote, round, bit });
+        }
+    }
+    coins
+}
+
+/// Mostly the coin itself; at times with a number on the edge in one of its places, or the other bit.
+pub fn random_coin(random: &mut Random, coin: Coin) -> Coin {
+    let edge =
+        random.pick(&[0, 1, 2, 3, 16, 17, 31, 32, 33, 255, 256, 257, 1 << 32, 1 << 63, u64::MAX]);
+    match random.below(24) {
+        0 => Coin { vote: edge, ..coin },
+        1 => Coin { round: edge, ..coin },
+        2 => Coin { bit: edge, ..coin },
+        3 => Coin { bit: 1 ^ coin.bit, ..coin },
+        4 => Coin { round: coin.round + random.pick(&[32, 64, 256]), ..coin },
+        _ => coin,
     }
 }
 

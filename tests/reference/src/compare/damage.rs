@@ -27,7 +27,8 @@ where
     let mut deliveries = Deliveries { engine, state: engine.blank(), answers: Answers::default() };
     for (n, ta, ts, weight) in SETTINGS {
         let (coins, weights) = (&vec![0; n as usize][..], &vec![weight; n as usize][..]);
-        let opening = Opening { n, ta, ts, own: 1, session: SESSION, input: 5, coins, weights };
+        let (own, session, input, boxed) = (1, SESSION, 5, 0);
+        let opening = Opening { n, ta, ts, own, session, input, coins, weights, boxed };
         for message in messages(n as Number) {
             let answer = engine.open(&mut deliveries.state, &opening, &mut [0; LINE_BYTES]);
             assert_eq!(answer & 0xff, 0, "good settings");

@@ -1,10 +1,10 @@
 //! States with words that no engine wrote. The reference cannot hold them, so two engines over the words are compared.
 
-use super::calls::{damage_weights, good_settings, good_weights, length};
+use super::calls::{boxed_flag, damage_weights, good_settings, good_weights, length, random_coin};
 use super::Answers;
 use crate::attack::random::Random;
 use crate::c_engine::{words, Words, STATE_WORDS};
-use crate::engine::Engine;
+use crate::engine::{Coin, Engine};
 use crate::journal::LINE_BYTES;
 use crate::message::{Message, LONGEST};
 use crate::report::SET_WORDS;
@@ -13,6 +13,8 @@ use crate::settings::Number;
 
 /// The word of the weights.
 const WEIGHTS: usize = 141;
+/// The word that says whether coins are boxed.
+const BOXED: usize = 142;
 /// Calls on a state before the next one.
 const CALLS: u64 = 24;
 
@@ -52,7 +54,8 @@ impl<A: Engine<State = Words>, B: Engine<State = Words>> Pair<'_, A, B> {
         let answer = match self.random.below(32) {
             0 => self.open(),
             1..=11 => self.deliver(),
-            12..=25 => self.turn(),
+            12..=23 => self.turn(),
+            24..=26 => self.record(),
             _ => self.report(),
         };
         assert!(self.state == self.copy, "the words after a call that answered {answer:#x} differ");
@@ -62,11 +65,12 @@ impl<A: Engine<State = Words>, B: Engine<State = Words>> Pair<'_, A, B> {
     fn open(&mut self) -> u64 {
         let n = self.random.below(18);
         let [ta, ts, own] = [2, 6, 17].map(|end| self.random.below(end));
-        let coins = &vec![self.random.word() as u32; n as usize][..];
+        let mut coins = vec![self.random.word() as u32; n as usize];
+        let boxed = boxed_flag(&mut self.random, &mut coins);
         let mut weights = good_weights(&mut self.random, n);
         damage_weights(&mut self.random, &mut weights);
-        let weights = &weights[..];
-        let opening = &Opening { n, ta, ts, own, session: 7, input: 5, coins, weights };
+        let (coins, weights, session, input) = (&coins[..], &weights[..], 7, 5);
+        let opening = &Opening { n, ta, ts, own, session, input, coins, weights, boxed };
         let mut line = vec![0xa5; length(&mut self.random, LINE_BYTES)];
         let mut line_copy = line.clone();
         let first = self.first.open(&mut self.state, opening, &mut line);
@@ -101,6 +105,23 @@ impl<A: Engine<State = Words>, B: Engine<State = Words>> Pair<'_, A, B> {
         let second = self.second.turn(&mut self.copy, &mut lent_copy, &mut line_copy);
         assert_eq!((first, lent, line), (second, lent_copy, line_copy), "turns differ");
         self.answers.note_turn(first);
+        first
+    }
+
+    fn record(&mut self) -> u64 {
+        let n = self.state[0].clamp(1, 16);
+        let random = &mut self.random;
+        // Mostly the round that the vote is in.
+        let (vote, any) = (1 + random.below(n), 1 + random.below(32));
+        let current = self.state[23 + vote as usize].clamp(1, 32);
+        let round = if random.once_in(4) { any } else { current };
+        let bit = random.below(2);
+        let coin = random_coin(random, Coin { vote, round, bit });
+        let mut line = vec![0xa5; length(random, LINE_BYTES)];
+        let mut line_copy = line.clone();
+        let first = self.first.record(&mut self.state, coin, &mut line);
+        let second = self.second.record(&mut self.copy, coin, &mut line_copy);
+        assert_eq!((first, line), (second, line_copy), "recordings differ");
         first
     }
 
@@ -170,6 +191,7 @@ fn plant(random: &mut Random, state: &mut Words) {
         region.iter_mut().for_each(|word| *word = random.below(values));
     }
     plant_marks(random, state, 1024..1536);
+    plant_marks(random, state, 143..256);
     plant_marks(random, state, 1536..2048);
 }
 
@@ -178,7 +200,12 @@ fn plant_settings(random: &mut Random, state: &mut Words) {
     let most = random.pick(&[4, 7, 16]);
     let ([n, ta, ts], weights) = good_settings(random, most);
     state[..4].copy_from_slice(&[n, ta, ts, 1 + random.below(n)]);
-    plant_weights(random, state, &weights);
+    state[WEIGHTS] = plant_weights(random, &weights);
+    // Above 1 it is no state.
+    state[BOXED] = random.pick(&[0, 0, 0, 1, 1, 1, 1, 1]);
+    if random.once_in(24) {
+        state[BOXED] = random.pick(&[2, 3, 255, 1 << 32, (1 << 32) + 1, 1 << 63, u64::MAX]);
+    }
     // The session number is the low half.
     state[4] = if random.once_in(4) { random.word() } else { 7 };
     state[5] = random.below(3);
@@ -188,9 +215,9 @@ fn plant_settings(random: &mut Random, state: &mut Words) {
     }
 }
 
-/// The weights of 1 to n, by any of the four marks of each; at times others, for which ta and ts may be too high, or one of
+/// The word of the weights of 1 to n, by any of the four marks of each; at times others, for which ta and ts may be too high, or one of
 /// 0, and at times bits that are no weight of 1 to n.
-fn plant_weights(random: &mut Random, state: &mut Words, good: &[u8]) {
+pub fn plant_weights(random: &mut Random, good: &[u8]) -> u64 {
     let n = good.len() as u64;
     let mut weights = good.to_vec();
     if random.once_in(20) {
@@ -206,7 +233,7 @@ fn plant_weights(random: &mut Random, state: &mut Words, good: &[u8]) {
     }
     let others = !(((1 << n) - 1) * 0x0001_0001_0001_0001);
     let marks = marks(random);
-    state[WEIGHTS] = word | marks(random) & others;
+    word | marks(random) & others
 }
 
 fn plant_marks(random: &mut Random, state: &mut Words, region: std::ops::Range<usize>) {

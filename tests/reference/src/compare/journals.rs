@@ -92,7 +92,7 @@ pub fn made_up(random: &mut Random, journal: &[u8]) -> Vec<Vec<u8>> {
     let first = lines_of(journal)[0];
     let mut made: Vec<Vec<u8>> = edge_lines().into_iter().map(String::into_bytes).collect();
     made.extend([b"".to_vec(), b"\n".to_vec(), b"T\n".to_vec(), vec![b'\n'; HUGE]]);
-    for alphabet in [&b"0123456789abcdef\t"[..], b"T\n", b"ODT\t\n01f\r", b"1\t"] {
+    for alphabet in [&b"0123456789abcdef\t"[..], b"T\n", b"ODTK\t\n01f\r", b"1\t"] {
         let noise: Vec<u8> = (0..HUGE).map(|_| random.pick(alphabet)).collect();
         made.push([first, &noise].concat());
         made.push([journal, &noise].concat());
@@ -101,6 +101,7 @@ pub fn made_up(random: &mut Random, journal: &[u8]) -> Vec<Vec<u8>> {
     // A decimal and a message of some MB.
     made.push([first, b"D\t", &vec![b'1'; HUGE], b"\t00\n"].concat());
     made.push([first, b"D\t1\t", &vec![b'0'; HUGE], b"\n"].concat());
+    made.push([first, b"K\t1\t1\t", &vec![b'1'; HUGE], b"\n"].concat());
     made
 }
 
@@ -121,7 +122,7 @@ fn edges(good: &str) -> Vec<String> {
 
 /// Lines whose numbers stand on the edge of what is taken.
 fn edge_lines() -> Vec<String> {
-    let good = ["1", "1", "0", "0", "1", "7", "0000000000000005", "00000000", "1"];
+    let good = ["1", "1", "0", "0", "1", "7", "0000000000000005", "00000000", "1", "1"];
     let send = "0101010100010000000000070000000000000005";
     let mut lines = Vec::new();
     for place in 0..good.len() {
@@ -134,10 +135,32 @@ fn edge_lines() -> Vec<String> {
     for link in edges("1") {
         lines.push(format!("O\t{}\nD\t{link}\t{send}\nT\n", good.join("\t")));
     }
+    // A recording on the edge, alone and behind one of the other bit.
+    for place in 0..3 {
+        for other in edges("1").into_iter().chain(["31", "32", "33"].map(String::from)) {
+            let mut fields = ["1", "1", "1"].map(String::from);
+            fields[place] = other;
+            let opening = good.join("\t");
+            let line = fields.join("\t");
+            lines.push(format!("O\t{opening}\nK\t{line}\nT\n"));
+            lines.push(format!("O\t{opening}\nK\t1\t1\t0\nK\t{line}\nT\n"));
+        }
+    }
+    lines.extend(lines_by_count());
+    lines
+}
+
+/// Opening lines with all numbers of coin words, of weights and of what follows them, flags and coins in boxed ones too.
+fn lines_by_count() -> Vec<String> {
+    let mut lines = Vec::new();
     for n in 0..=20 {
         for (coins, weights) in [(n, n), (n, 0), (n, n + 1), (n + 1, n), (n, 2 * n), (0, n)] {
-            let lists = "\t00000001".repeat(coins) + &"\t1".repeat(weights);
-            lines.push(format!("O\t1\t{n}\t255\t0\t1\t7\t00000000000000ff{lists}\nT\n"));
+            for (word, flags) in
+                ["00000001", "00000000"].iter().flat_map(|w| ["", "\t0", "\t1"].map(|f| (w, f)))
+            {
+                let lists = format!("\t{word}").repeat(coins) + &"\t1".repeat(weights) + flags;
+                lines.push(format!("O\t1\t{n}\t255\t0\t1\t7\t00000000000000ff{lists}\nT\n"));
+            }
         }
     }
     lines

@@ -1,7 +1,7 @@
 //! 01: "Apart from idle, a session takes at most 99·n+3 turns": sessions that take just so many.
 
 use super::Answers;
-use crate::engine::Engine;
+use crate::engine::{Coin, Engine};
 use crate::journal::LINE_BYTES;
 use crate::message::{Message, PackSet, LONGEST};
 use crate::packing::unpack_report;
@@ -21,12 +21,13 @@ fn weighted_settings(most: u64) -> impl Iterator<Item = Settings> {
 }
 
 /// Sessions of all settings with n up to `most`, with weights of 1 and with others. In each round of each vote all four
-/// things are due, up to the move out of round 32. It panics unless each takes 99·n+3 turns; where one broadcast alone is
-/// enough for Exit 1, that turns the votes off.
+/// things are due, up to the move out of round 32. Half of them are boxed. It panics unless each takes 99·n+3 turns; where
+/// one broadcast alone is enough for Exit 1, that turns the votes off.
 pub fn longest_sessions<E: Engine>(engine: &E, most: u64) -> Answers {
     let mut answers = Answers::default();
-    for settings in all_settings(most).chain(weighted_settings(most)) {
-        let taken = longest_session(engine, &settings, &mut answers);
+    let kinds = (0..2).cycle();
+    for (settings, boxed) in all_settings(most).chain(weighted_settings(most)).zip(kinds) {
+        let taken = longest_session(engine, &settings, boxed, &mut answers);
         let exit_1 = settings.numbers().any(|i| settings.weight([i]) >= settings.quorum());
         let without_votes = 2 * u64::from(settings.n()) + 3;
         let expected = if exit_1 { without_votes } else { settings.turn_limit() };
@@ -35,18 +36,30 @@ pub fn longest_sessions<E: Engine>(engine: &E, most: u64) -> Answers {
     answers
 }
 
-fn longest_session<E: Engine>(engine: &E, settings: &Settings, answers: &mut Answers) -> u64 {
+fn longest_session<E: Engine>(
+    engine: &E,
+    settings: &Settings,
+    boxed: u64,
+    answers: &mut Answers,
+) -> u64 {
     let [n, ta, ts] = [settings.n(), settings.ta(), settings.ts()].map(u64::from);
     let mut state = engine.blank();
     // Ones, so that the last round decides 1.
-    let coins = vec![u32::MAX; n as usize];
-    let (coins, weights) = (&coins[..], settings.weights());
-    let opening = Opening { n, ta, ts, own: n, session: 7, input: n, coins, weights };
+    let coins = vec![if boxed == 0 { u32::MAX } else { 0 }; n as usize];
+    let (coins, weights, own, input, session) = (&coins[..], settings.weights(), n, n, 7);
+    let opening = Opening { n, ta, ts, own, session, input, coins, weights, boxed };
     let line = &mut [0; LINE_BYTES];
     answers.note(engine.open(&mut state, &opening, line));
     for (sender, message) in all_messages(settings) {
         let bytes = message.to_bytes(sender, 7);
         answers.note(engine.deliver(&mut state, u64::from(sender), &bytes, line));
+    }
+    // Boxed votes go one round further with each bit, out of the last one too.
+    for round in 1..=boxed * u64::from(Settings::ROUND_LIMIT) {
+        act(engine, &mut state, answers);
+        for vote in 1..=n {
+            answers.note(engine.record(&mut state, Coin { vote, round, bit: 1 }, line));
+        }
     }
     act(engine, &mut state, answers);
     for sender in settings.numbers() {

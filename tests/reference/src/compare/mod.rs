@@ -1,23 +1,31 @@
-//! Calls for a comparison of two engines in lockstep: random ones, damaged messages, openings with ta unnamed, restores, and
-//! words that no engine wrote.
+//! Calls for a comparison of two engines in lockstep: random ones, damaged messages, openings with ta unnamed, recordings,
+//! restores, coin boxes, and words that no engine wrote.
 
+mod boxes;
 mod calls;
 mod damage;
 #[cfg(feature = "c-engine")]
 mod foreign;
+#[cfg(feature = "c-engine")]
+mod foreign_boxes;
 mod journals;
 mod longest;
 mod recorded;
+mod recordings;
 mod restores;
 mod unnamed;
 
 use std::fmt;
 
+pub use boxes::random_boxes;
 pub use calls::random_calls;
 pub use damage::damaged_deliveries;
 #[cfg(feature = "c-engine")]
 pub use foreign::foreign_calls;
+#[cfg(feature = "c-engine")]
+pub use foreign_boxes::foreign_boxes;
 pub use longest::{all_settings, longest_sessions};
+pub use recordings::edge_recordings;
 pub use restores::restores;
 pub use unnamed::unnamed_openings;
 
@@ -27,7 +35,7 @@ use crate::packing::refusal;
 #[derive(Clone, Debug, Default, PartialEq, Eq)]
 pub struct Answers {
     /// By refusal, 0 for accepted.
-    pub refusals: [u64; 16],
+    pub refusals: [u64; 17],
     /// Turns: idle, sent, moved out of round 32, in force.
     pub outcomes: [u64; 4],
     /// Reports by exit.
@@ -36,7 +44,7 @@ pub struct Answers {
 
 impl Answers {
     fn note(&mut self, answer: u64) {
-        self.refusals[(answer & 0xff).min(15) as usize] += 1;
+        self.refusals[(answer & 0xff).min(16) as usize] += 1;
     }
 
     fn note_turn(&mut self, answer: u64) {

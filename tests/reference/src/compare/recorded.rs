@@ -1,8 +1,8 @@
 //! A session with its journal, and the state after each line.
 
-use super::calls::{good_settings, line_length, messages};
+use super::calls::{all_coins, good_settings, line_length, messages};
 use crate::attack::random::Random;
-use crate::engine::Engine;
+use crate::engine::{Coin, Engine};
 use crate::journal::LINE_BYTES;
 use crate::message::LONGEST;
 use crate::packing::{refusal, unpack_turn, TurnAnswer};
@@ -21,6 +21,7 @@ pub struct Recording<'a, E: Engine> {
     engine: &'a E,
     pub n: u64,
     pub weights: Vec<u8>,
+    pub boxed: bool,
     pub journal: Vec<u8>,
     pub lines: Vec<Recorded<E::State>>,
 }
@@ -29,13 +30,16 @@ impl<'a, E: Engine> Recording<'a, E>
 where
     E::State: Clone,
 {
-    /// A session of at most `most` concentrators in which all kinds of messages come, up to so many lines.
+    /// A session of at most `most` concentrators, half of the time a boxed one, in which all kinds of messages come, up to
+    /// so many lines.
     pub fn new(engine: &'a E, random: &mut Random, most: u64, lines: usize) -> Self {
         let ([n, ta, ts], weights) = good_settings(random, most);
+        let boxed = random.once_in(2);
         let mut recording =
-            Recording { engine, n, weights, journal: Vec::new(), lines: Vec::new() };
+            Recording { engine, n, weights, boxed, journal: Vec::new(), lines: Vec::new() };
         let session = random.pick(&[0, 7, u32::MAX]);
         let left = &mut messages(random, n as u8);
+        let coins = &mut if boxed { all_coins(random, n) } else { Vec::new() };
         let turns_in = random.pick(&[2, 6]);
         let mut state = recording.open(random, [ta, ts], session);
         while recording.lines.len() < lines {
@@ -43,6 +47,10 @@ where
                 if recording.act(&mut state, lines) {
                     break;
                 }
+            } else if !coins.is_empty() && random.once_in(3) {
+                // At times it stays in the list, and comes again.
+                let coin = if random.once_in(4) { coins.last().copied() } else { coins.pop() };
+                recording.record(&mut state, coin.expect("a coin"));
             } else if let Some((sender, message)) = left.pop() {
                 let bytes = message.to_bytes(sender, session);
                 recording.deliver(&mut state, u64::from(sender), &bytes);
@@ -55,10 +63,13 @@ where
     }
 
     fn open(&mut self, random: &mut Random, [ta, ts]: [u64; 2], session: u32) -> E::State {
-        let coins: Vec<u32> = (0..self.n).map(|_| random.word() as u32).collect();
+        let word = if self.boxed { 0 } else { u32::MAX };
+        let coins: Vec<u32> = (0..self.n).map(|_| random.word() as u32 & word).collect();
+        let boxed = u64::from(self.boxed);
         let (own, input) = (1 + random.below(self.n), random.pick(&[0, 5, u64::MAX]));
         let (n, weights) = (self.n, &self.weights.clone()[..]);
-        let opening = Opening { n, ta, ts, own, session, input, coins: &coins, weights };
+        let coins = &coins[..];
+        let opening = Opening { n, ta, ts, own, session, input, coins, weights, boxed };
         let mut state = self.engine.littered(random.word());
         let line = &mut [0xa5; LINE_BYTES];
         let answer = self.engine.open(&mut state, &opening, line);
@@ -70,6 +81,14 @@ where
     fn deliver(&mut self, state: &mut E::State, link: u64, bytes: &[u8]) {
         let line = &mut [0xa5; LINE_BYTES];
         let answer = self.engine.deliver(state, link, bytes, line);
+        if refusal(answer).is_none() {
+            self.note(state, &line[..line_length(answer)], &[]);
+        }
+    }
+
+    fn record(&mut self, state: &mut E::State, coin: Coin) {
+        let line = &mut [0xa5; LINE_BYTES];
+        let answer = self.engine.record(state, coin, line);
         if refusal(answer).is_none() {
             self.note(state, &line[..line_length(answer)], &[]);
         }

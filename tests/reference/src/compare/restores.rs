@@ -39,7 +39,10 @@ where
             restorer.cut(&long, cut);
         }
         restorer.cut(&long, long.journal.len());
-        restorer.without_weights(&short);
+        if !short.boxed {
+            restorer.older(&short, 2);
+            restorer.older(&short, 2 + 2 * short.n as usize);
+        }
         for journal in damages(&mut restorer.random, &short.journal) {
             restorer.restore(&journal);
         }
@@ -93,21 +96,22 @@ where
         assert_eq!(answer, expected, "the answer to a cut at byte {cut}");
     }
 
-    /// The older form of the first line.
-    fn without_weights(&mut self, recording: &Recording<E>) {
+    /// The older forms of the first line of a printed session: its last bytes are missing, those of the flag and perhaps
+    /// of the weights.
+    fn older(&mut self, recording: &Recording<E>, missing: usize) {
         let first = recording.lines[0].end;
-        let weights = 2 * recording.n as usize;
-        let mut journal = recording.journal[..first - 1 - weights].to_vec();
+        let mut journal = recording.journal[..first - 1 - missing].to_vec();
         journal.extend(&recording.journal[first - 1..]);
         let (answer, state, message) = self.restore(&journal);
-        if recording.weights.iter().all(|&weight| weight == 1) && message.len() >= LONGEST {
+        let weights_stay = missing == 2 || recording.weights.iter().all(|&weight| weight == 1);
+        if weights_stay && message.len() >= LONGEST {
             let last = recording.lines.last().expect("an opening");
-            assert!(state == last.state, "another state without weights");
+            assert!(state == last.state, "another state with {missing} bytes less");
             let complete = journal.len();
             let read = unpack_restore(answer);
             assert!(
                 matches!(read, Some(RestoreAnswer::Restored { complete: c, .. }) if c == complete),
-                "the answer without weights"
+                "the answer with {missing} bytes less"
             );
         }
     }

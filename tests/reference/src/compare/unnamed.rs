@@ -37,7 +37,8 @@ where
     let mut open = |ta| {
         let n = weights.len() as u64;
         let coins = &vec![7; weights.len()][..];
-        let opening = Opening { n, ta, ts, own: n, session: 7, input: 5, coins, weights };
+        let (own, session, input, boxed) = (n, 7, 5, 0);
+        let opening = Opening { n, ta, ts, own, session, input, coins, weights, boxed };
         let mut state = engine.blank();
         let answer = engine.open(&mut state, &opening, &mut [0; LINE_BYTES]);
         answers.note(answer);

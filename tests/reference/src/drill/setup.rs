@@ -70,6 +70,7 @@ impl Setup {
                 input,
                 coins: &coins,
                 weights: self.settings.weights(),
+                boxed: 0,
             };
             (own, Session::open(&opening).expect("the N line holds good settings"))
         };

@@ -14,6 +14,7 @@ pub enum Line {
     Opening(OpeningLine),
     Delivery { link: u64, message: Vec<u8> },
     Turn,
+    Recording { vote: u64, round: u64, bit: u64 },
 }
 
 /// What an `O` line holds. Its numbers are as wide as those of an [`Opening`].
@@ -27,24 +28,31 @@ pub struct OpeningLine {
     input: u64,
     coins: Vec<u32>,
     weights: Vec<u8>,
+    boxed: u64,
 }
 
 impl OpeningLine {
     pub fn opening(&self) -> Opening<'_> {
-        let OpeningLine { n, ta, ts, own, session, input, ref coins, ref weights } = *self;
-        Opening { n, ta, ts, own, session, input, coins, weights }
+        let OpeningLine { n, ta, ts, own, session, input, ref coins, ref weights, boxed } = *self;
+        Opening { n, ta, ts, own, session, input, coins, weights, boxed }
     }
 
-    /// The fields behind the version: n, ta, ts, own number, session, input, n coin words, and n weights or none, which
-    /// reads as all 1.
+    /// The fields behind the version: n, ta, ts, own number, session, input, n coin words; then n weights and whether the
+    /// coins are boxed, or, in older lines, n weights, or nothing, which reads as all 1. Older ones are printed.
     fn read(fields: &[&[u8]]) -> Option<OpeningLine> {
         let [n, ta, ts, own, session, input, lists @ ..] = fields else { return None };
         let n = decimal(n)?;
         let count = usize::try_from(n).ok()?;
-        let (coins, weights) = lists.split_at_checked(count)?;
+        let (coins, rest) = lists.split_at_checked(count)?;
+        let (weights, flag) = rest.split_at_checked(count).unwrap_or((rest, &[]));
         let coin = |field: &&[u8]| Some(hexadecimal(field, 8)? as u32);
         let weight = |field: &&[u8]| u8::try_from(decimal(field)?).ok();
         let weights: Vec<u8> = weights.iter().map(weight).collect::<Option<_>>()?;
+        let boxed = match flag {
+            [] => 0,
+            [flag] => decimal(flag)?,
+            _ => return None,
+        };
         Some(OpeningLine {
             n,
             ta: decimal(ta)?,
@@ -54,6 +62,7 @@ impl OpeningLine {
             input: hexadecimal(input, 16)?,
             coins: coins.iter().map(coin).collect::<Option<_>>()?,
             weights: if weights.is_empty() { vec![1; count] } else { weights },
+            boxed,
         })
     }
 }
@@ -68,6 +77,10 @@ impl Line {
                 Some(Line::Delivery { link: decimal(link)?, message: bytes(message)? })
             }
             [b"T"] => Some(Line::Turn),
+            [b"K", vote, round, bit] => {
+                let [vote, round, bit] = [vote, round, bit].map(decimal);
+                Some(Line::Recording { vote: vote?, round: round?, bit: bit? })
+            }
             _ => None,
         }
     }
@@ -75,11 +88,11 @@ impl Line {
 
 /// The line of an opening.
 pub fn opening_line(opening: &Opening) -> Vec<u8> {
-    let Opening { n, ta, ts, own, session, input, coins, weights } = *opening;
+    let Opening { n, ta, ts, own, session, input, coins, weights, boxed } = *opening;
     let mut line = format!("O\t1\t{n}\t{ta}\t{ts}\t{own}\t{session}\t{input:016x}");
     coins.iter().for_each(|word| line += &format!("\t{word:08x}"));
     weights.iter().for_each(|weight| line += &format!("\t{weight}"));
-    line.push('\n');
+    line += &format!("\t{boxed}\n");
     line.into_bytes()
 }
 
@@ -90,6 +103,11 @@ pub fn delivery_line(link: u64, message: &[u8]) -> Vec<u8> {
     line.extend(message.iter().flat_map(|byte| [digit(byte >> 4), digit(byte & 15)]));
     line.push(b'\n');
     line
+}
+
+/// The line of a recording.
+pub fn recording_line(vote: u64, round: u64, bit: u64) -> Vec<u8> {
+    format!("K\t{vote}\t{round}\t{bit}\n").into_bytes()
 }
 
 /// "decimals without leading zeros", below 2^64.

@@ -1,10 +1,12 @@
-//! 02, N10, "A journal for firmware that falls back": the calls with the lines that they write, and the state rebuilt
-//! from such lines.
+//! 02, N10, "A journal for firmware that falls back": the calls with the lines that they write, those of N12 too, and
+//! the state rebuilt from such lines.
 
 mod line;
 mod restore;
 
-pub use line::{delivery_line, opening_line, Line, OpeningLine, LINE_BYTES, TURN_LINE};
+pub use line::{
+    delivery_line, opening_line, recording_line, Line, OpeningLine, LINE_BYTES, TURN_LINE,
+};
 pub use restore::{restore, NotRestored, Restored};
 
 use crate::fault::Fault;
@@ -51,6 +53,22 @@ impl Session {
             write(line, TURN_LINE)?;
         }
         Ok(outcome)
+    }
+
+    /// [`Session::record`], and the length of the line; a repeat writes one too.
+    pub fn record_with_line(
+        &mut self,
+        vote: u64,
+        round: u64,
+        bit: u64,
+        line: &mut [u8],
+    ) -> Result<usize, Refusal> {
+        if line.len() < LINE_BYTES {
+            self.clone().record(vote, round, bit)?;
+            return Err(Refusal::Short);
+        }
+        self.record(vote, round, bit)?;
+        write(line, &recording_line(vote, round, bit))
     }
 }
 

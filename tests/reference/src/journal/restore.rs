@@ -59,6 +59,9 @@ fn apply(
         (Line::Delivery { link, message }, Some(session)) => {
             session.deliver(link, &message).ok().map(|()| None)
         }
+        (Line::Recording { vote, round, bit }, Some(session)) => {
+            session.record(vote, round, bit).ok().map(|()| None)
+        }
         (Line::Turn, Some(session)) => match session.turn(&mut [0; LONGEST]).ok()? {
             Outcome::Idle => None,
             Outcome::Sent(message) => Some(Some(message.to_bytes(session.own(), session.number()))),

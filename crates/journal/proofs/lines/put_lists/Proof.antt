@@ -1,5 +1,5 @@
 -- `put_lists` writes one part after the other.
-use Rattle.journal.specs.Parts.{three-parts}
+use Rattle.journal.specs.Parts.{wrote-lists}
 use borrow.Author.Needs.{needs}
 use Rattle.journal.proofs.lines.put_lists.Statement.{statement}
 use Rattle.journal.proofs.lines.put_lists.Tie as tie
@@ -10,6 +10,9 @@ put-coins-requires c κs = search needs
 put-weights-requires : tie.Need-put-weights-requires
 put-weights-requires c κs = search needs
 
+put-tab-decimal-requires : tie.Need-put-tab-decimal-requires
+put-tab-decimal-requires c κs = search needs
+
 put-byte-requires : tie.Need-put-byte-requires
 put-byte-requires c κs = search needs
 
@@ -17,9 +20,9 @@ same-length : tie.Need-same-length
 same-length c = search needs
 
 returns : tie.Need-returns
-returns c = search three-parts
+returns c = search wrote-lists
 
 pub put-lists-spec : {M : Type 1} → statement M
 put-lists-spec =
     tie.close
-    (tie.spec put-coins-requires put-weights-requires put-byte-requires same-length returns)
+    (tie.spec put-coins-requires put-weights-requires put-tab-decimal-requires put-byte-requires same-length returns)

@@ -13,8 +13,17 @@ add-result-2 c = search needs
 add-result-3 : tie.Need-add-result-3
 add-result-3 c = search needs
 
+add-result-4 : tie.Need-add-result-4
+add-result-4 c = search needs
+
+add-result-5 : tie.Need-add-result-5
+add-result-5 c = search needs
+
+add-result-6 : tie.Need-add-result-6
+add-result-6 c = search needs
+
 returns : tie.Need-returns
 returns c = search count-cases
 
 pub count-right-spec : {M : Type 1} → statement M
-count-right-spec = tie.close (tie.spec add-result add-result-2 add-result-3 returns)
+count-right-spec = tie.close (tie.spec add-result add-result-2 add-result-3 add-result-4 add-result-5 add-result-6 returns)

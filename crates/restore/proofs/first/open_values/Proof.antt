@@ -31,6 +31,9 @@ slice-aggregate-copy-coins c = search needs
 copy-coins-requires : tie.Need-copy-coins-requires
 copy-coins-requires c κs = search needs
 
+read-boxed-requires : tie.Need-read-boxed-requires
+read-boxed-requires c κs = search needs
+
 array-share-prefix-coins : tie.Need-array-share-prefix-coins
 array-share-prefix-coins c = search needs
 
@@ -65,6 +68,7 @@ open-values-spec =
     returns-3
     slice-aggregate-copy-coins
     copy-coins-requires
+    read-boxed-requires
     array-share-prefix-coins
     slice-aggregate-open-with
     array-share-prefix-weights

@@ -10,9 +10,9 @@ use lib.ListN.{take}
 use lib.Seq.{drop-set-lt}
 use Rattle.quorum.specs.Every.{every}
 use Rattle.quorum.specs.Marks.{mark}
-use Rattle.records.specs.Layout.{weightsAt, flagsAt, closedMark, sendSentMark, commitSentMark, echoSentAt, readySentAt, decidedZeroAt, decidedOneAt, sendMarksAt, coinAt, roundAt, estSentAt, estSentMark, auxSentAt, sendValueAt, echoMarksAt, readyMarksAt, echoValueAt, readyValueAt, commitCountAt, commitValueAt, voteAt, estMark, auxMark}
+use Rattle.records.specs.Layout.{weightsAt, flagsAt, closedMark, sendSentMark, commitSentMark, echoSentAt, readySentAt, decidedZeroAt, decidedOneAt, sendMarksAt, boxedAt, coinAt, zeroMark, roundAt, estSentAt, estSentMark, auxSentAt, sendValueAt, echoMarksAt, readyMarksAt, echoValueAt, readyValueAt, commitCountAt, commitValueAt, voteAt, estMark, auxMark}
 use Rattle.records.specs.Words.{word, put, marked, word-put-other}
-use Rattle.records.specs.Records.{closed, sendSent, commitSent, echoSent, readySent, sendHeld, sendValue, echoHeld, echoValue, readyHeld, readyValue, estHeld, auxHeld, coin, round, estSent, auxSent, decidedZero, decidedOne, decided, commitCount, commitValue, commitSet}
+use Rattle.records.specs.Records.{closed, sendSent, commitSent, echoSent, readySent, sendHeld, sendValue, echoHeld, echoValue, readyHeld, readyValue, estHeld, auxHeld, coin, printed, coinRecorded, coinKnown, round, estSent, auxSent, decidedZero, decidedOne, decided, commitCount, commitValue, commitSet}
 use Rattle.commits.specs.Commits.{commitHeld, sameSet}
 
 module _ (s : List ℕ) (x : ℕ) where
@@ -63,6 +63,10 @@ module _ (s : List ℕ) (x : ℕ) where
   unfolding decided
   decided-apart i = rw (zero-apart, one-apart)
 
+  pub printed-apart : printed t ≡ printed s
+  unfolding printed
+  printed-apart = ap (λ (w : ℕ). eqb w 0) (word-apart boxedAt (λ e. omega arith))
+
   -- ESTs and AUXs held, and the values of ECHOs, READYs and COMMITs
   pub est-held-apart : (i r b : ℕ) → estHeld t i r b ≡ estHeld s i r b
   unfolding estHeld
@@ -98,9 +102,16 @@ module _ (s : List ℕ) (x : ℕ) where
     unfolding readyHeld
     ready-held-apart = fun-ext (λ p. mark-apart (readyMarksAt i) p (λ e. omega arith))
 
+    pub coin-mark-apart : (p : ℕ) → marked t (coinAt i) p ≡ marked s (coinAt i) p
+    coin-mark-apart p = mark-apart (coinAt i) p (λ e. omega arith)
+
     pub coin-apart : (r : ℕ) → coin t i r ≡ coin s i r
     unfolding coin
-    coin-apart r = mark-apart (coinAt i) r (λ e. omega arith)
+    coin-apart r = coin-mark-apart r
+
+    pub coin-known-apart : (r : ℕ) → coinKnown t i r ≡ coinKnown s i r
+    unfolding coinKnown coinRecorded
+    coin-known-apart r = rw (printed-apart, coin-apart r, coin-mark-apart (zeroMark r))
 
     pub round-apart : round t i ≡ round s i
     unfolding round

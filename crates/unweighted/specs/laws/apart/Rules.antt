@@ -33,7 +33,7 @@ use Rattle.unweighted.specs.Commits.{setHolders, setLeads, setLeader, le
 use Rattle.unweighted.specs.Due.{inForceRule, commitDue, commitRule, votesRule, due}
 use Rattle.unweighted.specs.laws.Counts.{Ones}
 use Rattle.unweighted.specs.laws.Exits.{exit-same}
-use Rattle.unweighted.specs.laws.apart.Records.{word-apart, send-sent-apart, commit-sent-apart, echo-sent-apart, ready-sent-apart, send-held-apart, zero-apart, one-apart, est-held-apart, aux-held-apart, echo-value-apart, ready-value-apart, send-value-apart, echo-held-apart, ready-held-apart, round-apart, est-sent-apart, aux-sent-apart, commit-held-apart, commit-set-apart, same-set-apart}
+use Rattle.unweighted.specs.laws.apart.Records.{word-apart, send-sent-apart, commit-sent-apart, echo-sent-apart, ready-sent-apart, send-held-apart, zero-apart, one-apart, est-held-apart, aux-held-apart, echo-value-apart, ready-value-apart, send-value-apart, echo-held-apart, ready-held-apart, round-apart, est-sent-apart, aux-sent-apart, coin-known-apart, commit-held-apart, commit-set-apart, same-set-apart}
 
 -- acts that agree on 1 to n have the same first
 first-agree : (f h : ℕ → Act) (n : ℕ) → ((i : ℕ) → 1 ≤ i → i ≤ n → f i ≡ h i) → firstAct f n ≡ firstAct h n
@@ -126,7 +126,7 @@ module _ (g : Settings) (few : g .n ≤ 16) (s : List ℕ) (x : ℕ) where
     move-act-apart : moveAct g t i ≡ moveAct g s i
     unfolding moveAct
     move-act-apart =
-        rw (round-apart s x i high, aux-sent-apart s x i high (round s i), accepted-apart (round s i) 0, accepted-apart (round s i) 1, move-value-apart (round s i) (accepted g s i (round s i) 0) (accepted g s i (round s i) 1))
+        rw (round-apart s x i high, aux-sent-apart s x i high (round s i), coin-known-apart s x i high (round s i), accepted-apart (round s i) 0, accepted-apart (round s i) 1, move-value-apart (round s i) (accepted g s i (round s i) 0) (accepted g s i (round s i) 1))
 
     round-act-apart : roundAct g t i ≡ roundAct g s i
     unfolding roundAct running

@@ -12,7 +12,7 @@ use Rattle.quorum.specs.Bools.{and-left, and-right}
 use Rattle.quorum.specs.Every.{every-agree}
 use Rattle.quorum.specs.Weights.{weightOf}
 use Rattle.quorum.specs.Whole.{ones-weight}
-use Rattle.records.specs.Layout.{stateWords, nAt, taAt, tsAt, ownAt, sessionAt, turnsAt, weightsAt, roundAt, commitCountAt}
+use Rattle.records.specs.Layout.{stateWords, nAt, taAt, tsAt, ownAt, sessionAt, turnsAt, weightsAt, boxedAt, roundAt, commitCountAt}
 use Rattle.records.specs.Words.{word, put, length-put, word-put-same}
 use Rattle.session.specs.Session.{roundsRight, commitsRight}
 use Rattle.session.specs.Session as weighted-session
@@ -47,6 +47,7 @@ module _ (s : List ℕ) (x : ℕ) where
   numbers-apart g few =
       rw (
         word-apart s x ownAt (λ e. omega arith),
+        word-apart s x boxedAt (λ e. omega arith),
         word-apart s x turnsAt (λ e. omega arith),
         every-agree (λ i. leb (word t (roundAt i)) 33) (λ i. leb (word s (roundAt i)) 33) (g .n) (λ i lo hi. rw (word-apart s x (roundAt i) (λ e. omega arith))),
         every-agree (λ p. leb (word t (commitCountAt p)) (g .n)) (λ p. leb (word s (commitCountAt p)) (g .n)) (g .n) (λ p lo hi. rw (word-apart s x (commitCountAt p) (λ e. omega arith))),

@@ -6,7 +6,6 @@ use mathlib.Core.Logic.{_≢_}
 use mathlib.Core.Path.{_≡_, refl, ap, _∙_}
 use native.Mathlib.Omega.{arith}
 use lib.Dec.{eqb, ltb}
-use lib.Seq.{set-comm}
 use Rattle.quorum.specs.Marks.{withMark}
 use Rattle.settings.specs.Settings.{roundLimit}
 use Rattle.records.specs.Layout.{weightsAt, turnsAt, flagsAt, closedMark, sendSentMark, commitSentMark, echoSentAt, readySentAt, decidedZeroAt, decidedOneAt, roundAt, estSentAt, estSentMark, auxSentAt, sendMarksAt, sendValueAt, echoMarksAt, echoValueAt, readyMarksAt, readyValueAt, voteAt, estMark, auxMark, commitCountAt, commitRowAt}
@@ -25,15 +24,14 @@ use Rattle.delivery.specs.Delivery.{recorded}
 use Rattle.delivery.specs.Frame.{InLayout}
 use Rattle.turn.specs.Turn.{counted, entered, decidedAs, newDecision, moveDecided, moved, marked, applied}
 use Rattle.turn.specs.Frame.{Placed}
-use Rattle.unweighted.specs.laws.Opening.{store-put}
+use Rattle.unweighted.specs.laws.Opening.{put-swap, store-put}
 use Rattle.unweighted.specs.laws.apart.Records.{word-apart, coin-apart, decided-apart}
 
 module _ (x : ℕ) where
   put-apart : (s : List ℕ) (k v : ℕ) → weightsAt ≢ k → put (put s weightsAt x) k v ≡ put (put s k v) weightsAt x
-  unfolding put
-  put-apart s k v ne = set-comm s weightsAt k x v ne
+  put-apart s k v ne = put-swap s weightsAt k x v ne
 
-  mark-apart : (s : List ℕ) (k p : ℕ) → weightsAt ≢ k → setMark (put s weightsAt x) k p ≡ put (setMark s k p) weightsAt x
+  pub mark-apart : (s : List ℕ) (k p : ℕ) → weightsAt ≢ k → setMark (put s weightsAt x) k p ≡ put (setMark s k p) weightsAt x
   unfolding setMark
   mark-apart s k p ne = ap (λ (w : ℕ). put (put s weightsAt x) k (withMark w p)) (word-apart s x k (λ e. ne (omega arith))) ∙ put-apart s k _ ne
 

@@ -1,0 +1,5 @@
+pub mod Box
+pub mod Opened
+pub mod Laws
+pub mod Secrecy
+pub mod Cases

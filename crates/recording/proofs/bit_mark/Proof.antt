@@ -1,0 +1,17 @@
+-- The two bits.
+use Rattle.recording.specs.Cases.{mark-cases}
+use borrow.Author.Needs.{needs}
+use Rattle.recording.proofs.bit_mark.Statement.{statement}
+use Rattle.recording.proofs.bit_mark.Tie as tie
+
+add-result : tie.Need-add-result
+add-result c = search needs
+
+returns : tie.Need-returns
+returns c = search mark-cases
+
+returns-2 : tie.Need-returns-2
+returns-2 c = search mark-cases
+
+pub bit-mark-spec : {M : Type 1} → statement M
+bit-mark-spec = tie.close (tie.spec add-result returns returns-2)

@@ -1,0 +1,46 @@
+-- Recording a bit of the coin box in the state of a boxed session (request N12): its answer, and the words after it.
+use Prim.Native.Nat.{ℕ}
+use mathlib.Core.Bool.{Bool, _&&_, cond, not}
+use mathlib.Core.List.{List}
+use lib.Dec.{eqb, leb}
+use Rattle.settings.specs.Refusals.{NO-STATE, CLOSED, COIN}
+use Rattle.settings.specs.Settings.{roundLimit}
+use Rattle.records.specs.Layout.{nAt, coinAt, zeroMark}
+use Rattle.records.specs.Words.{word, marked, setMark}
+use Rattle.records.specs.Records.{closed, printed}
+use Rattle.session.specs.Session.{isState, numbered}
+
+-- the mark of bit b of round r in a vote's coin word: a 1 is the coin itself
+unfoldable pub bitMark : ℕ → ℕ → ℕ
+bitMark r b = cond (eqb b 1) r (zeroMark r)
+
+-- the mark of the other bit
+unfoldable pub otherMark : ℕ → ℕ → ℕ
+otherMark r b = cond (eqb b 1) (zeroMark r) r
+
+-- "16 COIN, for a .. vote or round outside the layout, a recorded bit above 1 .. or a bit recorded in a printed session": none of these, where
+-- the votes are 1 to n
+unfoldable pub inLayout : List ℕ → ℕ → ℕ → ℕ → ℕ → Bool
+inLayout s n i r b = not (printed s) && (numbered n i && (numbered roundLimit r && leb b 1))
+
+-- ".. or against one already there": not that either
+unfoldable pub unopposed : List ℕ → ℕ → ℕ → ℕ → Bool
+unopposed s i r b = not (marked s (coinAt i) (otherMark r b))
+
+unfoldable pub recordable : List ℕ → ℕ → ℕ → ℕ → ℕ → Bool
+recordable s n i r b = inLayout s n i r b && unopposed s i r b
+
+-- "checked after 9 and 10 in recording"; 0 is accepted, a repeat too
+unfoldable pub recordAnswer : List ℕ → ℕ → ℕ → ℕ → ℕ
+recordAnswer s i r b =
+    cond (not (isState s)) NO-STATE
+    (cond (closed s) CLOSED
+    (cond (not (recordable s (word s nAt) i r b)) COIN
+    0))
+
+unfoldable pub withBit : List ℕ → ℕ → ℕ → ℕ → List ℕ
+withBit s i r b = setMark s (coinAt i) (bitMark r b)
+
+-- the words after a recording, accepted or not
+unfoldable pub recordedWords : List ℕ → ℕ → ℕ → ℕ → List ℕ
+recordedWords s i r b = cond (eqb (recordAnswer s i r b) 0) (withBit s i r b) s
