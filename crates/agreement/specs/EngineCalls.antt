@@ -10,18 +10,20 @@ use Rattle.settings.specs.declared.Settings.{Settings}
 use Rattle.quorum.specs.Marks.{mark}
 use Rattle.records.specs.Words.{word}
 use Rattle.wire.specs.Message.{lengthOf}
-use Rattle.wire.specs.declared.Message as wire
 use Rattle.wire_laws.specs.Proper.{AllBytes}
 use Rattle.opening.specs.Given.{item, weightsWord}
 use Rattle.journal.specs.Lines.{openingLine, deliveryLine, turnLine, recordingLine}
 use Rattle.journal.specs.Journal.{openNumber, openedWords, deliverNumber, deliveredWords, turnedOutcome, turnedWords, turnedMessage, recordNumber, recordWords}
-use Rattle.journal.specs.Journal as journal-calls
 use Rattle.restore.specs.Restoring.{accepted, restoreAnswer, restoredWords}
-use Rattle.turn.specs.declared.Outcome.the-variants as outcome
 use Rattle.report.specs.Report.{reportAnswer, reportNamed, reportInForce}
 use Rattle.report.specs.declared.Figures.{Figures}
-use Rattle.report.specs.declared.Answer.the-variants as answer
 use Rattle.agreement.specs.Calls.{Machine, DemandThree}
+use Rattle.records.specs.Records.{coin}
+use Rattle.opening.specs.Opening.{openWords, opened}
+use Rattle.wire.specs.declared.Message as wire
+use Rattle.journal.specs.Journal as journal-calls
+use Rattle.turn.specs.declared.Outcome.the-variants as outcome
+use Rattle.report.specs.declared.Answer.the-variants as answer
 
 -- the arguments of an opening, and how many bytes it is lent for its line: the code takes 32 bits for the session number and each coin word, and
 -- 64 for the own input; weights, and whether coins are printed or boxed, are any numbers
@@ -153,3 +155,7 @@ engine =
 -- demand 3 of the engine
 abbrev pub EngineAgrees : Type 0
 EngineAgrees = DemandThree engine
+
+-- the words after an accepted opening
+abbrev pub first : Arguments → List ℕ
+first o = openWords (o .n) (o .ta) (o .ts) (weightsOf o) (o .own) (o .session) (o .input) (o .coins) (o .boxed)

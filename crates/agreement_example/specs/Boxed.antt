@@ -1,11 +1,9 @@
 -- The session of specs/Weighted.antt with boxed coins: the openings give coin words of 0, and both honest ones record the bits that the box
 -- tells, which are those that were printed there. Until then their votes wait: in votes 1 and 3 a turn of each is idle, in vote 2 another.
 use Prim.Native.Nat.{ℕ, _+_, _^_}
-use mathlib.Core.Bool.{true}
 use mathlib.Core.List.{List, [], _∷_}
-use mathlib.Core.Path.{_≡_, refl}
+use mathlib.Core.Path.{_≡_}
 use lib.ListN.{length}
-use Rattle.settings.specs.Refusals.{COIN}
 use Rattle.records.specs.Layout.{stateWords}
 use Rattle.wire.specs.declared.Message.the-variants.{Est}
 use Rattle.turn.specs.declared.Outcome.the-variants.{Idle, Sent}
@@ -15,18 +13,12 @@ use Rattle.agreement.specs.Evidence.{Honest}
 use Rattle.agreement.specs.Calls.{Call, opening, world}
 use Rattle.agreement.specs.EngineCalls.{engine, Agreed}
 use Rattle.agreement_example.specs.Checking.{wordsOf, run}
-use Rattle.agreement_example.specs.Example.{Example, passes, passes-example}
-use Rattle.agreement_example.specs.Refusals.{refusals}
-use Rattle.agreement_example.specs.Tracking.{AllSized}
+use Rattle.agreement_example.specs.Example.{Example}
 use Rattle.agreement_example.specs.Messages.{openingWith, recordOf}
-use Rattle.agreement_example.specs.Weighted.{firstTwo, turns, toBoth, fromBoth, twice, withReadies, withAuxes, withLastAuxes, withSets, exitIn}
-use Rattle.turn_bound.specs.Computing.{calls}
-use Rattle.agreement_example.specs.Computing.{checks}
+use Rattle.agreement_example.specs.Weighted.{firstTwo, turns, withAuxes, withLastAuxes, withSets, exitIn}
 
 abbrev pub session : Agreed
 session = record { settings = record { n = 3; ta = 1; ts = 1; whole = 6; weights = 2 ^ 48 + 2 ^ 32 + 2 ^ 16 + 7 }; number = 7; coins = 0 ∷ 0 ∷ 0 ∷ []; boxed = 1 }
-
--- The last call stands first; `cs` are the calls before.
 
 unfoldable pub openings : List (Call engine)
 openings = opens 2 ∷ opens 1 ∷ []
@@ -68,30 +60,3 @@ pub record Waits : Type 0 where
 pub record BoxDecides : Type 0 where
   pub meets : BoxedMeet
   pub exit : exitIn (reportAnswer (at-first boxedCalls) 16 16) ≡ 2
-
-boxed-pass : passes session firstTwo 5 boxedCalls ≡ true
-unfolding calls checks openings turns toBoth fromBoth twice withReadies withAuxes withLastAuxes withSets recorded waiting told boxedCalls
-boxed-pass = refl
-
-boxed-sized : AllSized boxedCalls
-unfolding checks openings turns toBoth fromBoth twice withReadies withAuxes withLastAuxes withSets recorded waiting told boxedCalls
-boxed-sized = tt
-
-boxed-meet : BoxedMeet
-boxed-meet start room = passes-example start session firstTwo 5 boxedCalls room boxed-sized boxed-pass
-
-exit-two : exitIn (reportAnswer (at-first boxedCalls) 16 16) ≡ 2
-unfolding calls checks openings turns toBoth fromBoth twice withReadies withAuxes withLastAuxes withSets recorded waiting told boxedCalls exitIn
-exit-two = refl
-
-pub box-decides : BoxDecides
-box-decides = record { meets = boxed-meet; exit = exit-two }
-
-pub waits : Waits
-unfolding calls checks openings turns toBoth fromBoth twice withReadies withAuxes withLastAuxes withSets recorded waiting told
-waits = record { before = refl; again = refl; after = refl }
-
--- one recording is refused, and no other call
-pub boxed-refusals : refusals session firstTwo 5 boxedCalls .numbers ≡ COIN ∷ []
-unfolding calls checks openings turns toBoth fromBoth twice withReadies withAuxes withLastAuxes withSets recorded waiting told boxedCalls
-boxed-refusals = refl

@@ -14,7 +14,7 @@ use Rattle.journal.specs.Journal.{openNumber, turnedOutcome, turnedMessage}
 use Rattle.restore.specs.Restoring.{MESSAGE-BYTES}
 use Rattle.agreement.specs.Calls.{Call, opening, delivery, turn, report, restore, recording}
 use Rattle.agreement.specs.EngineCalls.{engine, Arguments, Bytes, TurnLent, BitGiven, RestoreLent, Agreed, agreed}
-use Rattle.agreement.specs.EngineOpening.{first}
+use Rattle.agreement.specs.EngineCalls.{first}
 use Rattle.agreement_example.specs.Bits.{boxBit}
 
 -- a line of a journal: its bytes, the words after it, and the messages that its call sent, one or none

@@ -3,24 +3,19 @@
 --   Then the SEND was delivered to itself, so its line must stand. The lines of that delivery and of the ECHO are lost: the ECHO reached nobody,
 --   the SEND is delivered once more.
 use Prim.Native.Nat.{ℕ}
-use mathlib.Core.Bool.{true}
 use mathlib.Core.List.{List, [], _∷_, _++_}
-use mathlib.Core.Path.{_≡_, refl}
+use mathlib.Core.Path.{_≡_}
 use lib.ListN.{length}
 use Rattle.records.specs.Layout.{stateWords}
-use Rattle.records.specs.Fill.{blank}
+use Rattle.records.specs.Words.{blank}
 use Rattle.wire.specs.declared.Message.the-variants.{Send, Echo, Ready, Commit}
 use Rattle.journal.specs.Lines.{LETTER-D, LETTER-T, openingLine, turnLine}
 use Rattle.agreement.specs.Evidence.{Honest}
 use Rattle.agreement.specs.Calls.{Call, opening, report, restore, world}
 use Rattle.agreement.specs.EngineCalls.{engine, RestoreLent}
-use Rattle.agreement_example.specs.Example.{Example, passes, passes-example}
-use Rattle.agreement_example.specs.Refusals.{refusals}
-use Rattle.agreement_example.specs.Tracking.{AllSized}
+use Rattle.agreement_example.specs.Example.{Example}
 use Rattle.agreement_example.specs.Messages.{openingOf, deliver, turnOf}
 use Rattle.agreement_example.specs.One.{session, everyone}
-use Rattle.turn_bound.specs.Computing.{calls}
-use Rattle.agreement_example.specs.Computing.{checks}
 
 -- the line of the opening
 abbrev pub firstLine : List ℕ
@@ -61,20 +56,3 @@ LostMeets =
     (start : ℕ → List ℕ) → ((p : ℕ) → Honest (world engine session everyone) p → length (start p) ≡ stateWords) →
     (v w : List ℕ) → length v ≡ stateWords → length w ≡ stateWords →
     Example start session everyone (lostCalls v w) 5
-
-module _ (v w : List ℕ) where
-  lost-passes : passes session everyone 5 (lostCalls v w) ≡ true
-  unfolding calls checks from onceRestored twiceRestored lostCalls
-  lost-passes = refl
-
-  -- no opening, delivery or turn is refused
-  pub lost-refusals : refusals session everyone 5 (lostCalls v w) .numbers ≡ []
-  unfolding calls checks from onceRestored twiceRestored lostCalls
-  lost-refusals = refl
-
-  lost-sized : length v ≡ stateWords → length w ≡ stateWords → AllSized (lostCalls v w)
-  unfolding checks from onceRestored twiceRestored lostCalls
-  lost-sized a b = (b, (a, tt))
-
-pub lost-meets : LostMeets
-lost-meets start room v w a b = passes-example start session everyone 5 (lostCalls v w) room (lost-sized v w a b) (lost-passes v w)

@@ -7,9 +7,11 @@ ghost use Prim.Native.Nat.{_+_, _≤_};
 ghost use lib.Dec.{leb};
 ghost use Rattle.records.specs.Records.{readyHeld, readyValue, echoHeld, echoValue};
 ghost use Rattle.records.specs.Words.{word, marked};
-ghost use Rattle.broadcasts.specs.Leading.{heldCount, holders, leads, leading};
+ghost use Rattle.broadcasts.specs.laws.Leading.{heldCount};
+ghost use Rattle.broadcasts.specs.Leading.{holders, leads, leading};
 ghost use Rattle.broadcasts.specs.Broadcasts.{output, echoAct, readyDue, readyAct, echoRule, readyRule};
-ghost use Rattle.broadcasts.specs.Outputs.{outputAt, Stored, Outputs};
+ghost use Rattle.broadcasts.specs.Outputs.{outputAt, Outputs};
+ghost use Rattle.broadcasts.specs.laws.Outputs.{Stored};
 
 // A value that enough senders hold, if there is one.
 pub enum Output {

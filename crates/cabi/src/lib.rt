@@ -19,7 +19,7 @@ ghost use Rattle.report.specs.Report.{reportAnswer, reportNamed, reportInForce}
 ghost use Rattle.restore.specs.Restoring.{restoreAnswer, restoredWords, restoredBytes};
 ghost use Rattle.turn.specs.Turn.{sentLength, turnOutcome, turnWords};
 ghost use Rattle.cabi.specs.Answers.{entryNumber, outcomeNumber, figuresNumber, reportNumber, restoredNumber, bitValue, replyNumber};
-ghost use Rattle.cabi.specs.Cases.{lineLength, messageLength};
+ghost use Rattle.cabi.specs.laws.Cases.{lineLength, messageLength};
 
 fn entry_number(e: Entry) -> u64
     requires { ⌜ lineLength e ≤ 512 ⌝ }

@@ -7,7 +7,7 @@ use Rattle.settings.specs.Refusals.{NO-STATE, CLOSED, HELD}
 use Rattle.records.specs.Layout.{sendMarksAt, sendValueAt, echoMarksAt, echoValueAt, readyMarksAt, readyValueAt, voteAt, estMark, auxMark, commitCountAt, commitRowAt}
 use Rattle.records.specs.Words.{put, setMark}
 use Rattle.records.specs.Records.{closed, sendHeld, echoHeld, readyHeld, estHeld, auxHeld}
-use Rattle.records.specs.Fill.{storeOf}
+use Rattle.records.specs.Words.{storeOf}
 use Rattle.commits.specs.Commits.{commitHeld}
 use Rattle.session.specs.Session.{stored}
 use Rattle.session.specs.declared.Session.{Session}

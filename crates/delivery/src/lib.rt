@@ -10,7 +10,7 @@ ghost use mathlib.Core.Bool.{_||_};
 ghost use Rattle.records.specs.Layout.{commitRowAt, commitCountAt};
 ghost use Rattle.records.specs.Words.{put, setMark};
 ghost use Rattle.records.specs.Records.{estHeld, auxHeld};
-ghost use Rattle.records.specs.Fill.{storeOf};
+ghost use Rattle.records.specs.Words.{storeOf};
 ghost use Rattle.wire.specs.Bytes.{valueAt};
 ghost use Rattle.delivery.specs.Delivery.{placeHeld, judged, verdictIn, verdict, recorded, answerOf, deliverAnswer, delivered};
 

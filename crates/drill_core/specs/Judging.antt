@@ -4,10 +4,10 @@ use mathlib.Core.Bool.{Bool, true, false, _&&_, not, cond}
 use lib.Dec.{eqb, leb, ltb}
 use Rattle.quorum.specs.Marks.{mark}
 use Rattle.records.specs.Layout.{stateWords}
-use Rattle.records.specs.Fill.{blank}
+use Rattle.records.specs.Words.{blank}
 use Rattle.session.specs.Session.{numbered}
 use Rattle.opening.specs.Given.{weightsWord}
-use Rattle.opening.specs.Ones.{onesGiven}
+use Rattle.opening.specs.Given.{onesGiven}
 use Rattle.opening.specs.Opening.{openAnswer}
 use Rattle.drill_lines.specs.declared.Line.{Line}
 use Rattle.drill_lines.specs.declared.Line.the-variants as line

@@ -3,7 +3,6 @@ use Prim.Native.Nat.{ℕ, _-_}
 use mathlib.Core.Bool.{cond}
 use mathlib.Core.List.{List, [], _∷_}
 use lib.ListN.{take}
-use lib.Dec.{ltb}
 use Rattle.quorum.specs.Marks.{mark, withMark}
 use Rattle.records.specs.Words.{word, put}
 use Rattle.drill_feeder.specs.Steps.{steps}
@@ -48,9 +47,6 @@ inputGiven g p value = record {
   coins = g .coins;
   inputs = put (g .inputs) (p - 1) value;
 }
-
-unfoldable pub fewer : ℕ → ℕ → ℕ
-fewer n count = cond (ltb n count) n count
 
 -- session p opened with an input and "n coin words"
 unfoldable pub openedWith : Given → (p input : ℕ) → List ℕ → List ℕ → List ℕ

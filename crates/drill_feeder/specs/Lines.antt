@@ -8,7 +8,7 @@ use lib.Dec.{ltb}
 use Rattle.quorum.specs.Marks.{mark}
 use Rattle.wire.specs.Message.{headerWith, messageBytes}
 use Rattle.opening.specs.Given.{weightsWord}
-use Rattle.opening.specs.Ones.{onesGiven}
+use Rattle.opening.specs.Given.{onesGiven}
 use Rattle.opening.specs.Opening.{opened}
 use Rattle.delivery.specs.Delivery.{delivered}
 use Rattle.turn.specs.Turn.{turnOutcome, turnWords, turnBytes}

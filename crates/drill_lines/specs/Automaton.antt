@@ -82,16 +82,6 @@ extended r c = extendedAs (formOf (r .kind) (r .field)) r c
 unfoldable pub fed : Reader → ℕ → Reader
 fed r c = cond (r .bad) r (cond (eqb (r .kind) 0) (lettered c) (cond (eqb c TAB) (parted r) (extended r c)))
 
--- the line of a letter that may stand after the N, C and P lines
-unfoldable pub laterLine : ℕ → Numbers → Line
-laterLine kind x =
-    byKind kind Bad Bad Bad
-    (T (x .sixth))
-    (D (x .fifth) (x .sixth))
-    (L (x .first) (x .second) (x .third) (x .fourth) (x .fifth) (x .sixth))
-    R
-    Bad
-
 -- the line of a letter and the last six numbers
 unfoldable pub lineWith : ℕ → Numbers → Line
 lineWith kind x =

@@ -3,7 +3,8 @@ use crate::Line;
 use crate::Numbers;
 use crate::Reader;
 ghost use mathlib.Core.Path.{_≡_};
-ghost use Rattle.drill_lines.specs.Automaton.{countOf, formOf, room, counted, pushed, noNumbers, reading, start, wrong, lettered, parted, extendedAs, fed, laterLine, lineWith, finished};
+ghost use Rattle.drill_lines.specs.Automaton.{countOf, formOf, room, counted, pushed, noNumbers, reading, start, wrong, lettered, parted, extendedAs, fed, lineWith, finished};
+ghost use Rattle.drill_lines.specs.laws.Automaton.{laterLine};
 
 const TAB: u8 = 9;
 

@@ -1,9 +1,9 @@
 // The lines, written at the front of the lent bytes. Each function of a part writes from a place on, as far as the bytes go, and answers the
 // place after it.
 ghost use Rattle.text.specs.Paste.{Wrote};
-ghost use Rattle.text.specs.Each.{eachText};
+ghost use Rattle.text.specs.Fields.{eachText};
 ghost use Rattle.journal.specs.Lines.{openingLine, deliveryLine, recordingLine, turnLine};
-ghost use Rattle.journal.specs.Parts.{tabDecimal, tabWord, tabPack, settingsPart, inputPart, listsPart};
+ghost use Rattle.journal.specs.laws.Parts.{tabDecimal, tabWord, tabPack, settingsPart, inputPart, listsPart};
 
 const TAB: u8 = 9;
 

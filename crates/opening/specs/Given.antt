@@ -1,8 +1,9 @@
 -- The lists that an opening is given: coin words, and weights (request N11), which are kept as one word.
+-- Weights of 1.
 use Prim.Native.Nat.{ℕ, _-_}
 use mathlib.Core.Bool.{Bool, _&&_, _||_, cond}
 use mathlib.Core.List.{List}
-use lib.ListN.{length}
+use lib.ListN.{length, replicate}
 use lib.Dec.{eqb, leb}
 use Rattle.quorum.specs.Every.{every}
 use Rattle.quorum.specs.Packed.{packed}
@@ -31,3 +32,7 @@ weightsGiven n weights = leb n 16 && eqb (length weights) n && every (weightGive
 -- the weights as they are stored; a list that is not right is the word 0, by which nobody has a weight, and so refused as 1
 unfoldable pub weightsWord : ℕ → List ℕ → ℕ
 weightsWord n weights = cond (weightsGiven n weights) (packed (item weights) n) 0
+
+-- n weights of 1
+unfoldable pub onesGiven : ℕ → List ℕ
+onesGiven n = replicate n 1

@@ -8,7 +8,7 @@ use Rattle.settings.specs.Refusals.{SETTINGS, NO-STATE}
 use Rattle.settings.specs.Settings.{validSettings, namedTa}
 use Rattle.records.specs.Layout.{stateWords, nAt, taAt, tsAt, ownAt, sessionAt, inputAt, weightsAt, boxedAt, coinAt}
 use Rattle.records.specs.Words.{put}
-use Rattle.records.specs.Fill.{blank, storeOf}
+use Rattle.records.specs.Words.{blank, storeOf}
 use Rattle.session.specs.Session.{numbered}
 use Rattle.opening.specs.Given.{item, coinsGiven}
 

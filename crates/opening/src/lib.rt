@@ -9,7 +9,7 @@ use settings::refusal;
 ghost use mathlib.Core.Path.{_≡_};
 ghost use lib.ListN.{length};
 ghost use Rattle.settings.specs.Settings.{validSettings, namedTa};
-ghost use Rattle.records.specs.Fill.{blank};
+ghost use Rattle.records.specs.Words.{blank};
 ghost use Rattle.opening.specs.Opening.{openAnswer, withSettings, opened};
 ghost use Rattle.opening.specs.Given.{weightsWord};
 

@@ -5,7 +5,7 @@ use settings::Settings;
 use settings::refusal;
 ghost use mathlib.Core.Path.{_≡_};
 ghost use Rattle.recording.specs.Recording.{bitMark, otherMark, inLayout, unopposed, recordable, recordAnswer, withBit, recordedWords};
-ghost use Rattle.recording.specs.Cases.{runningAnswer};
+ghost use Rattle.recording.specs.laws.Cases.{runningAnswer};
 
 // Whether the session is boxed, and vote, round and bit are within the layout.
 fn in_layout(s: &[u64], n: u8, i: u64, r: u64, b: u64) -> bool

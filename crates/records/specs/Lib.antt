@@ -1,7 +1,4 @@
 pub mod Words
 pub mod Layout
 pub mod Records
-pub mod Fill
-pub mod Copy
-pub mod Bounds
-pub mod Cases
+pub mod laws

@@ -5,10 +5,11 @@ ghost use mathlib.Core.Path.{_≡_};
 ghost use Prim.Native.Nat.{_≤_};
 ghost use lib.ListN.{length};
 ghost use Rattle.quorum.specs.Marking.{MarksOf};
-ghost use Rattle.records.specs.Copy.{copied};
+ghost use Rattle.records.specs.Words.{copied};
 ghost use Rattle.records.specs.Layout.{voteAt};
 ghost use Rattle.records.specs.Records.{closed, sendSent, commitSent, echoSent, readySent, sendHeld, sendValue, coin, printed, coinKnown, round, estSent, auxSent, decided, commitCount, commitValue};
-ghost use Rattle.records.specs.Words.{word, put, marked, equalAt, Reached, setMark};
+ghost use Rattle.records.specs.Words.{word, put, marked, equalAt, setMark};
+ghost use Rattle.records.specs.laws.Words.{Reached};
 
 // The word at k, and 0 past the end.
 pub fn word(s: &[u64], k: usize) -> u64

@@ -11,7 +11,7 @@ use Rattle.records.specs.Layout.{turnsAt}
 use Rattle.records.specs.Words.{word}
 use Rattle.records.specs.Records.{closed}
 use Rattle.commits.specs.Commits.{leadingSet}
-use Rattle.exits.specs.Now.{exitNow}
+use Rattle.exits.specs.Exits.{exitNow}
 use Rattle.session.specs.Session.{stored}
 use Rattle.session.specs.declared.Session.{Session}
 use Rattle.session.specs.declared.Stored.{Stored}

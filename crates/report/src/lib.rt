@@ -7,13 +7,13 @@ use settings::refusal;
 ghost use mathlib.Core.Path.{_≡_};
 ghost use Prim.Native.Nat.{_≤_};
 ghost use lib.ListN.{length};
-ghost use Rattle.settings.specs.Laws.{Ruled};
-ghost use Rattle.records.specs.Copy.{copied};
+ghost use Rattle.settings.specs.Rules.{Ruled};
+ghost use Rattle.records.specs.Words.{copied};
 ghost use Rattle.commits.specs.Commits.{setOf};
-ghost use Rattle.exits.specs.Now.{exitNow};
+ghost use Rattle.exits.specs.Exits.{exitNow};
 ghost use Rattle.exits.specs.Stated.{Stated};
 ghost use Rattle.report.specs.Report.{admittedIn, admits, figuresOf, inForceSet, reportAnswer, reportNamed, reportInForce};
-ghost use Rattle.report.specs.Cases.{inForceSender, SetRoom, SetWritten, Room, Written};
+ghost use Rattle.report.specs.laws.Cases.{inForceSender, SetRoom, SetWritten, Room, Written};
 
 // What a report tells beside the sets, which stand at the front of the lent words: the exit, 0 for none, the number of
 // values named and in force, and the turns that were not idle.

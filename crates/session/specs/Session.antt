@@ -46,8 +46,5 @@ sessionWith g s = record { settings = g; own = word s ownAt; number = word s ses
 unfoldable pub sessionOf : List ℕ → Session
 sessionOf s = sessionWith (settingsOf s) s
 
-unfoldable pub storedWith : Settings → List ℕ → Stored
-storedWith g s = cond (numbersRight g s) (Held (sessionWith g s)) NoState
-
 unfoldable pub stored : List ℕ → Stored
 stored s = cond (isState s) (Held (sessionOf s)) NoState

@@ -5,8 +5,6 @@ use mathlib.Core.Bool.{Bool, _&&_, cond}
 use lib.Dec.{eqb, ltb, leb}
 use Rattle.quorum.specs.Whole.{wholeOf, weightsRight}
 use Rattle.settings.specs.declared.Settings.{Settings}
-use Rattle.settings.specs.declared.Checked.{Checked}
-use Rattle.settings.specs.declared.Checked.the-variants.{Valid, Invalid}
 
 -- "n from 1 to 16, with ta ≤ ts and 2·ts + ta < n", the last n being the sum of the weights; a weight of 0 or over 4 is against the rules
 unfoldable pub validSettings : ℕ → ℕ → ℕ → ℕ → Bool
@@ -32,10 +30,6 @@ settingsFrom n ta ts w = record { n = n; ta = ta; ts = ts; whole = wholeOf w n; 
 -- .. where ta is the one given
 abbrev pub settingsNamed : ℕ → ℕ → ℕ → ℕ → Settings
 settingsNamed n ta ts w = settingsFrom n (namedTa n ta ts w) ts w
-
--- settings within the rules; ta is taken as it is, so that a stored 255 is refused
-unfoldable pub checkSettings : ℕ → ℕ → ℕ → ℕ → Checked
-checkSettings n ta ts w = cond (validSettings n ta ts w) (Valid (settingsFrom n ta ts w)) Invalid
 
 -- "n−ts senders' COMMITs", "n−ts ECHOs", "n−ts senders' READYs", "at least n−ts broadcasts"
 unfoldable pub quorum : Settings → ℕ

@@ -15,7 +15,7 @@ use Rattle.acts.specs.declared.Act.the-variants.{Idle, InForce, Commit, Send}
 use Rattle.broadcasts.specs.Leading.{present}
 use Rattle.broadcasts.specs.Broadcasts.{output, echoRule, readyRule}
 use Rattle.votes.specs.Votes.{votesDecidedOne, voteAct}
-use Rattle.exits.specs.Now.{exitNow}
+use Rattle.exits.specs.Exits.{exitNow}
 use Rattle.commits.specs.Commits.{setLeader, leadingSet}
 
 -- 1. "In force: n−ts senders' COMMITs hold the same set."

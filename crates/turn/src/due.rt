@@ -4,14 +4,14 @@ use exits::Named;
 use records::layout;
 use settings::Settings;
 ghost use mathlib.Core.Path.{_≡_};
-ghost use Rattle.settings.specs.Laws.{Ruled};
+ghost use Rattle.settings.specs.Rules.{Ruled};
 ghost use Rattle.settings.specs.Settings.{copy};
 ghost use Rattle.broadcasts.specs.Outputs.{Outputs};
 ghost use Rattle.exits.specs.Stated.{Stated};
 ghost use Rattle.commits.specs.Commits.{leadingSet};
 ghost use Rattle.turn.specs.Due.{inForceRule, commitDue, commitOf, commitRule, sendRule, due};
-ghost use Rattle.exits.specs.Now.{exitNow};
-ghost use Rattle.turn.specs.Choosing.{Readable, Chosen, lastRules, laterRules};
+ghost use Rattle.exits.specs.Exits.{exitNow};
+ghost use Rattle.turn.specs.laws.Choosing.{Readable, Chosen, lastRules, laterRules};
 
 // Rule 1: the COMMITs of senders of weight n − ts hold the same set.
 fn in_force_rule(s: &[u64], g: Settings) -> Act

@@ -7,7 +7,7 @@ use lib.Dec.{eqb}
 use Rattle.settings.specs.Refusals.{SETTINGS, NO-STATE}
 use Rattle.records.specs.Layout.{stateWords, nAt, taAt, tsAt, ownAt, sessionAt, inputAt, boxedAt}
 use Rattle.records.specs.Words.{put}
-use Rattle.records.specs.Fill.{blank}
+use Rattle.records.specs.Words.{blank}
 use Rattle.session.specs.Session.{numbered}
 use Rattle.opening.specs.Given.{coinsGiven}
 use Rattle.opening.specs.Opening.{withCoins}

@@ -11,7 +11,7 @@ use Rattle.quorum.specs.Weights.{weightOf}
 use Rattle.records.specs.Layout.{nAt, weightsAt}
 use Rattle.records.specs.Words.{word, put}
 use Rattle.opening.specs.Given.{weightsWord}
-use Rattle.opening.specs.Ones.{onesGiven}
+use Rattle.opening.specs.Given.{onesGiven}
 use Rattle.opening.specs.Opening.{openAnswer, opened}
 use Rattle.delivery.specs.Delivery.{deliverAnswer, delivered}
 use Rattle.recording.specs.Recording.{recordAnswer, recordedWords}

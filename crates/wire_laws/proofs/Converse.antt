@@ -16,9 +16,10 @@ use Rattle.wire.specs.declared.Message.{Message}
 use Rattle.wire.specs.declared.Message.the-variants.{Send, Echo, Ready, Est, Aux, Commit}
 use Rattle.wire.specs.declared.Parsed.{Parsed}
 use Rattle.wire.specs.declared.Parsed.the-variants.{Refused, Taken}
-use Rattle.quorum.specs.Bools.{and-left, and-right}
+use Rattle.quorum.specs.laws.Bools.{and-left, and-right}
 use Rattle.wire_laws.specs.Proper.{Layout}
-use Rattle.wire_laws.specs.Laws.{Form, OnlyEncodings}
+use Rattle.wire_laws.specs.laws.Forms.{Form}
+use Rattle.wire_laws.specs.RoundTrip.{OnlyEncodings}
 use Rattle.wire_laws.proofs.Parts.{length-values, values-fitting, bytes-values, bytes-header, all-drop}
 
 -- where a test stands before a refusal and the message was taken, it was passed

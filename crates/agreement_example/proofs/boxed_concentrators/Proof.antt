@@ -1,5 +1,5 @@
 -- `agreement_example::boxed_concentrators` states a theorem of specs/Boxed.antt.
-use Rattle.agreement_example.specs.Boxed.{box-decides}
+use Rattle.agreement_example.specs.laws.Boxed.{box-decides}
 use Rattle.agreement_example.proofs.boxed_concentrators.Statement.{statement}
 use Rattle.agreement_example.proofs.boxed_concentrators.Tie as tie
 

@@ -1,5 +1,5 @@
 -- `agreement_example::weighted_concentrators` states a theorem of specs/Weighted.antt.
-use Rattle.agreement_example.specs.Weighted.{heavy-decides}
+use Rattle.agreement_example.specs.laws.Weighted.{heavy-decides}
 use Rattle.agreement_example.proofs.weighted_concentrators.Statement.{statement}
 use Rattle.agreement_example.proofs.weighted_concentrators.Tie as tie
 

@@ -1,5 +1,5 @@
 -- A value with n − ts ECHOs, else one with ts + 1 READYs.
-use Rattle.broadcasts.specs.Cases.{due-cases}
+use Rattle.broadcasts.specs.laws.Cases.{due-cases}
 use borrow.Author.Needs.{needs}
 use Rattle.broadcasts.proofs.ready_due.Statement.{statement}
 use Rattle.broadcasts.proofs.ready_due.Tie as tie

@@ -1,5 +1,5 @@
 -- The marks of the AUX, of either value.
-use Rattle.delivery.specs.Cases.{place-cases}
+use Rattle.delivery.specs.laws.Cases.{place-cases}
 use borrow.Author.Needs.{needs}
 use Rattle.delivery.proofs.aux_held.Statement.{statement}
 use Rattle.delivery.proofs.aux_held.Tie as tie

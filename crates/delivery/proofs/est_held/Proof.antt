@@ -1,5 +1,5 @@
 -- The mark of the EST.
-use Rattle.delivery.specs.Cases.{place-cases}
+use Rattle.delivery.specs.laws.Cases.{place-cases}
 use borrow.Author.Needs.{needs}
 use Rattle.delivery.proofs.est_held.Statement.{statement}
 use Rattle.delivery.proofs.est_held.Tie as tie

@@ -1,5 +1,5 @@
 -- No state, or the verdict in its session.
-use Rattle.delivery.specs.Cases.{verdict-cases}
+use Rattle.delivery.specs.laws.Cases.{verdict-cases}
 use borrow.Author.Needs.{needs}
 use Rattle.delivery.proofs.judge.Statement.{statement}
 use Rattle.delivery.proofs.judge.Tie as tie

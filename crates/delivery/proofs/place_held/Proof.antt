@@ -1,5 +1,5 @@
 -- The place of each kind.
-use Rattle.delivery.specs.Cases.{place-cases}
+use Rattle.delivery.specs.laws.Cases.{place-cases}
 use borrow.Author.Needs.{needs}
 use Rattle.delivery.proofs.place_held.Statement.{statement}
 use Rattle.delivery.proofs.place_held.Tie as tie

@@ -1,5 +1,5 @@
 -- Each kind in its place.
-use Rattle.delivery.specs.Cases.{record-cases}
+use Rattle.delivery.specs.laws.Cases.{record-cases}
 use borrow.Author.Needs.{needs}
 use Rattle.delivery.proofs.record.Statement.{statement}
 use Rattle.delivery.proofs.record.Tie as tie

@@ -1,6 +1,6 @@
 -- After k steps values 1 to k are stored.
 use Prim.Native.Nat.{_+_, _*_, _-_}
-use Rattle.records.specs.Fill.{Storing, storing}
+use Rattle.records.specs.laws.Fill.{Storing, storing}
 use Rattle.wire.specs.Bytes.{valueAt}
 use borrow.Author.Needs.{needs}
 use Rattle.delivery.proofs.record_values.Statement.{statement}

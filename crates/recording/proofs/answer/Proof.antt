@@ -1,5 +1,5 @@
 -- The state, then the rest.
-use Rattle.recording.specs.Cases.{answer-cases}
+use Rattle.recording.specs.laws.Cases.{answer-cases}
 use borrow.Author.Needs.{needs}
 use Rattle.recording.proofs.answer.Statement.{statement}
 use Rattle.recording.proofs.answer.Tie as tie

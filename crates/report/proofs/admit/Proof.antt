@@ -1,5 +1,5 @@
 -- No state, or the room in its session.
-use Rattle.report.specs.Cases.{admit-cases}
+use Rattle.report.specs.laws.Cases.{admit-cases}
 use borrow.Author.Needs.{needs}
 use Rattle.report.proofs.admit.Statement.{statement}
 use Rattle.report.proofs.admit.Tie as tie

@@ -1,5 +1,5 @@
 -- The array of outputs gives the exit of the records.
-use Rattle.exits.specs.Now.{exit-stated}
+use Rattle.exits.specs.laws.Now.{exit-stated}
 use borrow.Author.Needs.{needs}
 use Rattle.report.proofs.exit_now.Statement.{statement}
 use Rattle.report.proofs.exit_now.Tie as tie

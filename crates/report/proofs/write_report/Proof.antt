@@ -1,5 +1,5 @@
 -- The set of the exit, then the set in force.
-use Rattle.report.specs.Cases.{report-done}
+use Rattle.report.specs.laws.Cases.{report-done}
 use borrow.Author.Needs.{needs}
 use Rattle.report.proofs.write_report.Statement.{statement}
 use Rattle.report.proofs.write_report.Tie as tie

@@ -1,5 +1,5 @@
 -- Nobody's set, or that of a COMMIT.
-use Rattle.report.specs.Cases.{set-none, set-there, set-fits, set-done}
+use Rattle.report.specs.laws.Cases.{set-none, set-there, set-fits, set-done}
 use borrow.Author.Needs.{needs}
 use Rattle.report.proofs.write_set.Statement.{statement}
 use Rattle.report.proofs.write_set.Tie as tie

@@ -1,5 +1,5 @@
 -- The tests in their order.
-use Rattle.session.specs.Cases.{number-cases}
+use Rattle.session.specs.laws.Cases.{number-cases}
 use borrow.Author.Needs.{needs}
 use Rattle.session.proofs.numbers_right.Statement.{statement}
 use Rattle.session.proofs.numbers_right.Tie as tie

@@ -1,5 +1,5 @@
 -- No state, closed, too short, or open.
-use Rattle.turn.specs.Taking.{admit-cases}
+use Rattle.turn.specs.laws.Taking.{admit-cases}
 use borrow.Author.Needs.{needs}
 use Rattle.turn.proofs.admit.Statement.{statement}
 use Rattle.turn.proofs.admit.Tie as tie

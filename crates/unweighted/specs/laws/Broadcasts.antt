@@ -4,7 +4,7 @@ use mathlib.Core.Bool.{Bool, _&&_, cond}
 use mathlib.Core.List.{List}
 use mathlib.Core.Path.{_≡_, refl, ap, ap₂, fun-ext, _∙_}
 use lib.Dec.{eqb, leb}
-use Rattle.quorum.specs.Lowest.{lowest-agree}
+use Rattle.quorum.specs.laws.Lowest.{lowest-agree}
 use Rattle.records.specs.Records.{readySent, echoHeld, echoValue, readyHeld, readyValue}
 use Rattle.acts.specs.Acts.{firstAct}
 use Rattle.acts.specs.declared.Act.{Act}

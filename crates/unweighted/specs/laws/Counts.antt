@@ -4,10 +4,11 @@ use mathlib.Core.Bool.{Bool, true, false, _&&_}
 use mathlib.Core.Path.{_≡_, refl, ap, _∙_}
 use lib.Dec.{leb}
 use Rattle.quorum.specs.Total.{count, everyone}
-use Rattle.quorum.specs.TotalLaws.{count-everyone}
+use Rattle.quorum.specs.laws.Total.{count-everyone}
 use Rattle.quorum.specs.Weights.{weightOf, weigh}
-use Rattle.quorum.specs.Whole.{wholeOf, weightRight, weightsRight, total-weights}
-use Rattle.quorum.specs.Every.{each-every}
+use Rattle.quorum.specs.Whole.{wholeOf, weightRight, weightsRight}
+use Rattle.quorum.specs.laws.Whole.{total-weights}
+use Rattle.quorum.specs.laws.Every.{each-every}
 use Rattle.settings.specs.Settings as weighted
 use Rattle.settings.specs.declared.Settings as weighted-settings
 use Rattle.unweighted.specs.Settings.{Settings, validSettings, namedTa, quorum, copy, voteQuorum, relay, accept, turnBound}

@@ -6,12 +6,12 @@ use mathlib.Core.Path.{_≡_, refl, sym, subst}
 use lib.Dec.{eqb}
 use borrow.Author.Tests.{eqb-true}
 use Rattle.quorum.specs.Weights.{weightOf}
-use Rattle.settings.specs.Laws.{Ruled}
+use Rattle.settings.specs.Rules.{Ruled}
 use Rattle.settings.specs.declared.Settings.{Settings}
 use Rattle.session.specs.Session.{settingsOf}
 use Rattle.opening.specs.Given.{weightsWord}
 use Rattle.turn_bound.specs.TurnBound.{Arguments, answer, openedBy, settingsBy, Step, opening, delivery, turn, report, recording, after, current}
-use Rattle.turn_bound.specs.Count.{opening-going, going}
+use Rattle.turn_bound.specs.laws.Count.{opening-going, going}
 use Rattle.unweighted.specs.Statement.{AllOne, Alike, GivenOnes, EachGivenOnes, AnswersAlike, Unweighted}
 use Rattle.unweighted.specs.laws.Counts.{Ones, whole-count}
 use Rattle.unweighted.specs.laws.Delivery.{deliver-answer-same, delivered-same}

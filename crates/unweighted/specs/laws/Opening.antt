@@ -9,17 +9,18 @@ use lib.ListN.{length}
 use lib.Seq.{set-comm}
 use borrow.Author.Tests.{le-leb, lt-leb, eq-eqb, ne-eqb}
 use Rattle.quorum.specs.Weights.{weightOf}
-use Rattle.quorum.specs.Whole.{ones-weight}
-use Rattle.settings.specs.Laws.{valid-rules}
+use Rattle.quorum.specs.laws.Whole.{ones-weight}
+use Rattle.settings.specs.laws.Rules.{valid-rules}
 use Rattle.settings.specs.Settings as weighted-settings
 use Rattle.records.specs.Layout.{weightsAt, boxedAt, coinAt}
 use Rattle.records.specs.Words.{put}
-use Rattle.records.specs.Fill.{storeOf}
+use Rattle.records.specs.Words.{storeOf}
 use Rattle.opening.specs.Given.{item, weightsWord}
-use Rattle.opening.specs.Ones.{onesGiven, ones-word}
+use Rattle.opening.specs.Given.{onesGiven}
+use Rattle.opening.specs.laws.Ones.{ones-word}
 use Rattle.opening.specs.Opening.{withCoins}
 use Rattle.opening.specs.Opening as weighted
-use Rattle.opening.specs.Cases as weighted-cases
+use Rattle.opening.specs.laws.Cases as weighted-cases
 use Rattle.unweighted.specs.Settings.{validSettings, namedTa}
 use Rattle.unweighted.specs.Opening.{openAnswer, withSettings, openWords, opened}
 use Rattle.unweighted.specs.Statement.{OpensAlike}

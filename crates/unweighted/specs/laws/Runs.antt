@@ -8,10 +8,11 @@ use lib.ListN.{length}
 use lib.Seq.{set-set, set-getD}
 use borrow.Author.Tests.{eq-eqb}
 use Rattle.records.specs.Layout.{stateWords, nAt, taAt, tsAt, ownAt, sessionAt, inputAt, weightsAt, boxedAt, coinAt}
-use Rattle.records.specs.Words.{word, put, length-put, word-put-other}
-use Rattle.records.specs.Fill.{word-blank, store-other}
+use Rattle.records.specs.Words.{word, put}
+use Rattle.records.specs.laws.Words.{length-put, word-put-other}
+use Rattle.records.specs.laws.Fill.{word-blank, store-other}
 use Rattle.opening.specs.Given.{item, weightsWord}
-use Rattle.opening.specs.Ones.{onesGiven}
+use Rattle.opening.specs.Given.{onesGiven}
 use Rattle.opening.specs.Opening.{withCoins}
 use Rattle.opening.specs.Opening as weighted-opening
 use Rattle.turn_bound.specs.TurnBound.{Arguments, answer, openedBy, Step, opening, delivery, turn, report, recording, after}

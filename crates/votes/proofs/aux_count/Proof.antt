@@ -1,5 +1,5 @@
 -- `aux_count` counts the group of marks of AUX b.
-use Rattle.votes.specs.Cases.{aux-counted}
+use Rattle.votes.specs.laws.Cases.{aux-counted}
 use borrow.Author.Needs.{needs}
 use Rattle.votes.proofs.aux_count.Statement.{statement}
 use Rattle.votes.proofs.aux_count.Tie as tie

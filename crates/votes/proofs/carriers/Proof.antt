@@ -1,5 +1,5 @@
 -- The groups of the accepted values, one over the other, weighed at once.
-use Rattle.votes.specs.Cases.{carriers-weighed}
+use Rattle.votes.specs.laws.Cases.{carriers-weighed}
 use borrow.Author.Needs.{needs}
 use Rattle.votes.proofs.carriers.Statement.{statement}
 use Rattle.votes.proofs.carriers.Tie as tie

@@ -1,5 +1,5 @@
 -- `est_count` counts the group of marks of EST b.
-use Rattle.votes.specs.Cases.{est-counted}
+use Rattle.votes.specs.laws.Cases.{est-counted}
 use borrow.Author.Needs.{needs}
 use Rattle.votes.proofs.est_count.Statement.{statement}
 use Rattle.votes.proofs.est_count.Tie as tie

@@ -2,9 +2,9 @@
 use Prim.Native.Nat.{_-_}
 use borrow.Author.Needs.{needs}
 use Rattle.quorum.specs.Marks.{mark}
-use Rattle.acts.specs.First.{Quiet, firsts}
+use Rattle.acts.specs.laws.First.{Quiet, firsts}
 use Rattle.votes.specs.Votes.{voteAct, voteRule}
-use Rattle.votes.specs.Cases.{vote-numbered}
+use Rattle.votes.specs.laws.Cases.{vote-numbered}
 use Rattle.votes.proofs.vote_rule.Statement.{statement}
 use Rattle.votes.proofs.vote_rule.Tie as tie
 

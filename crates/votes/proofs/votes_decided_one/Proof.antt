@@ -1,5 +1,5 @@
 -- `votes_decided_one` counts the marks of the votes decided 1.
-use Rattle.votes.specs.Cases.{ones-counted}
+use Rattle.votes.specs.laws.Cases.{ones-counted}
 use borrow.Author.Needs.{needs}
 use Rattle.votes.proofs.votes_decided_one.Statement.{statement}
 use Rattle.votes.proofs.votes_decided_one.Tie as tie

@@ -1,5 +1,5 @@
 -- `counted` goes by the form.
-use Rattle.drill_lines.specs.Cases.{digits-cases}
+use Rattle.drill_lines.specs.laws.Cases.{digits-cases}
 use borrow.Author.Needs.{needs}
 use Rattle.drill_lines.proofs.reading.counted.Statement.{statement}
 use Rattle.drill_lines.proofs.reading.counted.Tie as tie

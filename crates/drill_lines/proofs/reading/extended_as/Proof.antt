@@ -1,5 +1,5 @@
 -- `extended_as` refuses in the order of the definition; the number with the digit was tested to fit.
-use Rattle.drill_lines.specs.Cases.{extended-cases, next-below}
+use Rattle.drill_lines.specs.laws.Cases.{extended-cases, next-below}
 use borrow.Author.Needs.{needs}
 use Rattle.drill_lines.proofs.reading.extended_as.Statement.{statement}
 use Rattle.drill_lines.proofs.reading.extended_as.Tie as tie

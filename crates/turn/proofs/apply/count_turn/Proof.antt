@@ -1,5 +1,5 @@
 -- One more than was stored.
-use Rattle.turn.specs.Applying.{apply-cases}
+use Rattle.turn.specs.laws.Applying.{apply-cases}
 use borrow.Author.Needs.{needs}
 use Rattle.turn.proofs.apply.count_turn.Statement.{statement}
 use Rattle.turn.proofs.apply.count_turn.Tie as tie

@@ -1,5 +1,5 @@
 -- The mark of the value.
-use Rattle.turn.specs.Applying.{apply-cases}
+use Rattle.turn.specs.laws.Applying.{apply-cases}
 use borrow.Author.Needs.{needs}
 use Rattle.turn.proofs.apply.decide.Statement.{statement}
 use Rattle.turn.proofs.apply.decide.Tie as tie

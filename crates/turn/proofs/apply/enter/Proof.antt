@@ -1,5 +1,5 @@
 -- The round, and its EST unless it is round 33.
-use Rattle.turn.specs.Applying.{apply-cases}
+use Rattle.turn.specs.laws.Applying.{apply-cases}
 use borrow.Author.Needs.{needs}
 use Rattle.turn.proofs.apply.enter.Statement.{statement}
 use Rattle.turn.proofs.apply.enter.Tie as tie

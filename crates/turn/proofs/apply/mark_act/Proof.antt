@@ -1,5 +1,5 @@
 -- The marks of each act.
-use Rattle.turn.specs.Applying.{mark-cases}
+use Rattle.turn.specs.laws.Applying.{mark-cases}
 use borrow.Author.Needs.{needs}
 use Rattle.turn.proofs.apply.mark_act.Statement.{statement}
 use Rattle.turn.proofs.apply.mark_act.Tie as tie

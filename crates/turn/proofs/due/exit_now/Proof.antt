@@ -1,5 +1,5 @@
 -- The outputs of the array are those of the state.
-use Rattle.exits.specs.Now.{exit-stated}
+use Rattle.exits.specs.laws.Now.{exit-stated}
 use borrow.Author.Needs.{needs}
 use Rattle.turn.proofs.due.exit_now.Statement.{statement}
 use Rattle.turn.proofs.due.exit_now.Tie as tie

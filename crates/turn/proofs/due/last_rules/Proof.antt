@@ -1,5 +1,5 @@
 -- READY, or the votes unless Exit 1 holds.
-use Rattle.turn.specs.Choosing.{last-cases}
+use Rattle.turn.specs.laws.Choosing.{last-cases}
 use borrow.Author.Needs.{needs}
 use Rattle.turn.proofs.due.last_rules.Statement.{statement}
 use Rattle.turn.proofs.due.last_rules.Tie as tie

@@ -1,5 +1,5 @@
 -- No set, or the first values of the row of its lowest holder.
-use Rattle.turn.specs.Choosing.{repeat-cases}
+use Rattle.turn.specs.laws.Choosing.{repeat-cases}
 use borrow.Author.Needs.{needs}
 use Rattle.turn.proofs.due.repeated_commit.Statement.{statement}
 use Rattle.turn.proofs.due.repeated_commit.Tie as tie

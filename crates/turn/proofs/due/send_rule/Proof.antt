@@ -1,5 +1,5 @@
 -- Once.
-use Rattle.turn.specs.Choosing.{send-cases}
+use Rattle.turn.specs.laws.Choosing.{send-cases}
 use borrow.Author.Needs.{needs}
 use Rattle.turn.proofs.due.send_rule.Statement.{statement}
 use Rattle.turn.proofs.due.send_rule.Tie as tie

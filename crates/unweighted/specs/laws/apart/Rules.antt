@@ -6,9 +6,10 @@ use mathlib.Core.Path.{_≡_, refl, sym, ap, ap₂, fun-ext, _∙_}
 use native.Mathlib.Omega.{arith}
 use lib.Dec.{eqb}
 use borrow.Author.Tests.{eqb-false}
-use Rattle.quorum.specs.TotalLaws.{total-agree}
-use Rattle.quorum.specs.Lowest.{lowest, lowest-agree, lowest-le}
-use Rattle.quorum.specs.Whole.{ones-weight}
+use Rattle.quorum.specs.laws.Total.{total-agree}
+use Rattle.quorum.specs.Lowest.{lowest}
+use Rattle.quorum.specs.laws.Lowest.{lowest-agree, lowest-le}
+use Rattle.quorum.specs.laws.Whole.{ones-weight}
 use Rattle.settings.specs.Settings.{roundLimit}
 use Rattle.settings.specs.declared.Settings as weighted-settings
 use Rattle.records.specs.Layout.{weightsAt, inputAt}
@@ -22,7 +23,7 @@ use Rattle.broadcasts.specs.Leading.{present}
 use Rattle.broadcasts.specs.declared.Output.{Output}
 use Rattle.votes.specs.Votes.{running, carries}
 use Rattle.exits.specs.Exits.{Exit}
-use Rattle.exits.specs.Laws.{exit-agree}
+use Rattle.exits.specs.laws.Exits.{exit-agree}
 use Rattle.commits.specs.Commits.{setOf}
 use Rattle.turn.specs.Due.{orSet, sendRule}
 use Rattle.unweighted.specs.Settings.{Settings}

@@ -11,7 +11,7 @@ use Rattle.settings.specs.Settings.{roundLimit}
 use Rattle.records.specs.Layout.{weightsAt, turnsAt, flagsAt, closedMark, sendSentMark, commitSentMark, echoSentAt, readySentAt, decidedZeroAt, decidedOneAt, roundAt, estSentAt, estSentMark, auxSentAt, sendMarksAt, sendValueAt, echoMarksAt, echoValueAt, readyMarksAt, readyValueAt, voteAt, estMark, auxMark, commitCountAt, commitRowAt}
 use Rattle.records.specs.Words.{put, setMark}
 use Rattle.records.specs.Records.{coin, decided}
-use Rattle.records.specs.Fill.{storeOf}
+use Rattle.records.specs.Words.{storeOf}
 use Rattle.acts.specs.Acts.{isDue}
 use Rattle.acts.specs.declared.Act.{Act}
 use Rattle.acts.specs.declared.Act.the-variants.{Idle, InForce, Commit, Send, Echo, Ready, Start, Relay, Aux, Move}
@@ -21,9 +21,9 @@ use Rattle.wire.specs.Bytes.{valueAt}
 use Rattle.wire.specs.declared.Message.{Message}
 use Rattle.wire.specs.declared.Message.the-variants as message
 use Rattle.delivery.specs.Delivery.{recorded}
-use Rattle.delivery.specs.Frame.{InLayout}
+use Rattle.delivery.specs.laws.Frame.{InLayout}
 use Rattle.turn.specs.Turn.{counted, entered, decidedAs, newDecision, moveDecided, moved, marked, applied}
-use Rattle.turn.specs.Frame.{Placed}
+use Rattle.turn.specs.laws.Frame.{Placed}
 use Rattle.unweighted.specs.laws.Opening.{put-swap, store-put}
 use Rattle.unweighted.specs.laws.apart.Records.{word-apart, coin-apart, decided-apart}
 

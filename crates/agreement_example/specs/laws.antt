@@ -1,0 +1,16 @@
+pub mod Lists
+pub mod Lengths
+pub mod Entries
+pub mod Journals
+pub mod Tracks
+pub mod Restores
+pub mod Tracking
+pub mod Example
+pub mod Refusals
+pub mod Computing
+pub mod One
+pub mod Four
+pub mod Weighted
+pub mod Boxed
+pub mod PowerLost
+pub mod LineLost

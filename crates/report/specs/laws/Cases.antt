@@ -1,0 +1,214 @@
+-- The cases of the code.
+use Prim.Native.Nat.{ℕ, _+_, _*_, _-_, _≤_}
+use mathlib.Core.Bool.{Bool, true, false, _||_, cond}
+use mathlib.Core.List.{List, []}
+use mathlib.Core.Path.{_≡_, refl, sym, ap, _∙_}
+use native.Mathlib.Omega.{arith}
+use native.Mathlib.Nat.{min-le-right}
+use lib.ListN.{length, take, drop, length-take, length-drop}
+use lib.Seq.{take-all, length-take-le}
+use lib.Dec.{ltb}
+use borrow.Author.Tests.{eq-eqb, ne-eqb}
+use Rattle.settings.specs.Rules.{Ruled}
+use Rattle.settings.specs.Settings.{quorum}
+use Rattle.settings.specs.declared.Settings.{Settings}
+use Rattle.quorum.specs.Lowest.{lowest}
+use Rattle.quorum.specs.laws.Lowest.{lowest-le}
+use Rattle.records.specs.Words.{word}
+use Rattle.records.specs.Records.{closed, commitCount, commitSet}
+use Rattle.records.specs.Words.{copied}
+use Rattle.commits.specs.Commits.{setLeads, setLeader, setOf, leadingSet}
+use Rattle.exits.specs.Exits.{Exit, named}
+use Rattle.exits.specs.Exits.{exitNow}
+use Rattle.exits.specs.Stated.{Stated}
+use Rattle.exits.specs.declared.Named.{Named}
+use Rattle.session.specs.laws.Cases.{size-wrong}
+use Rattle.session.specs.Session.{stored}
+use Rattle.session.specs.declared.Session.{Session}
+use Rattle.session.specs.declared.Stored.{Stored}
+use Rattle.session.specs.declared.Stored.the-variants.{NoState, Held}
+use Rattle.report.specs.Report.{inForceSet, figuresOf, admittedIn, admittedFor, admits, atFront, answerFor, namedFor, inForceFor, reportAnswer, reportNamed, reportInForce}
+use Rattle.report.specs.laws.Report.{Admitting, admitting}
+use Rattle.report.specs.declared.Figures.{Figures}
+use Rattle.report.specs.declared.Admitted.{Admitted}
+use Rattle.report.specs.declared.Admitted.the-variants as admitted
+use Rattle.report.specs.declared.Answer.{Answer}
+use Rattle.report.specs.declared.Answer.the-variants.{Refused, Given}
+
+-- what is asked of the code
+
+-- the lowest sender that holds the set in force, and 0 if none is
+unfoldable pub inForceSender : Settings → List ℕ → ℕ
+inForceSender g s = cond (closed s) (setLeader (g .weights) s (g .n) (quorum g)) 0
+
+-- a set lent room enough
+pub record SetRoom (s : List ℕ) (p : ℕ) (out : List ℕ) : Type 0 where
+  pub size : length s ≡ 2048
+  pub sender : p ≤ 16
+  pub room : 16 ≤ length out
+
+pub record SetWritten (xs old new : List ℕ) (count : ℕ) : Type 0 where
+  pub words : new ≡ atFront xs old
+  pub counted : count ≡ length xs
+
+pub record Room (g : Settings) (s out : List ℕ) : Type 0 where
+  pub ruled : Ruled g
+  pub size : length s ≡ 2048
+  pub room : 16 ≤ length out
+
+pub record Written (g : Settings) (s a b a′ b′ : List ℕ) (r : Figures) : Type 0 where
+  pub figures : r ≡ figuresOf g s
+  pub named-words : a′ ≡ atFront (exitNow g s .names) a
+  pub in-force-words : b′ ≡ atFront (inForceSet g s) b
+
+-- the refusals
+
+module _ (g : Settings) (a b : ℕ) (t : Bool) (e : t ≡ (ltb a 16 || ltb b 16)) where
+  pub short : t ≡ true → admitted.Refused 8 ≡ admittedIn g a b
+  unfolding admittedIn
+  short h = rw (← e, h)
+
+  pub long : t ≡ false → admitted.Open g ≡ admittedIn g a b
+  unfolding admittedIn
+  long h = rw (← e, h)
+
+module _ (s : List ℕ) (a b : ℕ) (y : Stored) (e : y ≡ stored s) where
+  pub no-state : y ≡ NoState → admitted.Refused 9 ≡ admits s a b
+  unfolding admits admittedFor
+  no-state t = rw (← e, t)
+
+  pub a-state : (x : Session) (v : Admitted) → y ≡ Held x → v ≡ admittedIn (x .settings) a b → v ≡ admits s a b
+  unfolding admits admittedFor
+  a-state x v t f = rw (← e, t) f
+
+pub no-size : (s : List ℕ) (a b : ℕ) → (length s ≡ 2048 → ⊥) → admitted.Refused 9 ≡ admits s a b
+unfolding admits admittedFor
+no-size s a b h = rw (← size-wrong s h)
+
+pub ruleset admit-cases = (short, long, no-size, no-state, a-state)
+
+-- the sender of the set in force
+
+module _ (g : Settings) (s : List ℕ) (c : Bool) (e : c ≡ closed s) where
+  pub sender-closed : (q p : ℕ) → c ≡ true → q ≡ quorum g → p ≡ setLeader (g .weights) s (g .n) q → p ≡ inForceSender g s
+  unfolding inForceSender
+  sender-closed q p t f h = rw (← e, t, ← f) h
+
+  pub sender-none : c ≡ false → 0 ≡ inForceSender g s
+  unfolding inForceSender
+  sender-none t = rw (← e, t)
+
+pub ruleset sender-cases = (sender-closed, sender-none)
+
+-- a set
+
+pub set-none : (s : List ℕ) (p : ℕ) (out : List ℕ) → p ≡ 0 → SetWritten (setOf s p) out out 0
+unfolding setOf atFront
+set-none s p out e = rw (eq-eqb p 0 e) (record { words = refl; counted = refl })
+
+module _ (s : List ℕ) (p : ℕ) (out : List ℕ) (h : SetRoom s p out) (k : ℕ) (e : k ≡ commitCount s p) where
+  count-few : k ≤ 16
+  unfolding commitCount
+  count-few = rw e (min-le-right _ 16)
+
+  pub set-there : k ≤ length (take (length s - (751 + 16 * p + 1)) (drop (751 + 16 * p + 1) s))
+  set-there = simp (length-take, length-drop) (omega (arith, count-few))
+
+  pub set-fits : k ≤ length out
+  set-fits = omega (arith, count-few)
+
+  pub set-done : (new : List ℕ) → (p ≡ 0 → ⊥) → new ≡ copied (take (length s - (751 + 16 * p + 1)) (drop (751 + 16 * p + 1) s)) out k → SetWritten (setOf s p) out new k
+  unfolding setOf commitSet copied atFront
+  set-done new z f =
+      let rest : List ℕ = drop (751 + 16 * p + 1) s in
+      let whole : take (length s - (751 + 16 * p + 1)) rest ≡ rest = take-all (length s - (751 + 16 * p + 1)) rest (simp length-drop (omega arith)) in
+      let sized : length (take k rest) ≡ k = length-take-le k rest (simp length-drop (omega (arith, count-few))) in
+      rw (ne-eqb p 0 z, ← e) (record { words = f ∙ rw (whole, sized); counted = sym sized })
+
+-- the set in force
+
+sender-few : (g : Settings) (s : List ℕ) → Ruled g → inForceSender g s ≤ 16
+unfolding inForceSender setLeader
+sender-few g s r = go (closed s)
+  where
+    go : (b : Bool) → cond b (lowest (setLeads (g .weights) s (g .n) (quorum g)) (g .n)) 0 ≤ 16
+    go true = omega (arith, lowest-le (setLeads (g .weights) s (g .n) (quorum g)) (g .n))
+    go false = omega arith
+
+in-force-of : (g : Settings) (s : List ℕ) → setOf s (inForceSender g s) ≡ inForceSet g s
+unfolding inForceSet inForceSender leadingSet setOf
+in-force-of g s = go (closed s)
+  where
+    go : (b : Bool) → setOf s (cond b (setLeader (g .weights) s (g .n) (quorum g)) 0) ≡ cond b (setOf s (setLeader (g .weights) s (g .n) (quorum g))) []
+    go true = refl
+    go false = refl
+
+module _ (g : Settings) (s : List ℕ) (p : ℕ) (e : p ≡ inForceSender g s) (out : List ℕ) where
+  pub sender-room : Room g s out → SetRoom s p out
+  sender-room h = record { size = h .size; sender = rw e (sender-few g s (h .ruled)); room = h .room }
+
+  pub in-force-done : (new : List ℕ) (k : ℕ) → SetWritten (setOf s p) out new k → SetWritten (inForceSet g s) out new k
+  in-force-done new k w = rw (← in-force-of g s, ← e) w
+
+pub ruleset in-force-cases = (sender-room, in-force-done)
+
+-- both sets and the figures
+
+module _ (g : Settings) (s : List ℕ) (x : Named) (h : Stated x (exitNow g s)) where
+  names-of : take (x .count) (x .values) ≡ exitNow g s .names
+  unfolding named
+  names-of = ap (λ (y : Exit). y .names) (h .states)
+
+  number-of : x .exit ≡ exitNow g s .number
+  unfolding named
+  number-of = ap (λ (y : Exit). y .number) (h .states)
+
+  pub report-done : (a b a′ b′ : List ℕ) (k t : ℕ) → a′ ≡ copied (x .values) a (x .count) → SetWritten (inForceSet g s) b b′ k → t ≡ word s 6 → Written g s a b a′ b′ (record { exit = x .exit; named = x .count; in_force = k; turns = t })
+  unfolding copied atFront figuresOf
+  report-done a b a′ b′ k t e w f =
+      record {
+        figures = λ i. record { exit = number-of i; named = sym (h .sized) i; in_force = w .counted i; turns = f i };
+        named-words = e ∙ rw (names-of, h .sized);
+        in-force-words = w .words;
+      }
+
+-- a report that is given, or refused
+
+module _ (s a b : List ℕ) (v : Admitted) (e : v ≡ admits s (length a) (length b)) where
+  module _ (g : Settings) (t : v ≡ admitted.Open g) where
+    told : Admitting s (length a) (length b) g
+    told = admitting s (length a) (length b) g (sym e ∙ t)
+
+    pub given-named-room : Room g s a
+    given-named-room = record { ruled = rw (told .same) (told .state .ruled); size = told .state .size; room = told .named-room }
+
+    pub given-in-force-room : Room g s b
+    given-in-force-room = record { ruled = rw (told .same) (told .state .ruled); size = told .state .size; room = told .in-force-room }
+
+    module _ (a′ b′ : List ℕ) (r : Figures) (w : Written g s a b a′ b′ r) where
+      pub given-answer : Given r ≡ reportAnswer s (length a) (length b)
+      unfolding reportAnswer answerFor
+      given-answer = rw (← e, t, w .figures)
+
+      pub given-named : a′ ≡ reportNamed s a (length b)
+      unfolding reportNamed namedFor
+      given-named = rw (← e, t) (w .named-words)
+
+      pub given-in-force : b′ ≡ reportInForce s (length a) b
+      unfolding reportInForce inForceFor
+      given-in-force = rw (← e, t) (w .in-force-words)
+
+  module _ (k : ℕ) (t : v ≡ admitted.Refused k) where
+    pub refused-answer : Refused k ≡ reportAnswer s (length a) (length b)
+    unfolding reportAnswer answerFor
+    refused-answer = rw (← e, t)
+
+    pub refused-named : a ≡ reportNamed s a (length b)
+    unfolding reportNamed namedFor
+    refused-named = rw (← e, t)
+
+    pub refused-in-force : b ≡ reportInForce s (length a) b
+    unfolding reportInForce inForceFor
+    refused-in-force = rw (← e, t)
+
+pub ruleset report-cases = (given-named-room, given-in-force-room, given-answer, given-named, given-in-force, refused-answer, refused-named, refused-in-force)

@@ -1,0 +1,80 @@
+-- The thresholds as sums, and their bounds within the rules.
+use Prim.Native.Nat.{ℕ, _+_, _*_, _≤_}
+use mathlib.Core.Path.{_≡_, refl}
+use native.Mathlib.Omega.{arith}
+use Rattle.settings.specs.Settings.{quorum, copy, voteQuorum, relay, accept, turnBound}
+use Rattle.settings.specs.Rules.{Ruled}
+use Rattle.settings.specs.declared.Settings.{Settings}
+
+module _ (g : Settings) where
+  pub copy-sum : copy g ≡ g .ts + 1
+  unfolding copy
+  copy-sum = refl
+
+  pub relay-sum : relay g ≡ g .ta + 1
+  unfolding relay
+  relay-sum = refl
+
+  pub accept-sum : accept g ≡ 2 * g .ta + 1
+  unfolding accept
+  accept-sum = refl
+
+  pub turn-bound-sum : turnBound g ≡ 99 * g .n + 3
+  unfolding turnBound
+  turn-bound-sum = refl
+
+  module _ (c : ℕ) where
+    pub quorum-reached : quorum g ≤ c → g .whole ≤ c + g .ts
+    unfolding quorum
+    quorum-reached h = omega arith
+
+    pub reached-quorum : g .whole ≤ c + g .ts → quorum g ≤ c
+    unfolding quorum
+    reached-quorum h = omega arith
+
+    pub vote-quorum-reached : voteQuorum g ≤ c → g .whole ≤ c + g .ta
+    unfolding voteQuorum
+    vote-quorum-reached h = omega arith
+
+    pub reached-vote-quorum : g .whole ≤ c + g .ta → voteQuorum g ≤ c
+    unfolding voteQuorum
+    reached-vote-quorum h = omega arith
+
+  pub quorum-sum : Ruled g → quorum g + g .ts ≡ g .whole
+  unfolding quorum
+  quorum-sum r = omega arith
+
+  pub vote-quorum-sum : Ruled g → voteQuorum g + g .ta ≡ g .whole
+  unfolding voteQuorum
+  vote-quorum-sum r = omega arith
+
+-- every threshold within the rules is from 1 to the sum of all weights
+pub record Bounds (g : Settings) : Type 0 where
+  pub some : 1 ≤ g .n
+  pub few : g .n ≤ 16
+  pub quorum-some : 1 ≤ quorum g
+  pub quorum-few : quorum g ≤ g .whole
+  pub copy-quorum : copy g ≤ quorum g
+  pub vote-quorum-some : 1 ≤ voteQuorum g
+  pub vote-quorum-few : voteQuorum g ≤ g .whole
+  pub relay-accept : relay g ≤ accept g
+  pub accept-vote-quorum : accept g ≤ voteQuorum g
+  pub quorum-vote-quorum : quorum g ≤ voteQuorum g
+  pub bound-few : turnBound g ≤ 1587
+
+pub ruled-bounds : (g : Settings) → Ruled g → Bounds g
+unfolding quorum copy voteQuorum relay accept turnBound
+ruled-bounds g r =
+    record {
+      some = omega arith;
+      few = omega arith;
+      quorum-some = omega arith;
+      quorum-few = omega arith;
+      copy-quorum = omega arith;
+      vote-quorum-some = omega arith;
+      vote-quorum-few = omega arith;
+      relay-accept = omega arith;
+      accept-vote-quorum = omega arith;
+      quorum-vote-quorum = omega arith;
+      bound-few = omega arith;
+    }

@@ -1,0 +1,4 @@
+pub mod Votes
+pub mod Cases
+pub mod Told
+pub mod Views
