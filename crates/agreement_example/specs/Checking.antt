@@ -139,7 +139,7 @@ unfoldable pub recordingLines : BitGiven → List ℕ → List Line → List Lin
 recordingLines y w ls = cond (engine .records w y) (record { text = engine .recording-line y; after = engine .recorded w y; sent = [] } ∷ ls) ls
 
 unfoldable pub statesAfter : Call engine → List Entry → List Entry
-statesAfter (opening p o) xs = cond (opens o) (record { who = p; list = first o; lines = firstLines o } ∷ xs) xs
+statesAfter (opening p o) xs = cond (opens o && eqb (o .own) p) (record { who = p; list = first o; lines = firstLines o } ∷ xs) xs
 statesAfter (delivery p m b) xs = withEntry p (engine .delivered (wordsOf xs p) m b) (deliveryLines m b (wordsOf xs p) (linesOf xs p)) xs
 statesAfter (turn p l) xs = withEntry p (engine .turned (wordsOf xs p) l) (turnLines l (wordsOf xs p) (linesOf xs p)) xs
 statesAfter (recording p y) xs = withEntry p (engine .recorded (wordsOf xs p) y) (recordingLines y (wordsOf xs p) (linesOf xs p)) xs
@@ -162,16 +162,16 @@ restoreRight r ls =
     && (sameList (r .journal) (take (length (r .journal)) (textOf ls))
     && some (completeOf (length (r .journal)) ls))
 
--- in the session S, where H tells who is honest and v is put in
-module _ (S : Agreed) (H : ℕ → Bool) (v : ℕ) where
+-- in the session S, where H tells who is honest, and v what each puts in
+module _ (S : Agreed) (H : ℕ → Bool) (v : ℕ → ℕ) where
   -- "Honest are any chosen numbers from 1 to n"
   unfoldable pub listed : ℕ → Bool
   listed p = leb 1 p && (leb p (S .settings .n) && H p)
 
-  -- an opening is refused, or it is the first one there, under the own number, with the input v
+  -- an opening is refused, or none under the own number came before; under the own number it is one of the session S, with the own input
   unfoldable pub openingRight : ℕ → Arguments → List Entry → Bool
   openingRight p o xs =
-      not (opens o) || not (isOpened xs p) && (eqb (o .own) p && (sameSession (agreed o) S && eqb (o .input) v))
+      not (opens o) || not (isOpened xs p) && (not (eqb (o .own) p) || sameSession (agreed o) S && eqb (o .input) (v p))
 
   -- a delivery is refused, or it comes from a liar, or its bytes were sent
   unfoldable pub deliveryRight : Bool → ℕ → List ℕ → List Line → Bool

@@ -2,20 +2,16 @@
 use Prim.Native.Nat.{ℕ}
 use mathlib.Core.Bool.{Bool}
 use mathlib.Core.List.{List, [], _∷_}
-use mathlib.Core.Path.{_≡_}
 use lib.Dec.{leb}
-use lib.ListN.{length}
 use Rattle.settings.specs.Settings.{UNNAMED}
-use Rattle.records.specs.Layout.{stateWords}
 use Rattle.records.specs.Words.{blank}
 use Rattle.wire.specs.Message.{encode}
 use Rattle.wire.specs.declared.Message.{Message}
 use Rattle.wire.specs.declared.Message.the-variants.{Send, Echo, Ready, Commit}
-use Rattle.agreement.specs.Evidence.{Honest}
-use Rattle.agreement.specs.Calls.{Call, opening, delivery, report, world}
+use Rattle.agreement.specs.Calls.{Call, opening, delivery, report}
 use Rattle.agreement.specs.EngineCalls.{engine, Agreed}
-use Rattle.agreement_example.specs.Example.{Example}
-use Rattle.agreement_example.specs.Messages.{bytesOf, openingOf, deliver, turnOf}
+use Rattle.agreement_example.specs.Example.{Example, FromAny}
+use Rattle.agreement_example.specs.Messages.{inputFive, bytesOf, openingOf, deliver, turnOf}
 
 abbrev pub session : Agreed
 session = record { settings = record { n = 4; ta = 1; ts = 1; whole = 4; weights = 15 }; number = 7; coins = 0 ∷ 0 ∷ 0 ∷ 0 ∷ []; boxed = 0 }
@@ -71,6 +67,5 @@ fourCalls =
     ∷ turnOf 1
     ∷ turns (fromAll (Commit 1) (5 ∷ []) (toAll 4 (Commit 1) (6 ∷ []) (turns untilReadies)))
 
--- whatever 2,048 words the buffers of the honest ones hold at the start
 abbrev pub FourMeet : Type 0
-FourMeet = (start : ℕ → List ℕ) → ((p : ℕ) → Honest (world engine session firstThree) p → length (start p) ≡ stateWords) → Example start session firstThree fourCalls 5
+FourMeet = FromAny session firstThree (λ start. Example start session firstThree inputFive fourCalls 1 (5 ∷ []))

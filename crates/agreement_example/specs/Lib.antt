@@ -8,4 +8,9 @@ pub mod Weighted
 pub mod Boxed
 pub mod PowerLost
 pub mod LineLost
+pub mod Unequal
+pub mod LowTa
+pub mod UnnamedTa
+pub mod Foreign
+pub mod Unopened
 pub mod laws

@@ -8,9 +8,9 @@ use mathlib.Core.Path.{_≡_}
 use lib.ListN.{length}
 use Rattle.records.specs.Layout.{stateWords}
 use Rattle.wire.specs.declared.Message.the-variants.{Send}
-use Rattle.agreement.specs.Evidence.{Honest}
-use Rattle.agreement.specs.Calls.{Call, opening, restore, world, Conditions}
+use Rattle.agreement.specs.Calls.{Call, opening, restore, Conditions}
 use Rattle.agreement.specs.EngineCalls.{engine, Agreed}
+use Rattle.agreement_example.specs.Example.{FromAny}
 use Rattle.agreement_example.specs.Messages.{openingOf, deliver, turnOf}
 use Rattle.agreement_example.specs.One.{session, everyone}
 use Rattle.agreement_example.specs.PowerLost.{firstLine, from}
@@ -26,6 +26,5 @@ untilGot = deliver 1 1 (Send 1 5) [] ∷ untilSent
 -- v are the words that the restore finds
 abbrev pub LineMissed : Type 0
 LineMissed =
-    (start : ℕ → List ℕ) → ((p : ℕ) → Honest (world engine session everyone) p → length (start p) ≡ stateWords) →
-    (v : List ℕ) → length v ≡ stateWords →
-    (S : Agreed) (H : ℕ → Bool) → Conditions engine start S H (restore 1 v (from firstLine) ∷ untilGot) → ⊥
+    FromAny session everyone (λ start. (v : List ℕ) → length v ≡ stateWords →
+    (S : Agreed) (H : ℕ → Bool) → Conditions engine start S H (restore 1 v (from firstLine) ∷ untilGot) → ⊥)

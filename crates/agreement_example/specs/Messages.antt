@@ -1,4 +1,4 @@
--- The arguments of the calls in the examples: session 7, input 5; each is lent 512 bytes for its line.
+-- The arguments of the calls in the examples: session 7; each is lent 512 bytes for its line.
 use Prim.Native.Nat.{ℕ, zero, suc, _<_, _%_, _^_}
 use mathlib.Core.List.{List, [], _∷_}
 use native.Mathlib.Omega.{arith}
@@ -38,16 +38,16 @@ coins-below [] i = omega arith
 coins-below (x ∷ xs) zero = omega arith
 coins-below (x ∷ xs) (suc i) = coins-below xs i
 
--- an opening under the number p, with the input 5
-unfoldable pub openingWith : (n ta ts : ℕ) (coins weights : List ℕ) (boxed p : ℕ) → Arguments
-openingWith n ta ts coins weights boxed p =
+-- an opening under the number p, with the low 64 bits of v as input
+unfoldable pub openingWith : (n ta ts : ℕ) (coins weights : List ℕ) (boxed p v : ℕ) → Arguments
+openingWith n ta ts coins weights boxed p v =
     record {
       n = n;
       ta = ta;
       ts = ts;
       own = p;
       session = 7;
-      input = 5;
+      input = v % 2 ^ 64;
       coins = coinsOf coins;
       weights = weights;
       boxed = boxed;
@@ -57,9 +57,13 @@ openingWith n ta ts coins weights boxed p =
       coins-fit = coins-below coins;
     }
 
--- .. with printed coin words of 0 and weights of 1
+-- .. with printed coin words of 0, weights of 1 and the input 5
 unfoldable pub openingOf : (n ta ts p : ℕ) → Arguments
-openingOf n ta ts p = openingWith n ta ts (blank n) (onesGiven n) 0 p
+openingOf n ta ts p = openingWith n ta ts (blank n) (onesGiven n) 0 p 5
+
+-- everyone puts in 5
+abbrev pub inputFive : ℕ → ℕ
+inputFive p = 5
 
 -- the message m of the link's concentrator p, with the values xs beside a COMMIT, delivered to q
 unfoldable pub deliver : (q p : ℕ) → Message → List ℕ → Call engine

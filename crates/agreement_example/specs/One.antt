@@ -2,16 +2,12 @@
 use Prim.Native.Nat.{ℕ}
 use mathlib.Core.Bool.{Bool, true}
 use mathlib.Core.List.{List, [], _∷_}
-use mathlib.Core.Path.{_≡_}
-use lib.ListN.{length}
-use Rattle.records.specs.Layout.{stateWords}
 use Rattle.records.specs.Words.{blank}
 use Rattle.wire.specs.declared.Message.the-variants.{Send, Echo, Ready, Commit}
-use Rattle.agreement.specs.Evidence.{Honest}
-use Rattle.agreement.specs.Calls.{Call, opening, delivery, report, world}
+use Rattle.agreement.specs.Calls.{Call, opening, delivery, report}
 use Rattle.agreement.specs.EngineCalls.{engine, Agreed}
-use Rattle.agreement_example.specs.Example.{Example}
-use Rattle.agreement_example.specs.Messages.{bytesOf, openingOf, deliver, turnOf}
+use Rattle.agreement_example.specs.Example.{Example, FromAny}
+use Rattle.agreement_example.specs.Messages.{inputFive, bytesOf, openingOf, deliver, turnOf}
 
 abbrev pub session : Agreed
 session = record { settings = record { n = 1; ta = 0; ts = 0; whole = 1; weights = 1 }; number = 7; coins = 0 ∷ []; boxed = 0 }
@@ -39,6 +35,5 @@ oneCalls =
     ∷ delivery 1 1 (bytesOf (1 ∷ 1 ∷ 1 ∷ []))
     ∷ []
 
--- whatever 2,048 words the buffers of the honest ones hold at the start
 abbrev pub OneMeets : Type 0
-OneMeets = (start : ℕ → List ℕ) → ((p : ℕ) → Honest (world engine session everyone) p → length (start p) ≡ stateWords) → Example start session everyone oneCalls 5
+OneMeets = FromAny session everyone (λ start. Example start session everyone inputFive oneCalls 1 (5 ∷ []))

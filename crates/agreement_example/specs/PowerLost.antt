@@ -10,11 +10,10 @@ use Rattle.records.specs.Layout.{stateWords}
 use Rattle.records.specs.Words.{blank}
 use Rattle.wire.specs.declared.Message.the-variants.{Send, Echo, Ready, Commit}
 use Rattle.journal.specs.Lines.{LETTER-D, LETTER-T, openingLine, turnLine}
-use Rattle.agreement.specs.Evidence.{Honest}
-use Rattle.agreement.specs.Calls.{Call, opening, report, restore, world}
+use Rattle.agreement.specs.Calls.{Call, opening, report, restore}
 use Rattle.agreement.specs.EngineCalls.{engine, RestoreLent}
-use Rattle.agreement_example.specs.Example.{Example}
-use Rattle.agreement_example.specs.Messages.{openingOf, deliver, turnOf}
+use Rattle.agreement_example.specs.Example.{Example, FromAny}
+use Rattle.agreement_example.specs.Messages.{inputFive, openingOf, deliver, turnOf}
 use Rattle.agreement_example.specs.One.{session, everyone}
 
 -- the line of the opening
@@ -53,6 +52,5 @@ lostCalls v w =
 
 abbrev pub LostMeets : Type 0
 LostMeets =
-    (start : ℕ → List ℕ) → ((p : ℕ) → Honest (world engine session everyone) p → length (start p) ≡ stateWords) →
-    (v w : List ℕ) → length v ≡ stateWords → length w ≡ stateWords →
-    Example start session everyone (lostCalls v w) 5
+    FromAny session everyone (λ start. (v w : List ℕ) → length v ≡ stateWords → length w ≡ stateWords →
+    Example start session everyone inputFive (lostCalls v w) 1 (5 ∷ []))

@@ -6,22 +6,14 @@
 use Prim.Native.Nat.{ℕ, _+_, _^_}
 use mathlib.Core.Bool.{Bool}
 use mathlib.Core.List.{List, [], _∷_}
-use mathlib.Core.Path.{_≡_}
 use lib.Dec.{leb}
-use lib.ListN.{length}
-use Rattle.records.specs.Layout.{stateWords}
 use Rattle.records.specs.Words.{blank}
 use Rattle.wire.specs.declared.Message.{Message}
 use Rattle.wire.specs.declared.Message.the-variants.{Send, Echo, Ready, Est, Aux, Commit}
-use Rattle.report.specs.Report.{reportAnswer}
-use Rattle.report.specs.declared.Answer.{Answer}
-use Rattle.report.specs.declared.Answer.the-variants.{Refused, Given}
-use Rattle.agreement.specs.Evidence.{Honest}
-use Rattle.agreement.specs.Calls.{Call, opening, report, world}
+use Rattle.agreement.specs.Calls.{Call, opening, report}
 use Rattle.agreement.specs.EngineCalls.{engine, Agreed}
-use Rattle.agreement_example.specs.Checking.{wordsOf, run}
-use Rattle.agreement_example.specs.Example.{Example}
-use Rattle.agreement_example.specs.Messages.{openingWith, deliver, turnOf}
+use Rattle.agreement_example.specs.Example.{Example, FromAny}
+use Rattle.agreement_example.specs.Messages.{inputFive, openingWith, deliver, turnOf}
 
 -- the weights as one word: 1 has the marks 1, 17, 33 and 49, 2 and 3 the marks 2 and 3
 abbrev pub session : Agreed
@@ -34,7 +26,7 @@ unfoldable pub openings : List (Call engine)
 openings = opens 2 ∷ opens 1 ∷ []
   where
     opens : ℕ → Call engine
-    opens p = opening p (openingWith 3 1 1 (1 ∷ 0 ∷ 1 ∷ []) (4 ∷ 1 ∷ 1 ∷ []) 0 p)
+    opens p = opening p (openingWith 3 1 1 (1 ∷ 0 ∷ 1 ∷ []) (4 ∷ 1 ∷ 1 ∷ []) 0 p 5)
 
 -- a turn of each honest one
 unfoldable pub turns : List (Call engine) → List (Call engine)
@@ -74,17 +66,5 @@ withSets cs = report 1 (blank 16, blank 16) ∷ turns (fromBoth (Commit 1) (5 �
 unfoldable pub weightedCalls : List (Call engine)
 weightedCalls = withSets (withLastAuxes (withAuxes openings))
 
--- whatever 2,048 words the buffers of the honest ones hold at the start
 abbrev pub WeightedMeet : Type 0
-WeightedMeet =
-    (start : ℕ → List ℕ) → ((p : ℕ) → Honest (world engine session firstTwo) p → length (start p) ≡ stateWords) → Example start session firstTwo weightedCalls 5
-
--- the exit that a report gives
-unfoldable pub exitIn : Answer → ℕ
-exitIn (Refused k) = 0
-exitIn (Given f) = f .exit
-
--- the list meets the conditions, and it was Exit 2 that named the set
-pub record HeavyDecides : Type 0 where
-  pub meets : WeightedMeet
-  pub exit : exitIn (reportAnswer (wordsOf (run session firstTwo 5 weightedCalls .states) 1) 16 16) ≡ 2
+WeightedMeet = FromAny session firstTwo (λ start. Example start session firstTwo inputFive weightedCalls 2 (5 ∷ []))

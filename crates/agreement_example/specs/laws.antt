@@ -1,3 +1,7 @@
+pub mod Unequal
+pub mod LowTa
+pub mod Foreign
+pub mod Unopened
 pub mod Lists
 pub mod Lengths
 pub mod Entries

@@ -1,6 +1,6 @@
 -- Definitions of the test of a list opened together, so that a closed term computes: `unfolding checks`.
 use Rattle.agreement_example.specs.Checking.{isOpened, wordsOf, linesOf, withEntry, sameList, among, wasSent, textOf, completeOf, some, lastWords, keeps, sentIn, sentBy, sameSession, opens, firstLines, deliveryLines, turnLines, recordingLines, statesAfter, goneAfter, restoreRight, listed, openingRight, deliveryRight, recordingRight, callRight, step, run}
-use Rattle.agreement_example.specs.laws.Example.{closesWith, closes, ends, passes}
+use Rattle.agreement_example.specs.laws.Example.{closesWith, closes, allClose, ends, passesAt, passes}
 use Rattle.agreement_example.specs.laws.Refusals.{refusalOf, refusal, withRefusal, afterCall, refusals}
 use Rattle.opening.specs.Given.{onesGiven}
 use Rattle.text.specs.Numbers.{decimalIn, decimalText}
@@ -10,5 +10,5 @@ use Rattle.agreement_example.specs.Messages.{lowBytes, bytesOf, coinsOf,
 use Rattle.agreement_example.specs.Bits.{boxBit}
 
 unfoldable pub checks : Unit {0}
-unfolding isOpened wordsOf linesOf withEntry sameList among wasSent textOf completeOf some lastWords keeps sentIn sentBy sameSession opens firstLines deliveryLines turnLines recordingLines statesAfter goneAfter restoreRight listed openingRight deliveryRight recordingRight boxBit callRight step run closesWith closes ends passes refusalOf refusal withRefusal afterCall refusals lowBytes bytesOf coinsOf openingWith onesGiven openingOf deliver turnOf recordOf lineAnswer lineWords openNumber openedWords deliverNumber deliveredWords recordNumber recordWords turnRoom turnedMessage numberText numberTexts tabbed openingForms openingText hexBytes deliveryText recordingText withEnd decimalIn decimalText
+unfolding isOpened wordsOf linesOf withEntry sameList among wasSent textOf completeOf some lastWords keeps sentIn sentBy sameSession opens firstLines deliveryLines turnLines recordingLines statesAfter goneAfter restoreRight listed openingRight deliveryRight recordingRight boxBit callRight step run closesWith closes allClose ends passesAt passes refusalOf refusal withRefusal afterCall refusals lowBytes bytesOf coinsOf openingWith onesGiven openingOf deliver turnOf recordOf lineAnswer lineWords openNumber openedWords deliverNumber deliveredWords recordNumber recordWords turnRoom turnedMessage numberText numberTexts tabbed openingForms openingText hexBytes deliveryText recordingText withEnd decimalIn decimalText
 checks = tt

@@ -14,7 +14,7 @@ use Rattle.agreement.specs.Moments.{Within, now}
 use Rattle.agreement.specs.laws.Moments.{within-cases, within-none}
 use Rattle.agreement.specs.Calls.{Call, restore, turn, Journal, newest, world, journal, Departed, Conditions}
 use Rattle.agreement.specs.EngineCalls.{engine, Agreed, Bytes, TurnLent}
-use Rattle.agreement_example.specs.Messages.{bytesOf, deliver}
+use Rattle.agreement_example.specs.Messages.{inputFive, bytesOf, deliver}
 use Rattle.agreement_example.specs.One.{session, everyone}
 use Rattle.agreement_example.specs.PowerLost.{firstLine, from}
 use Rattle.agreement_example.specs.Checking.{Line, Entry, isOpened, wordsOf, linesOf, sameList, completeOf, restoreRight, run}
@@ -52,21 +52,21 @@ no-turn start (x ∷ ls) (d ∷ js) h e l past older w = at (within-cases d js w
 
 module _ (start : ℕ → List ℕ) (room : (p : ℕ) → Honest (world engine session everyone) p → length (start p) ≡ stateWords) where
   abbrev sent : List Entry
-  sent = run session everyone 5 untilSent .states
+  sent = run session everyone inputFive untilSent .states
 
   abbrev got : List Entry
-  got = run session everyone 5 untilGot .states
+  got = run session everyone inputFive untilGot .states
 
   abbrev message : Bytes
   message = bytesOf (encode (Send 1 5) 1 7 [])
 
-  sent-tracks : Tracks start session everyone 5 untilSent sent (run session everyone 5 untilSent .gone)
+  sent-tracks : Tracks start session everyone inputFive untilSent sent (run session everyone inputFive untilSent .gone)
   unfolding calls checks untilSent
-  sent-tracks = run-tracks start session everyone 5 room untilSent tt refl
+  sent-tracks = run-tracks start session everyone inputFive room untilSent tt refl
 
-  got-tracks : Tracks start session everyone 5 untilGot got (run session everyone 5 untilGot .gone)
+  got-tracks : Tracks start session everyone inputFive untilGot got (run session everyone inputFive untilGot .gone)
   unfolding calls checks untilSent untilGot
-  got-tracks = run-tracks start session everyone 5 room untilGot tt refl
+  got-tracks = run-tracks start session everyone inputFive room untilGot tt refl
 
   sent-opened : isOpened sent 1 ≡ true
   unfolding calls checks untilSent
@@ -97,9 +97,9 @@ module _ (start : ℕ → List ℕ) (room : (p : ℕ) → Honest (world engine s
   unfolding from
   misses v size S H k =
       let r = from firstLine in
-      let falls = k .falls-back 1 v r untilGot now (got-tracks .some 1 got-opened) (restores-there start session everyone 5 got-tracks 1 v r size got-opened reads) in
+      let falls = k .falls-back 1 v r untilGot now (got-tracks .some 1 got-opened) (restores-there start session everyone inputFive got-tracks 1 v r size got-opened reads) in
       let s = falls .kept message departed in
-      no-turn start (completeOf (length firstLine) (linesOf got 1)) (journal engine start (restore 1 v r ∷ untilGot) 1) (restored-lines start session everyone 5 got-tracks 1 v r size got-opened reads) opening-only (s .lent) (s .past) (s .stands .older) (s .stands .within)
+      no-turn start (completeOf (length firstLine) (linesOf got 1)) (journal engine start (restore 1 v r ∷ untilGot) 1) (restored-lines start session everyone inputFive got-tracks 1 v r size got-opened reads) opening-only (s .lent) (s .past) (s .stands .older) (s .stands .within)
 
 pub line-missed : LineMissed
 line-missed start room = misses start room

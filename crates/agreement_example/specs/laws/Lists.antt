@@ -7,7 +7,7 @@ use mathlib.Core.Path.{_≡_, refl, sym, _∙_}
 use Rattle.agreement.specs.Evidence.{Honest}
 use Rattle.agreement.specs.Moments.{Within, now, after}
 use Rattle.agreement.specs.laws.Moments.{within-none}
-use Rattle.agreement.specs.Calls.{Machine, Call, opening, delivery, turn, report, restore, recording, world, place, words, Opened, Sent, Departed, FallsBack, Conditions, PutIn}
+use Rattle.agreement.specs.Calls.{Machine, Call, opening, delivery, turn, report, restore, recording, world, place, words, Opened, Sent, Departed, FallsBack, Conditions}
 use Rattle.agreement_example.specs.Bits.{boxBit}
 
 module _ (M : Machine) (start : ℕ → M .Words) where
@@ -40,12 +40,12 @@ module _ (M : Machine) (start : ℕ → M .Words) where
   opened-before n x =
       record { given = x .given; past = x .past; within = within-before n (x .within); numbered = x .numbered; accepted = x .accepted }
 
-  cases-within : {p q : ℕ} {o g : M .Opening} {ds cs : List (Call M)} → Within (opening q g ∷ ds) (opening p o ∷ cs) → M .own g ≡ q → M .opens (words M start ds q) g ≡ true → ((q ≡ p) × (M .opens (words M start cs p) o ≡ true)) ⊎ Opened M start cs q
-  cases-within now n a = inl (refl, a)
+  cases-within : {p q : ℕ} {o g : M .Opening} {ds cs : List (Call M)} → Within (opening q g ∷ ds) (opening p o ∷ cs) → M .own g ≡ q → M .opens (words M start ds q) g ≡ true → ((q ≡ p) × (M .own o ≡ p) × (M .opens (words M start cs p) o ≡ true)) ⊎ Opened M start cs q
+  cases-within now n a = inl (refl, n, a)
   cases-within (after c w) n a = inr (record { given = _; past = _; within = w; numbered = n; accepted = a })
 
   -- one opened after an opening is the one that it opened, or was opened before
-  pub opened-cases : {p q : ℕ} {o : M .Opening} {cs : List (Call M)} → Opened M start (opening p o ∷ cs) q → ((q ≡ p) × (M .opens (words M start cs p) o ≡ true)) ⊎ Opened M start cs q
+  pub opened-cases : {p q : ℕ} {o : M .Opening} {cs : List (Call M)} → Opened M start (opening p o ∷ cs) q → ((q ≡ p) × (M .own o ≡ p) × (M .opens (words M start cs p) o ≡ true)) ⊎ Opened M start cs q
   opened-cases x = cases-within (x .within) (x .numbered) (x .accepted)
 
   abbrev pub NoDelivery : Call M → Type 0
@@ -78,12 +78,12 @@ module _ (M : Machine) (start : ℕ → M .Words) where
   pub departed-cases : {p k m : ℕ} {a b : M .Bytes} {cs : List (Call M)} → Departed M start (delivery p k a ∷ cs) m b → Leaves cs p k a m b ⊎ Departed M start cs m b
   departed-cases x = got-cases (x .within) (x .opened) (x .accepted)
 
-  module _ (S : M .Session) (H : ℕ → Bool) (v : ℕ) where
+  module _ (S : M .Session) (H : ℕ → Bool) (v : ℕ → ℕ) where
     -- what `agree`, `once` and PutIn ask of an opening after the calls ds
     pub record OpeningMeets (p : ℕ) (o : M .Opening) (ds : List (Call M)) : Type 0 where
       pub agree : M .own o ≡ p → M .opens (words M start ds p) o ≡ true → M .session o ≡ S
       pub once : Opened M start ds p → M .opens (words M start ds p) o ≡ false
-      pub put-in : M .own o ≡ p → M .opens (words M start ds p) o ≡ true → M .input o ≡ v
+      pub put-in : M .own o ≡ p → M .opens (words M start ds p) o ≡ true → M .input o ≡ v p
 
     -- what `credited` asks of a delivery after the calls ds
     pub record DeliveryMeets (p m : ℕ) (b : M .Bytes) (ds : List (Call M)) : Type 0 where
@@ -130,5 +130,5 @@ module _ (M : Machine) (start : ℕ → M .Words) where
           coins = λ e p q y z a b i j. meets-within (a .within) x .told (a .opened) (a .accepted) ∙ rw (i, j) (sym (meets-within (b .within) x .told (b .opened) (b .accepted)));
         }
 
-    pub put-in-met : (cs : List (Call M)) → AllMeet cs → PutIn M start v cs
+    pub put-in-met : (cs : List (Call M)) → AllMeet cs → (p : ℕ) (o : M .Opening) (ds : List (Call M)) → Within (opening p o ∷ ds) cs → M .own o ≡ p → M .opens (words M start ds p) o ≡ true → M .input o ≡ v p
     put-in-met cs x p o ds w = meets-within w x .put-in

@@ -16,11 +16,12 @@ use Rattle.delivery.specs.declared.Verdict.the-variants.{Refused}
 use Rattle.agreement_example.specs.laws.Example.{passes, passes-example}
 use Rattle.agreement_example.specs.laws.Refusals.{refusals}
 use Rattle.agreement_example.specs.laws.Tracking.{AllSized}
+use Rattle.agreement_example.specs.Messages.{inputFive}
 use Rattle.turn_bound.specs.laws.Computing.{calls}
 use Rattle.agreement_example.specs.laws.Computing.{checks}
 use Rattle.agreement_example.specs.One.{session, everyone, oneCalls, OneMeets}
 
-one-passes : passes session everyone 5 oneCalls ≡ true
+one-passes : passes session everyone inputFive 1 (5 ∷ []) oneCalls ≡ true
 unfolding calls checks oneCalls
 one-passes = refl
 
@@ -29,10 +30,10 @@ unfolding checks oneCalls
 one-sized = tt
 
 pub one-meets : OneMeets
-one-meets start room = passes-example start session everyone 5 oneCalls room one-sized one-passes
+one-meets start room = passes-example start session everyone inputFive oneCalls room one-sized 1 (5 ∷ []) one-passes
 
 -- the refusals from the opening on, the last first
-pub one-refusals : refusals session everyone 5 oneCalls .numbers ≡ SETTINGS ∷ HELD ∷ []
+pub one-refusals : refusals session everyone inputFive oneCalls .numbers ≡ SETTINGS ∷ HELD ∷ []
 unfolding calls checks oneCalls
 one-refusals = refl
 

@@ -36,7 +36,7 @@ pub record Refusals : Type 0 where
 unfoldable pub withRefusal : ℕ → List ℕ → List ℕ
 withRefusal k ks = cond (eqb k 0) ks (k ∷ ks)
 
-module _ (S : Agreed) (H : ℕ → Bool) (v : ℕ) where
+module _ (S : Agreed) (H : ℕ → Bool) (v : ℕ → ℕ) where
   unfoldable pub afterCall : Call engine → Refusals → Refusals
   afterCall c r = record { run = step S H v c (r .run); numbers = withRefusal (refusal c (r .run .states)) (r .numbers) }
 

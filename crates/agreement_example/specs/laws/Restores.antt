@@ -22,7 +22,7 @@ use Rattle.agreement_example.specs.laws.Entries.{same-list}
 use Rattle.agreement_example.specs.laws.Tracks.{words-here, journal-here, words-else, Tracks, entry-next}
 use Rattle.agreement_example.specs.laws.Journals.{AllMatch, bytes-same, complete-same, sent-in, sent-of, kept-sent}
 
-module _ (start : ℕ → List ℕ) (S : Agreed) (H : ℕ → Bool) (v : ℕ) {cs : List (Call engine)} {xs : List Entry} {gs : List Gone} (x : Tracks start S H v cs xs gs) where
+module _ (start : ℕ → List ℕ) (S : Agreed) (H : ℕ → Bool) (v : ℕ → ℕ) {cs : List (Call engine)} {xs : List Entry} {gs : List Gone} (x : Tracks start S H v cs xs gs) where
   module _ (p : ℕ) (u : List ℕ) (r : RestoreLent) (sized : length u ≡ stateWords) (k : isOpened xs p ≡ true) (right : restoreRight r (linesOf xs p) ≡ true) where
     abbrev size : ℕ
     size = length (r .journal)

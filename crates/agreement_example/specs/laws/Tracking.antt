@@ -39,7 +39,7 @@ AllSized (report p r ∷ cs) = AllSized cs
 AllSized (recording p y ∷ cs) = AllSized cs
 AllSized (restore p v r ∷ cs) = (length v ≡ stateWords) × AllSized cs
 
-module _ (start : ℕ → List ℕ) (S : Agreed) (H : ℕ → Bool) (v : ℕ) {cs : List (Call engine)} {xs : List Entry} {gs : List Gone} (x : Tracks start S H v cs xs gs) where
+module _ (start : ℕ → List ℕ) (S : Agreed) (H : ℕ → Bool) (v : ℕ → ℕ) {cs : List (Call engine)} {xs : List Entry} {gs : List Gone} (x : Tracks start S H v cs xs gs) where
   -- ---- delivery
 
   module _ (p m : ℕ) (b : Bytes) (honest : Honest (world engine S H) p) where
@@ -210,8 +210,8 @@ module _ (start : ℕ → List ℕ) (S : Agreed) (H : ℕ → Bool) (v : ℕ) {c
         no-opening : engine .opens (words engine start cs p) o ≡ true → ⊥
         no-opening t = false≢true (sym f ∙ sym answered ∙ t)
 
-        not-new : (q : ℕ) → isOpened xs q ≡ false → ((q ≡ p) × (engine .opens (words engine start cs p) o ≡ true)) ⊎ Opened engine start cs q → ⊥
-        not-new q k (inl u) = no-opening (u .1)
+        not-new : (q : ℕ) → isOpened xs q ≡ false → ((q ≡ p) × (o .own ≡ p) × (engine .opens (words engine start cs p) o ≡ true)) ⊎ Opened engine start cs q → ⊥
+        not-new q k (inl u) = no-opening (u .2)
         not-new q k (inr u) = x .none q k u
 
         same : (q : ℕ) (b : Bool) → eqb q p ≡ b → words engine start (opening p o ∷ cs) q ≡ words engine start cs q
@@ -222,8 +222,29 @@ module _ (start : ℕ → List ℕ) (S : Agreed) (H : ℕ → Bool) (v : ℕ) {c
         same-lines q true e = rw (eqb-true q p e) (written ∙ ap (λ (t : Bool). cond t ((opening p o ∷ cs) ∷ []) (journal engine start cs p)) f)
         same-lines q false e = journal-else start (opening p o) cs q e
 
-    -- the first one there, under the own number
-    first-next : opens o ≡ true → isOpened xs p ≡ false → o .own ≡ p → agreed o ≡ S → o .input ≡ v → Tracks start S H v (opening p o ∷ cs) (record { who = p; list = first o; lines = firstLines o } ∷ xs) gs
+    -- under another number, before the own one: what it leaves there counts for nothing
+    foreign-next : isOpened xs p ≡ false → (o .own ≡ p → ⊥) → Tracks start S H v (opening p o ∷ cs) xs gs
+    foreign-next none foreign =
+        record {
+          size = λ q h. size-next start (opening p o) cs tt q (x .size q h);
+          none = λ q k u. not-new q k (opened-cases engine start u);
+          some = λ q k. opened-later engine start (opening p o) (x .some q k);
+          equal = λ q k. words-else start (opening p o) cs q (elsewhere q k (eqb q p) refl) ∙ x .equal q k;
+          lines = λ q k. rw (journal-else start (opening p o) cs q (elsewhere q k (eqb q p) refl)) (x .lines q k);
+          gone = λ m b d. x .gone m b (departed-before engine start tt d);
+          meet = (honest, record { agree = λ e t. absurd (foreign e); once = λ u. absurd (x .none p none u); put-in = λ e t. absurd (foreign e) }, x .meet);
+        }
+      where
+        not-new : (q : ℕ) → isOpened xs q ≡ false → ((q ≡ p) × (o .own ≡ p) × (engine .opens (words engine start cs p) o ≡ true)) ⊎ Opened engine start cs q → ⊥
+        not-new q k (inl u) = foreign (u .1)
+        not-new q k (inr u) = x .none q k u
+
+        elsewhere : (q : ℕ) → isOpened xs q ≡ true → (b : Bool) → eqb q p ≡ b → eqb q p ≡ false
+        elsewhere q k true e = absurd (false≢true (sym none ∙ ap (isOpened xs) (sym (eqb-true q p e)) ∙ k))
+        elsewhere q k false e = e
+
+    -- the first one there under the own number
+    first-next : opens o ≡ true → isOpened xs p ≡ false → o .own ≡ p → agreed o ≡ S → o .input ≡ v p → Tracks start S H v (opening p o ∷ cs) (record { who = p; list = first o; lines = firstLines o } ∷ xs) gs
     unfolding isOpened wordsOf linesOf firstLines among
     first-next f none own agree put-in =
         record {
@@ -236,7 +257,7 @@ module _ (start : ℕ → List ℕ) (S : Agreed) (H : ℕ → Bool) (v : ℕ) {c
           meet = (honest, record { agree = λ e t. agree; once = λ u. absurd (x .none p none u); put-in = λ e t. put-in }, x .meet);
         }
       where
-        not-other : (q : ℕ) (b : Bool) → eqb q p ≡ b → cond b true (isOpened xs q) ≡ false → ((q ≡ p) × (engine .opens (words engine start cs p) o ≡ true)) ⊎ Opened engine start cs q → ⊥
+        not-other : (q : ℕ) (b : Bool) → eqb q p ≡ b → cond b true (isOpened xs q) ≡ false → ((q ≡ p) × (o .own ≡ p) × (engine .opens (words engine start cs p) o ≡ true)) ⊎ Opened engine start cs q → ⊥
         not-other q true e k u = false≢true (sym k)
         not-other q false e k (inl u) = eqb-false q p e (u .0)
         not-other q false e k (inr u) = x .none q k u
@@ -267,18 +288,21 @@ module _ (start : ℕ → List ℕ) (S : Agreed) (H : ℕ → Bool) (v : ℕ) {c
 
     opening-next : openingRight S H v p o xs ≡ true → Tracks start S H v (opening p o ∷ cs) (statesAfter (opening p o) xs) gs
     unfolding openingRight statesAfter
-    opening-next e = go (opens o) refl e
+    opening-next e = go (opens o) (eqb (o .own) p) refl refl e
       where
-        go : (b : Bool) → opens o ≡ b → not b || not (isOpened xs p) && (eqb (o .own) p && (sameSession (agreed o) S && eqb (o .input) v)) ≡ true → Tracks start S H v (opening p o ∷ cs) (cond b (record { who = p; list = first o; lines = firstLines o } ∷ xs) xs) gs
-        go false f d = refused-next f
-        go true f d =
-            let d1 = and-right (not (isOpened xs p)) _ d in
-            let d2 = and-right (eqb (o .own) p) _ d1 in
+        own : Bool → Bool → Bool
+        own b d = not b || not (isOpened xs p) && (not d || sameSession (agreed o) S && eqb (o .input) (v p))
+
+        go : (b d : Bool) → opens o ≡ b → eqb (o .own) p ≡ d → own b d ≡ true → Tracks start S H v (opening p o ∷ cs) (cond (b && d) (record { who = p; list = first o; lines = firstLines o } ∷ xs) xs) gs
+        go false d f k e = refused-next f
+        go true false f k e = foreign-next (not-true (isOpened xs p) (and-left (not (isOpened xs p)) _ e)) (eqb-false (o .own) p k)
+        go true true f k e =
+            let e1 = and-right (not (isOpened xs p)) _ e in
             first-next f
-            (not-true (isOpened xs p) (and-left (not (isOpened xs p)) _ d))
-            (eqb-true (o .own) p (and-left (eqb (o .own) p) _ d1))
-            (same-session (agreed o) S (and-left (sameSession (agreed o) S) _ d2))
-            (eqb-true (o .input) v (and-right (sameSession (agreed o) S) _ d2))
+            (not-true (isOpened xs p) (and-left (not (isOpened xs p)) _ e))
+            (eqb-true (o .own) p k)
+            (same-session (agreed o) S (and-left (sameSession (agreed o) S) _ e1))
+            (eqb-true (o .input) (v p) (and-right (sameSession (agreed o) S) _ e1))
 
   -- ---- a call
 
@@ -312,7 +336,7 @@ sized-tail (report p r) cs s = s
 sized-tail (recording p y) cs s = s
 sized-tail (restore p u r) cs s = s .1
 
-module _ (start : ℕ → List ℕ) (S : Agreed) (H : ℕ → Bool) (v : ℕ) (room : (p : ℕ) → Honest (world engine S H) p → length (start p) ≡ stateWords) where
+module _ (start : ℕ → List ℕ) (S : Agreed) (H : ℕ → Bool) (v : ℕ → ℕ) (room : (p : ℕ) → Honest (world engine S H) p → length (start p) ≡ stateWords) where
   nothing-yet : Tracks start S H v [] [] []
   unfolding words isOpened
   nothing-yet =

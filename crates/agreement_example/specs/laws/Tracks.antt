@@ -61,7 +61,7 @@ module _ (start : ℕ → List ℕ) where
       go true f = opened-first s o f
       go false f = open-refused s o f
 
-  module _ (S : Agreed) (H : ℕ → Bool) (v : ℕ) where
+  module _ (S : Agreed) (H : ℕ → Bool) (v : ℕ → ℕ) where
     -- what is known after the calls cs: xs are the words and journals of those that are opened, gs is what left
     pub record Tracks (cs : List (Call engine)) (xs : List Entry) (gs : List Gone) : Type 0 where
       pub size : (p : ℕ) → Honest (world engine S H) p → length (words engine start cs p) ≡ stateWords

@@ -1,7 +1,6 @@
 -- The marks of the senders above q that hold the set are collected, and all are weighed at the end.
 use mathlib.Core.Bool.{_&&_}
-use Rattle.quorum.specs.Marking.{Marking}
-use Rattle.quorum.specs.laws.Marking.{marking}
+use Rattle.quorum.specs.laws.Marking.{Marking, marking}
 use Rattle.commits.specs.Commits.{commitHeld, sameSet}
 use Rattle.commits.specs.laws.Cases.{commit-cases}
 use borrow.Author.Needs.{needs}

@@ -17,7 +17,14 @@ use Rattle.quorum.specs.Total.{share}
 use Rattle.quorum.specs.laws.Total.{total-shares}
 use Rattle.quorum.specs.Weights.{weightOf, weigh}
 use Rattle.quorum.specs.laws.Weights.{weight-above}
-use Rattle.quorum.specs.Marking.{MarksOf, Marking}
+use Rattle.quorum.specs.Marking.{MarksOf}
+
+-- m has the marks of k + 1 to n, each k places down
+pub record Marking (M : ℕ → Bool) (n k m : ℕ) : Type 0 where
+  pub within : k ≤ n
+  pub few : n ≤ 64
+  pub small : m < 2 ^ (n - k)
+  pub each : (p : ℕ) → 1 ≤ p → p ≤ n - k → mark m p ≡ M (k + p)
 
 byte-le : (b : Bool) → boolByte b ≤ 1
 byte-le true = omega arith

@@ -1,6 +1,5 @@
 -- After the words above p their marks are collected.
-use Rattle.quorum.specs.Marking.{Marking}
-use Rattle.quorum.specs.laws.Marking.{marking}
+use Rattle.quorum.specs.laws.Marking.{Marking, marking}
 use Rattle.records.specs.Words.{equalAt}
 use Rattle.records.specs.laws.Words.{equal-inside}
 use borrow.Author.Needs.{needs}
