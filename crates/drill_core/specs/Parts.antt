@@ -14,5 +14,5 @@ fedParts x [] = x
 fedParts x (b ∷ bs) = fedParts (fedBytes x b) bs
 
 -- whatever parts it comes in, the drill prints the output of the whole input
-pub PartsJoined : Type 0
+unfoldable pub PartsJoined : Type 0
 PartsJoined = (bs : List (List ℕ)) → printed (atEnd (fedParts startDrilling bs)) ≡ drillOutput (joined bs)

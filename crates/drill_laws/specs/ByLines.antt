@@ -49,5 +49,5 @@ outputAfter (between n (world w m s)) =
 unfoldable pub startBetween : Between
 startBetween = between 1 (world (blank 8192) (blank 70496) (startDrill .state))
 
-pub ByLines : Type 0
+unfoldable pub ByLines : Type 0
 ByLines = (input : List ℕ) → drillOutput input ≡ outputAfter (linesTaken startBetween (linesOf input))

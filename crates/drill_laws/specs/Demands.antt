@@ -38,21 +38,21 @@ abbrev pub NoneLostIn : Memory → Type 0
 NoneLostIn (memory w m c) = NoneLost w m c
 
 -- after any input, and then after any turns and deliveries, inside an R too
-pub MessagesKept : Type 0
+unfoldable pub MessagesKept : Type 0
 MessagesKept = (input : List ℕ) (y : Memory) → Through (callMemory (fedBytes startDrilling input)) y → NoneLostIn y
 
 -- the numbers of turns and rounds that R is given are never the reason to stop: with more of them it does the same
-pub RoundsEnd : Type 0
+unfoldable pub RoundsEnd : Type 0
 RoundsEnd = (input : List ℕ) (t k : ℕ) → 401 ≤ t → 1601 ≤ k →
     ranWith t (membersOf (fedBytes startDrilling input)) k (callMemory (fedBytes startDrilling input))
     ≡ ran (membersOf (fedBytes startDrilling input)) 1601 (callMemory (fedBytes startDrilling input))
 
 -- the opening of any of 1 to n with what the N and C lines gave, printed and with weights of 1, is accepted
-abbrev OpensAll : Drilling → Type 0
+abbrev pub OpensAll : Drilling → Type 0
 OpensAll (drilling w m d) =
     afterSettings (d .state .phase) ≡ true → (p : ℕ) → 1 ≤ p → p ≤ d .state .given .members .n →
     openAnswer (length (stateOf w p)) (d .state .given .members .n) (d .state .given .ta) (d .state .given .ts)
     (weightsWord (d .state .given .members .n) (onesGiven (d .state .given .members .n))) p (take (d .state .given .members .n) (d .state .given .coins)) 0 ≡ 0
 
-pub OpeningsAccepted : Type 0
+unfoldable pub OpeningsAccepted : Type 0
 OpeningsAccepted = (input : List ℕ) → OpensAll (fedBytes startDrilling input)

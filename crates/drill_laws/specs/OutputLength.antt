@@ -7,5 +7,5 @@ use Rattle.text.specs.Paste.{Wrote}
 use Rattle.drill_core.specs.Output.{drillOutput}
 
 -- what is written of the output into 2,048 lent bytes or more is all of it
-pub OutputWhole : Type 0
+unfoldable pub OutputWhole : Type 0
 OutputWhole = (input out after : List ℕ) (r : ℕ) → 2048 ≤ length out → Wrote (drillOutput input) out 0 r after → take r after ≡ drillOutput input

@@ -1,0 +1,5 @@
+pub mod Parts
+pub mod Keeping
+pub mod ReadBack
+pub mod Places
+pub mod laws
