@@ -1,5 +1,5 @@
 -- A list of calls checked by computing it: whether each call meets the conditions of demand 3 after the calls before it. The check is
--- sound (specs/Tracking.antt); it may reject a list that meets them. A restore is taken only at an opened one whose journal allows it; whether
+-- sound (specs/laws/Tracking.antt); it may reject a list that meets them. A restore is taken only at an opened one whose journal allows it; whether
 -- it is accepted need not be computed (agreement, EngineRestores).
 use Prim.Native.Nat.{ℕ}
 use mathlib.Core.Bool.{Bool, true, false, _&&_, _||_, not, cond}

@@ -1,4 +1,4 @@
--- `agreement::printed_sessions` states the theorem of specs/EnginePlain.antt.
+-- `agreement::printed_sessions` states the theorem of specs/laws/EnginePlain.antt.
 use Rattle.agreement.specs.laws.EnginePlain.{printed-meets}
 use Rattle.agreement.proofs.printed_sessions.Statement.{statement}
 use Rattle.agreement.proofs.printed_sessions.Tie as tie

@@ -1,4 +1,4 @@
--- `at_most_five` states the theorem of specs/One.antt.
+-- `at_most_five` states the theorem of specs/laws/One.antt.
 use Rattle.costliest.specs.laws.One.{at-most-five}
 use Rattle.costliest.proofs.at_most_five.Statement.{statement}
 use Rattle.costliest.proofs.at_most_five.Tie as tie

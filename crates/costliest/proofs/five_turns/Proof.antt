@@ -1,4 +1,4 @@
--- `five_turns` states the theorem of specs/Five.antt.
+-- `five_turns` states the theorem of specs/laws/Five.antt.
 use Rattle.costliest.specs.laws.Five.{five-turns}
 use Rattle.costliest.proofs.five_turns.Statement.{statement}
 use Rattle.costliest.proofs.five_turns.Tie as tie

@@ -1,4 +1,4 @@
--- `turn_count` states the theorem of specs/CallCount.antt.
+-- `turn_count` states the theorem of specs/laws/CallCount.antt.
 use Rattle.turn_bound.specs.laws.CallCount.{call-count}
 use Rattle.turn_bound.proofs.turn_count.Statement.{statement}
 use Rattle.turn_bound.proofs.turn_count.Tie as tie
