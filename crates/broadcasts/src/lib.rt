@@ -163,7 +163,7 @@ fn ready_due(s: &[u64], g: Settings, i: u8) -> Output
     let o = leading_echo(s, g.n, g.weights, g.quorum(), i);
     match o {
         Output::Value(v) => Output::Value(v),
-        Output::Nothing => leading_ready(s, g.n, g.weights, g.copy(), i),
+        Output::Nothing => leading_ready(s, g.n, g.weights, g.repeat(), i),
     }
 }
 

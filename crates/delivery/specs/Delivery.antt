@@ -1,6 +1,6 @@
 -- Delivery: the verdict on a message, and the words after it. "A delivery names the link's concentrator and records one message."
 use Prim.Native.Nat.{ℕ}
-use mathlib.Core.Bool.{Bool, _||_, cond}
+use mathlib.Core.Bool.{Bool, _||_, not, cond}
 use mathlib.Core.List.{List}
 use lib.ListN.{drop}
 use Rattle.settings.specs.Refusals.{NO-STATE, CLOSED, HELD}
@@ -9,10 +9,7 @@ use Rattle.records.specs.Words.{put, setMark}
 use Rattle.records.specs.Records.{closed, sendHeld, echoHeld, readyHeld, estHeld, auxHeld}
 use Rattle.records.specs.Words.{storeOf}
 use Rattle.commits.specs.Commits.{commitHeld}
-use Rattle.session.specs.Session.{stored}
-use Rattle.session.specs.declared.Session.{Session}
-use Rattle.session.specs.declared.Stored.{Stored}
-use Rattle.session.specs.declared.Stored.the-variants.{NoState, Held}
+use Rattle.session.specs.Session.{isState, sessionOf}
 use Rattle.wire.specs.Bytes.{valueAt}
 use Rattle.wire.specs.Reading.{readMessage}
 use Rattle.wire.specs.declared.Message.{Message}
@@ -37,17 +34,12 @@ unfoldable pub judged : List ℕ → ℕ → Parsed → Verdict
 judged s p (parsed.Refused k) = Refused k
 judged s p (parsed.Taken m) = cond (placeHeld s p m) (Refused HELD) (Accepted m)
 
--- "10 CLOSED: delivery or turn after closing", then the message
-unfoldable pub verdictIn : Session → List ℕ → ℕ → List ℕ → Verdict
-verdictIn x s link b = cond (closed s) (Refused CLOSED) (judged s link (readMessage (x .settings .n) (x .number) link b))
-
-unfoldable pub verdictFor : Stored → List ℕ → ℕ → List ℕ → Verdict
-verdictFor NoState s link b = Refused NO-STATE
-verdictFor (Held x) s link b = verdictIn x s link b
-
--- "Delivery 9, 10, 2 to 7, 11."
+-- "Delivery 9, 10, 2 to 7, 11.": the first refusal, or the message
 unfoldable pub verdict : List ℕ → ℕ → List ℕ → Verdict
-verdict s link b = verdictFor (stored s) s link b
+verdict s link b =
+    cond (not (isState s)) (Refused NO-STATE)
+    (cond (closed s) (Refused CLOSED)
+    (judged s link (readMessage (sessionOf s .settings .n) (sessionOf s .number) link b)))
 
 -- the state with a message of sender p recorded; the values of a COMMIT are in the part v that starts at byte 12
 unfoldable pub recorded : List ℕ → ℕ → Message → List ℕ → List ℕ

@@ -1,3 +1,4 @@
+pub mod Stored
 pub mod Cases
 pub mod Accepting
 pub mod Frame

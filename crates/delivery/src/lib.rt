@@ -12,7 +12,9 @@ ghost use Rattle.records.specs.Words.{put, setMark};
 ghost use Rattle.records.specs.Records.{estHeld, auxHeld};
 ghost use Rattle.records.specs.Words.{storeOf};
 ghost use Rattle.wire.specs.Bytes.{valueAt};
-ghost use Rattle.delivery.specs.Delivery.{placeHeld, judged, verdictIn, verdict, recorded, answerOf, deliverAnswer, delivered};
+ghost use Rattle.delivery.specs.Delivery.{placeHeld, judged, verdict, recorded, answerOf, deliverAnswer, delivered};
+ghost use Rattle.session.specs.declared.Stored.the-variants.{Held};
+ghost use Rattle.delivery.specs.laws.Stored.{verdictFor};
 
 // What a delivery comes to: the number of the refusal, or the message to be recorded.
 pub enum Verdict {
@@ -63,7 +65,7 @@ fn place_held(s: &[u64], p: u8, m: Message) -> bool
 
 // The verdict in a session.
 fn verdict_in(s: &[u64], x: Session, link: u64, bytes: &[u8]) -> Verdict
-    ensures { λ r. ⌜ r ≡ verdictIn x (now (s .entry)) link (now (bytes .entry)) ⌝ }
+    ensures { λ r. ⌜ r ≡ verdictFor (Held x) (now (s .entry)) link (now (bytes .entry)) ⌝ }
 {
     if records::closed(s) {
         return Verdict::Refused(refusal::CLOSED);

@@ -5,7 +5,7 @@ ghost use mathlib.Core.Path.{_≡_};
 ghost use Prim.Native.Nat.{_-_};
 ghost use Rattle.settings.specs.Settings.{largestTa, namedTa};
 ghost use Rattle.settings.specs.laws.Settings.{checkSettings};
-ghost use Rattle.settings.specs.Settings.{quorum, copy, voteQuorum, relay, accept, turnBound};
+ghost use Rattle.settings.specs.Settings.{quorum, repeat, voteQuorum, relay, accept, turnBound};
 
 // u8 fields: no threshold can wrap, so none has a `requires`. `whole` is the sum of the weights, which are one word.
 pub struct Settings {
@@ -114,8 +114,8 @@ impl Settings {
     }
 
     // ts + 1: a READY or a COMMIT that is repeated.
-    pub fn copy(self) -> u64
-        ensures { λ r. ⌜ r ≡ copy self ⌝ }
+    pub fn repeat(self) -> u64
+        ensures { λ r. ⌜ r ≡ repeat self ⌝ }
     {
         self.ts as u64 + 1
     }

@@ -5,7 +5,7 @@ use records::layout;
 use settings::Settings;
 ghost use mathlib.Core.Path.{_≡_};
 ghost use Rattle.settings.specs.Rules.{Ruled};
-ghost use Rattle.settings.specs.Settings.{copy};
+ghost use Rattle.settings.specs.Settings.{repeat};
 ghost use Rattle.broadcasts.specs.Outputs.{Outputs};
 ghost use Rattle.exits.specs.Stated.{Stated};
 ghost use Rattle.commits.specs.Commits.{leadingSet};
@@ -26,9 +26,9 @@ fn in_force_rule(s: &[u64], g: Settings) -> Act
 // The COMMIT of a set that senders of weight ts + 1 hold, with the set beside it.
 fn repeated_commit(s: &[u64], g: Settings, set: &mut [u64; 16]) -> Act
     requires { ⌜ Readable g (now s) (now set) ⌝ }
-    ensures { λ r. ⌜ Chosen (commitOf (leadingSet (g .weights) (now (s .entry)) (g .n) (copy g))) (leadingSet (g .weights) (now (s .entry)) (g .n) (copy g)) r (now (set .exit)) ⌝ }
+    ensures { λ r. ⌜ Chosen (commitOf (leadingSet (g .weights) (now (s .entry)) (g .n) (repeat g))) (leadingSet (g .weights) (now (s .entry)) (g .n) (repeat g)) r (now (set .exit)) ⌝ }
 {
-    let p = commits::set_leader(s, g.weights, g.n, g.copy());
+    let p = commits::set_leader(s, g.weights, g.n, g.repeat());
     if p == 0 {
         return Act::Idle;
     }
@@ -76,7 +76,7 @@ fn last_rules(s: &[u64], g: Settings, held: u64, first: bool) -> Act
     if first {
         return Act::Idle;
     }
-    votes::vote_rule(s, g, held, votes::votes_decided_one(s, g))
+    votes::vote_rule(s, g, held)
 }
 
 // Rules 3 to 6.

@@ -1,3 +1,4 @@
+pub mod Given
 pub mod Votes
 pub mod Cases
 pub mod Told

@@ -7,7 +7,9 @@ ghost use Prim.Native.Nat.{min};
 ghost use Rattle.settings.specs.Settings.{roundLimit};
 ghost use Rattle.records.specs.Records.{round};
 ghost use Rattle.votes.specs.Votes.{estCount, accepted, votesDecidedOne, startAct, relayValue, relayRound, relayAct, running, auxValue, auxAct};
-ghost use Rattle.votes.specs.Votes.{carriers, auxCount, viewOf, view, moveValue, moveAct, roundAct, voteAct, voteRule, coinValue, estimate, decides};
+ghost use Rattle.quorum.specs.Marks.{mark};
+ghost use Rattle.votes.specs.Votes.{auxCount, viewOf, moveAct, roundAct, voteAct, voteRule, coinValue, estimate, decides};
+ghost use Rattle.votes.specs.laws.Given.{carriersGiven, viewGiven, moveGiven};
 
 // The groups of marks in a round's word: EST 0 and EST 1, then AUX 0 and AUX 1.
 const AUX_ZERO: u16 = 32;
@@ -144,7 +146,7 @@ pub fn aux_act(s: &[u64], g: Settings, i: u8) -> Act
 // The weight of the held AUXs that carry accepted values; a0 and a1 tell which values are accepted. A sender counts once, also where a
 // foreign state holds both values of it.
 fn carriers(s: &[u64], g: Settings, i: u8, r: u8, a0: bool, a1: bool) -> u64
-    ensures { λ c. ⌜ c ≡ carriers g (now (s .entry)) i r a0 a1 ⌝ }
+    ensures { λ c. ⌜ c ≡ carriersGiven g (now (s .entry)) i r a0 a1 ⌝ }
 {
     let w = records::votes(s, i, r);
     let zero = quorum::share(a0, w >> AUX_ZERO);
@@ -169,7 +171,7 @@ fn view_of(zero: bool, one: bool) -> acts::View
 
 // The values that the accepted AUXs of a round carry.
 fn view(s: &[u64], g: Settings, i: u8, r: u8, a0: bool, a1: bool) -> acts::View
-    ensures { λ v. ⌜ v ≡ view g (now (s .entry)) i r a0 a1 ⌝ }
+    ensures { λ v. ⌜ v ≡ viewGiven g (now (s .entry)) i r a0 a1 ⌝ }
 {
     let zero = a0 & (0 < aux_count(s, g, i, r, 0));
     let one = a1 & (0 < aux_count(s, g, i, r, 1));
@@ -178,7 +180,7 @@ fn view(s: &[u64], g: Settings, i: u8, r: u8, a0: bool, a1: bool) -> acts::View
 
 // The move out of round r, where held AUXs of weight n − ta carry accepted values.
 fn move_value(s: &[u64], g: Settings, i: u8, r: u8, a0: bool, a1: bool) -> Act
-    ensures { λ a. ⌜ a ≡ moveValue g (now (s .entry)) i r a0 a1 ⌝ }
+    ensures { λ a. ⌜ a ≡ moveGiven g (now (s .entry)) i r a0 a1 ⌝ }
 {
     if g.vote_quorum() <= carriers(s, g, i, r, a0, a1) {
         return Act::Move(i, r, view(s, g, i, r, a0, a1));
@@ -235,9 +237,10 @@ pub fn vote_act(s: &[u64], g: Settings, output: bool, ones: u64, i: u8) -> Act
 }
 
 // Rule 6, lower votes first: `held` has mark i where broadcast i has output.
-pub fn vote_rule(s: &[u64], g: Settings, held: u64, ones: u64) -> Act
-    ensures { λ a. ⌜ a ≡ voteRule g (now (s .entry)) held ones ⌝ }
+pub fn vote_rule(s: &[u64], g: Settings, held: u64) -> Act
+    ensures { λ a. ⌜ a ≡ voteRule g (now (s .entry)) (mark held) ⌝ }
 {
+    let ones = votes_decided_one(s, g);
     let n = g.n;
     let mut i: u8 = 0;
     while i < n {

@@ -10,7 +10,7 @@ use lib.Dec.{eqb}
 use lib.ListN.{length}
 use borrow.Author.Tests.{eqb-true, leb-true}
 use Rattle.quorum.specs.laws.Bools.{and-left, and-right}
-use Rattle.settings.specs.Settings.{quorum, copy, relay, accept}
+use Rattle.settings.specs.Settings.{quorum, repeat, relay, accept}
 use Rattle.settings.specs.Rules.{Ruled}
 use Rattle.settings.specs.declared.Settings.{Settings}
 use Rattle.records.specs.Records.{echoHeld, echoValue, readyHeld, readyValue, estHeld, auxHeld, commitSet}
@@ -29,7 +29,7 @@ use Rattle.exits.specs.Exits.{exitNow}
 use Rattle.turn.specs.Due.{commitDue}
 use Rattle.turn.specs.laws.Told.{ActTold, SetHeld, Rests, on-exit, on-copies}
 use Rattle.agreement.specs.Evidence.{World, whole}
-use Rattle.agreement.specs.laws.Thresholds.{by-quorum, by-vote-quorum, by-copy, by-relay, by-accept}
+use Rattle.agreement.specs.laws.Thresholds.{by-quorum, by-vote-quorum, by-repeat, by-relay, by-accept}
 use Rattle.agreement.specs.History.{Act, Occurs, Names}
 use Rattle.held.specs.laws.Held.{ECHO, READY, EST, COMMIT, Numbered, Voting}
 use Rattle.agreement.specs.laws.Runs.{HeldFrom, Carried, MoveDue, Due, OutputsHeld}
@@ -75,10 +75,10 @@ module _ (s : List ℕ) (ruled : Ruled (settingsOf s)) (size : length s ≡ 2048
   ready-held i v n m t =
       record { instance = n; there = and-left (readyHeld s i m) (eqb (readyValue s i m) v) t; same = eqb-true (readyValue s i m) v (and-right (readyHeld s i m) (eqb (readyValue s i m) v) t) }
 
-  ready-due : (i v : ℕ) → Numbered i → (quorum g ≤ holders (g .weights) (echoHeld s i) (echoValue s i) v (g .n)) ⊎ (copy g ≤ holders (g .weights) (readyHeld s i) (readyValue s i) v (g .n)) → HeldFrom W engineSeen s (whole W) (g .ts) (ECHO i v) ⊎ HeldFrom W engineSeen s (g .ts + 1) 0 (READY i v)
+  ready-due : (i v : ℕ) → Numbered i → (quorum g ≤ holders (g .weights) (echoHeld s i) (echoValue s i) v (g .n)) ⊎ (repeat g ≤ holders (g .weights) (readyHeld s i) (readyValue s i) v (g .n)) → HeldFrom W engineSeen s (whole W) (g .ts) (ECHO i v) ⊎ HeldFrom W engineSeen s (g .ts + 1) 0 (READY i v)
   unfolding holders
   ready-due i v n (inl h) = inl (echoes-held i v n h)
-  ready-due i v n (inr h) = inr (by-copy W ruled (readies i v) (λ m lo hi t. ready-held i v n m t) h)
+  ready-due i v n (inr h) = inr (by-repeat W ruled (readies i v) (λ m lo hi t. ready-held i v n m t) h)
 
   -- an output has its READYs
   pub outputs-held : OutputsHeld W engineSeen s
@@ -145,9 +145,9 @@ module _ (s : List ℕ) (ruled : Ruled (settingsOf s)) (size : length s ≡ 2048
         same = same-set s p q size (omega (arith, ruled .few)) (omega (arith, ruled .few)) (and-right (commitHeld s q) (sameSet s p q) t);
       }
 
-  copies-due : (p : ℕ) → SetHeld (g .weights) s (g .n) (copy g) p → HeldFrom W engineSeen s (g .ts + 1) 0 (COMMIT (commitSet s p))
+  copies-due : (p : ℕ) → SetHeld (g .weights) s (g .n) (repeat g) p → HeldFrom W engineSeen s (g .ts + 1) 0 (COMMIT (commitSet s p))
   unfolding setHolders
-  copies-due p x = by-copy W ruled (holding p) (λ m lo hi t. commit-held p m (x .high) hi t) (x .enough)
+  copies-due p x = by-repeat W ruled (holding p) (λ m lo hi t. commit-held p m (x .high) hi t) (x .enough)
 
   -- n−ts senders hold the set of p
   pub force-due : (p : ℕ) → SetHeld (g .weights) s (g .n) (quorum g) p → HeldFrom W engineSeen s (whole W) (g .ts) (COMMIT (commitSet s p))

@@ -11,8 +11,8 @@ use lib.ListN.{length, take, drop}
 use lib.Seq.{take-all, take-at}
 use borrow.Author.Tests.{lt-ltb, ltb-true}
 use Rattle.quorum.specs.laws.Bools.{and-both}
-use Rattle.settings.specs.Settings.{quorum, copy}
-use Rattle.settings.specs.laws.Thresholds.{ruled-bounds, copy-sum}
+use Rattle.settings.specs.Settings.{quorum, repeat}
+use Rattle.settings.specs.laws.Thresholds.{ruled-bounds, repeat-sum}
 use Rattle.settings.specs.declared.Settings.{Settings}
 use Rattle.records.specs.Records.{sendValue, echoHeld, echoValue, readyHeld, readyValue, commitCount, commitValue, commitSet, decidedZero, decidedOne}
 use Rattle.records.specs.Records as records
@@ -143,13 +143,13 @@ module _ (o : Arguments) (H : ℕ → Bool) (κ : ℕ → ℕ → Bool) (w : Lis
   unfolding rises risesFrom
   single m v l b e f = record { layout = l; held = omega arith; fits = rw e (f, tt); rising = rw e }
 
-  ready-fits : (i v : ℕ) → (quorum g ≤ holders (g .weights) (echoHeld w i) (echoValue w i) v (g .n)) ⊎ (copy g ≤ holders (g .weights) (readyHeld w i) (readyValue w i) v (g .n)) → v < 2 ^ 64
+  ready-fits : (i v : ℕ) → (quorum g ≤ holders (g .weights) (echoHeld w i) (echoValue w i) v (g .n)) ⊎ (repeat g ≤ holders (g .weights) (readyHeld w i) (readyValue w i) v (g .n)) → v < 2 ^ 64
   unfolding echoValue readyValue
   ready-fits i v (inl h) =
       let k = holders-some (g .weights) (echoHeld w i) (echoValue w i) (g .n) v (omega (arith, ruled-bounds g (x .ruled) .quorum-some)) in
       rw (← k .same) (x .fits (239 + 16 * i + k .at))
   ready-fits i v (inr h) =
-      let k = holders-some (g .weights) (readyHeld w i) (readyValue w i) (g .n) v (omega (arith, copy-sum g)) in
+      let k = holders-some (g .weights) (readyHeld w i) (readyValue w i) (g .n) v (omega (arith, repeat-sum g)) in
       rw (← k .same) (x .fits (495 + 16 * i + k .at))
 
   estimate-bit : (k : Bool) (v : View) → ((b : ℕ) → v ≡ Only b → b ≤ 1) → estimate k v ≤ 1

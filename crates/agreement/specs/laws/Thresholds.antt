@@ -3,8 +3,8 @@ use Prim.Native.Nat.{ℕ, _+_, _*_, _≤_}
 use mathlib.Core.Bool.{Bool, true}
 use mathlib.Core.Path.{_≡_}
 use native.Mathlib.Omega.{arith}
-use Rattle.settings.specs.Settings.{quorum, copy, voteQuorum, relay, accept}
-use Rattle.settings.specs.laws.Thresholds.{quorum-reached, vote-quorum-reached, copy-sum, relay-sum, accept-sum}
+use Rattle.settings.specs.Settings.{quorum, repeat, voteQuorum, relay, accept}
+use Rattle.settings.specs.laws.Thresholds.{quorum-reached, vote-quorum-reached, repeat-sum, relay-sum, accept-sum}
 use Rattle.settings.specs.declared.Settings.{Settings}
 use Rattle.settings.specs.Rules.{Ruled}
 use Rattle.quorum.specs.Whole.{wholeOf}
@@ -26,8 +26,8 @@ module _ (W : World) (ruled : Ruled (W .settings)) (test : ℕ → Bool) {P : �
   unfolding wholeOf
   by-vote-quorum h = backed (omega (arith, vote-quorum-reached g (weigh W test) h, ruled .sum))
 
-  pub by-copy : copy g ≤ weigh W test → Backed W (g .ts + 1) 0 P
-  by-copy h = backed (omega (arith, copy-sum g))
+  pub by-repeat : repeat g ≤ weigh W test → Backed W (g .ts + 1) 0 P
+  by-repeat h = backed (omega (arith, repeat-sum g))
 
   pub by-relay : relay g ≤ weigh W test → Backed W (g .ta + 1) 0 P
   by-relay h = backed (omega (arith, relay-sum g))

@@ -9,7 +9,7 @@ use lib.Dec.{eqb, leb}
 use borrow.Author.Tests.{eqb-true, eqb-false, leb-true, leb-false}
 use Rattle.quorum.specs.laws.Bools.{and-left, and-right}
 use Rattle.settings.specs.Rules.{Ruled}
-use Rattle.settings.specs.Settings.{quorum, copy}
+use Rattle.settings.specs.Settings.{quorum, repeat}
 use Rattle.settings.specs.laws.Thresholds.{quorum-sum}
 use Rattle.settings.specs.declared.Settings.{Settings}
 use Rattle.quorum.specs.Lowest.{lowest}
@@ -157,13 +157,13 @@ module _ (g : Settings) (s : List ℕ) (i : ℕ) where
       go false t = leb-false (quorum g) (holders (g .weights) (readyHeld s i) (readyValue s i) v (g .n)) t
 
   -- a READY rests on n − ts ECHOs or on ts + 1 READYs
-  pub ready-rests : (v : ℕ) → readyDue g s i ≡ Value v → (quorum g ≤ holders (g .weights) (echoHeld s i) (echoValue s i) v (g .n)) ⊎ (copy g ≤ holders (g .weights) (readyHeld s i) (readyValue s i) v (g .n))
+  pub ready-rests : (v : ℕ) → readyDue g s i ≡ Value v → (quorum g ≤ holders (g .weights) (echoHeld s i) (echoValue s i) v (g .n)) ⊎ (repeat g ≤ holders (g .weights) (readyHeld s i) (readyValue s i) v (g .n))
   unfolding readyDue
   ready-rests v e = go (leading (g .weights) (echoHeld s i) (echoValue s i) (g .n) (quorum g)) refl e
     where
-      go : (o : Output) → leading (g .weights) (echoHeld s i) (echoValue s i) (g .n) (quorum g) ≡ o → orOutput o (leading (g .weights) (readyHeld s i) (readyValue s i) (g .n) (copy g)) ≡ Value v → (quorum g ≤ holders (g .weights) (echoHeld s i) (echoValue s i) v (g .n)) ⊎ (copy g ≤ holders (g .weights) (readyHeld s i) (readyValue s i) v (g .n))
+      go : (o : Output) → leading (g .weights) (echoHeld s i) (echoValue s i) (g .n) (quorum g) ≡ o → orOutput o (leading (g .weights) (readyHeld s i) (readyValue s i) (g .n) (repeat g)) ≡ Value v → (quorum g ≤ holders (g .weights) (echoHeld s i) (echoValue s i) v (g .n)) ⊎ (repeat g ≤ holders (g .weights) (readyHeld s i) (readyValue s i) v (g .n))
       go (Value w) t h = inl (leading-value (g .weights) (echoHeld s i) (echoValue s i) (g .n) (quorum g) v (t ∙ h) .enough)
-      go Nothing t h = inr (leading-value (g .weights) (readyHeld s i) (readyValue s i) (g .n) (copy g) v h .enough)
+      go Nothing t h = inr (leading-value (g .weights) (readyHeld s i) (readyValue s i) (g .n) (repeat g) v h .enough)
 
 -- the array within the rules
 module _ (g : Settings) (s : List ℕ) (held : ℕ) (values : List ℕ) (r : Ruled g) (x : Outputs g s (g .n) held values) where

@@ -8,7 +8,7 @@ use native.Mathlib.Nat.{zero-add}
 use lib.Bits.{bitAnd}
 use lib.Dec.{leb, eqb}
 use borrow.Author.Tests.{ne-eqb, lt-leb, le-leb}
-use Rattle.settings.specs.Settings.{quorum, copy}
+use Rattle.settings.specs.Settings.{quorum, repeat}
 use Rattle.settings.specs.declared.Settings.{Settings}
 use Rattle.quorum.specs.laws.Bools.{and-left}
 use Rattle.quorum.specs.Marks.{mark}
@@ -113,7 +113,7 @@ module _ (g : Settings) (s : List ℕ) (i : ℕ) where
   unfolding readyDue
   due-by-echoes o q v e f h = rw (← e, ← f, h)
 
-  pub due-by-readies : (o r : Output) (q k : ℕ) → q ≡ quorum g → o ≡ leading (g .weights) (echoHeld s i) (echoValue s i) (g .n) q → o ≡ Nothing → k ≡ copy g → r ≡ leading (g .weights) (readyHeld s i) (readyValue s i) (g .n) k → r ≡ readyDue g s i
+  pub due-by-readies : (o r : Output) (q k : ℕ) → q ≡ quorum g → o ≡ leading (g .weights) (echoHeld s i) (echoValue s i) (g .n) q → o ≡ Nothing → k ≡ repeat g → r ≡ leading (g .weights) (readyHeld s i) (readyValue s i) (g .n) k → r ≡ readyDue g s i
   unfolding readyDue
   due-by-readies o r q k e f h u w = rw (← e, ← f, h, ← u, ← w)
 

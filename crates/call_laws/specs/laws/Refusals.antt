@@ -74,9 +74,9 @@ either-read : (t : Bool) (x y : Parsed) → Fits (refusal x) → Fits (refusal y
 either-read true x y a b = a
 either-read false x y a b = b
 
-or-refused : (t : Bool) (x : Parsed) (k : ℕ) → Fits k → Fits (refusal x) → Fits (refusal (cond t x (parsed.Refused k)))
+or-refused : (t : Bool) (x : Parsed) (k : ℕ) → Fits k → Fits (refusal x) → Fits (refusal (cond (not t) (parsed.Refused k) x))
 unfolding refusal
-or-refused t x k h a = either-read t x (parsed.Refused k) a h
+or-refused t x k h a = either-read (not t) (parsed.Refused k) x h a
 
 taken-fits : (m : Message) → Fits (refusal (parsed.Taken m))
 unfolding refusal

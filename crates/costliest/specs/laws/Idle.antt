@@ -10,7 +10,7 @@ use lib.Dec.{eqb}
 use lib.ListN.{length}
 use borrow.Author.Tests.{eq-eqb, ne-eqb, eqb-true, le-leb, ltb-true}
 use Rattle.quorum.specs.laws.Bools.{and-both}
-use Rattle.settings.specs.Settings.{quorum, copy, voteQuorum, relay, accept}
+use Rattle.settings.specs.Settings.{quorum, repeat, voteQuorum, relay, accept}
 use Rattle.settings.specs.declared.Settings.{Settings}
 use Rattle.quorum.specs.Marks.{mark}
 use Rattle.quorum.specs.Total.{total, count, everyone}
@@ -75,7 +75,7 @@ module _ (n : ℕ) (two : 2 ≤ n) (few : n ≤ 16) (low : 1 ≤ n) (begin : Lis
       (λ p l k. and-both (readyHeld s i p) (eqb (readyValue s i p) i) (h .readied i lo hi p l k) (eq-eqb (readyValue s i p) i (value-is i p lo hi l k)))
 
   ready-done : isDue (readyRule g s) ≡ false → (i : ℕ) → 1 ≤ i → i ≤ n → readySent s i ≡ true
-  unfolding readyRule readyAct readyDue copy
+  unfolding readyRule readyAct readyDue repeat
   ready-done e i lo hi = of (leading (g .weights) (echoHeld s i) (echoValue s i) n (quorum g)) (leading (g .weights) (readyHeld s i) (readyValue s i) n 1) refl (first-idle (readyAct g s) n e i lo hi)
     where
       of : (u v : Output) → leading (g .weights) (readyHeld s i) (readyValue s i) n 1 ≡ v → isDue (cond (readySent s i) Idle (readyOf i (orOutput u v))) ≡ false → readySent s i ≡ true
@@ -217,7 +217,7 @@ module _ (n : ℕ) (two : 2 ≤ n) (few : n ≤ 16) (low : 1 ≤ n) (begin : Lis
           (omega (arith, set-length s (setLeader (g .weights) s n 1) size (omega (arith, y .high)), ltb-true 0 (commitCount s (setLeader (g .weights) s n 1)) (y .held)))
 
   commit-done : isDue (commitRule g s) ≡ false → commitSent s ≡ true
-  unfolding commitRule commitDue copy commitOf orSet
+  unfolding commitRule commitDue repeat commitOf orSet
   commit-done e = of (exitNow g s .names) (leadingSet (g .weights) s n 1) set-there e
     where
       of : (xs ys : List ℕ) → 1 ≤ length ys → isDue (cond (commitSent s) Idle (commitOf (orSet xs ys))) ≡ false → commitSent s ≡ true

@@ -21,7 +21,8 @@ use Rattle.wire.specs.declared.Message.{Message}
 use Rattle.wire.specs.declared.Message.the-variants.{Send, Echo, Ready, Est, Aux, Commit}
 use Rattle.wire.specs.declared.Parsed.{Parsed}
 use Rattle.wire.specs.declared.Parsed.the-variants as parsed
-use Rattle.delivery.specs.Delivery.{placeHeld, judged, verdictIn, verdictFor, verdict, recorded, answerOf, wordsAfter, deliverAnswer, delivered}
+use Rattle.delivery.specs.Delivery.{placeHeld, judged, verdict, recorded, answerOf, wordsAfter, deliverAnswer, delivered}
+use Rattle.delivery.specs.laws.Stored.{verdictFor, verdict-stored}
 use Rattle.delivery.specs.declared.Verdict.{Verdict}
 use Rattle.delivery.specs.declared.Verdict.the-variants.{Refused, Accepted}
 
@@ -37,8 +38,8 @@ pub record Accepting (s : List ℕ) (link : ℕ) (b : List ℕ) (m : Message) : 
   pub free : placeHeld s link m ≡ false
 
 pub accepting : (s : List ℕ) (link : ℕ) (b : List ℕ) (m : Message) → verdict s link b ≡ Accepted m → Accepting s link b m
-unfolding verdict verdictFor verdictIn judged
-accepting s link b m e = of (stored s) refl e
+unfolding verdictFor judged
+accepting s link b m e = of (stored s) refl (sym (verdict-stored s link b) ∙ e)
   where
     place : (x : Session) → Read s x → closed s ≡ false → (k : Message) → readMessage (x .settings .n) (x .number) link b ≡ parsed.Taken k → (h : Bool) → placeHeld s link k ≡ h → cond h (Refused 11) (Accepted k) ≡ Accepted m → Accepting s link b m
     place x r c k t true f g = absurd (let z : _≡_ {A = ℕ} 0 1 = cc in omega arith)
@@ -65,8 +66,8 @@ accepting s link b m e = of (stored s) refl e
 
 -- a message that is taken is recorded where its place is free, and changes nothing where it is not
 pub delivered-taken : (s : List ℕ) (link : ℕ) (b : List ℕ) (m : Message) → stored s ≡ Held (sessionOf s) → closed s ≡ false → readMessage (sessionOf s .settings .n) (sessionOf s .number) link b ≡ parsed.Taken m → delivered s link b ≡ cond (placeHeld s link m) s (recorded s link m (drop 12 b))
-unfolding delivered verdict verdictFor verdictIn judged wordsAfter
-delivered-taken s link b m is unclosed read = rw (is, unclosed, read) (go (placeHeld s link m))
+unfolding delivered verdictFor judged wordsAfter
+delivered-taken s link b m is unclosed read = rw (verdict-stored s link b, is, unclosed, read) (go (placeHeld s link m))
   where
     go : (h : Bool) → wordsAfter (cond h (Refused 11) (Accepted m)) s link b ≡ cond h s (recorded s link m (drop 12 b))
     go true = refl

@@ -1,6 +1,6 @@
 -- A delivery answers 0 only where it is accepted: every refusal has a number from 1.
 use Prim.Native.Nat.{ℕ, _≤_}
-use mathlib.Core.Bool.{Bool, true, false, cond}
+use mathlib.Core.Bool.{Bool, true, false, not, cond}
 use mathlib.Core.List.{List}
 use mathlib.Core.Path.{_≡_, refl, sym, ap, _∙_}
 use native.Mathlib.Omega.{arith}
@@ -17,7 +17,8 @@ use Rattle.wire.specs.declared.Header.{Header}
 use Rattle.wire.specs.declared.Message.{Message}
 use Rattle.wire.specs.declared.Parsed.{Parsed}
 use Rattle.wire.specs.declared.Parsed.the-variants as parsed
-use Rattle.delivery.specs.Delivery.{placeHeld, judged, verdictIn, verdictFor, verdict, recorded, answerOf, wordsAfter, deliverAnswer, delivered}
+use Rattle.delivery.specs.Delivery.{placeHeld, judged, verdict, recorded, answerOf, wordsAfter, deliverAnswer, delivered}
+use Rattle.delivery.specs.laws.Stored.{verdictFor, verdict-stored}
 use Rattle.delivery.specs.laws.Accepting.{accepted-short}
 use Rattle.delivery.specs.declared.Verdict.{Verdict}
 use Rattle.delivery.specs.declared.Verdict.the-variants.{Refused, Accepted}
@@ -35,9 +36,9 @@ taken-parse : (m : Message) → NumberedParse (parsed.Taken m)
 unfolding NumberedParse
 taken-parse m = tt
 
-or-refused : (t : Bool) (x : Parsed) (k : ℕ) → 1 ≤ k → NumberedParse x → NumberedParse (cond t x (parsed.Refused k))
+or-refused : (t : Bool) (x : Parsed) (k : ℕ) → 1 ≤ k → NumberedParse x → NumberedParse (cond (not t) (parsed.Refused k) x)
 unfolding NumberedParse
-or-refused t x k h a = either-parse t x (parsed.Refused k) a h
+or-refused t x k h a = either-parse (not t) (parsed.Refused k) x h a
 
 taken-if : (t : Bool) (m : Message) → NumberedParse (takenIf t m)
 unfolding takenIf
@@ -83,13 +84,12 @@ judged-numbered s p (parsed.Refused k) h = h
 judged-numbered s p (parsed.Taken m) h = either-verdict (placeHeld s p m) (Refused HELD) (Accepted m) (omega arith) tt
 
 for-numbered : (y : Stored) (s : List ℕ) (link : ℕ) (b : List ℕ) → NumberedVerdict (verdictFor y s link b)
-unfolding verdictFor verdictIn NumberedVerdict
+unfolding verdictFor NumberedVerdict
 for-numbered NoState s link b = omega arith
 for-numbered (Held x) s link b = either-verdict (closed s) (Refused CLOSED) _ (omega arith) (judged-numbered s link _ (message-numbered _ _ link b))
 
 verdict-numbered : (s : List ℕ) (link : ℕ) (b : List ℕ) → NumberedVerdict (verdict s link b)
-unfolding verdict
-verdict-numbered s link b = for-numbered (stored s) s link b
+verdict-numbered s link b = rw (verdict-stored s link b) (for-numbered (stored s) s link b)
 
 -- an answer of 0: the message that is accepted
 pub record Taking (s : List ℕ) (link : ℕ) (b : List ℕ) : Type 0 where

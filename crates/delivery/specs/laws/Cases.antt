@@ -21,7 +21,8 @@ use Rattle.wire.specs.declared.Message.{Message}
 use Rattle.wire.specs.declared.Message.the-variants.{Send, Echo, Ready, Est, Aux, Commit}
 use Rattle.wire.specs.declared.Parsed.{Parsed}
 use Rattle.wire.specs.declared.Parsed.the-variants as parsed
-use Rattle.delivery.specs.Delivery.{placeHeld, judged, verdictIn, verdictFor, verdict, recorded}
+use Rattle.delivery.specs.Delivery.{placeHeld, judged, verdict, recorded}
+use Rattle.delivery.specs.laws.Stored.{verdictFor, verdict-stored}
 use Rattle.delivery.specs.declared.Verdict.{Verdict}
 use Rattle.delivery.specs.declared.Verdict.the-variants.{Refused, Accepted}
 
@@ -61,30 +62,29 @@ module _ (s : List ℕ) (p : ℕ) (m : Message) (c : Bool) where
 pub ruleset place-cases = (est-mark, aux-mark, place-send, place-echo, place-ready, place-est, place-aux, place-commit)
 
 module _ (x : Session) (s : List ℕ) (link : ℕ) (b : List ℕ) (c : Bool) (ec : c ≡ closed s) where
-  pub in-closed : c ≡ true → Refused 10 ≡ verdictIn x s link b
-  unfolding verdictIn
+  pub in-closed : c ≡ true → Refused 10 ≡ verdictFor (Held x) s link b
+  unfolding verdictFor
   in-closed t = rw (← ec, t)
 
   module _ (tc : c ≡ false) (y : Parsed) (ey : y ≡ readMessage (x .settings .n) (x .number) link b) where
-    pub in-refused : (k : ℕ) → y ≡ parsed.Refused k → Refused k ≡ verdictIn x s link b
-    unfolding verdictIn judged
+    pub in-refused : (k : ℕ) → y ≡ parsed.Refused k → Refused k ≡ verdictFor (Held x) s link b
+    unfolding verdictFor judged
     in-refused k t = rw (← ec, tc, ← ey, t)
 
-    pub in-held : (m : Message) (h : Bool) → y ≡ parsed.Taken m → h ≡ placeHeld s link m → h ≡ true → Refused 11 ≡ verdictIn x s link b
-    unfolding verdictIn judged
+    pub in-held : (m : Message) (h : Bool) → y ≡ parsed.Taken m → h ≡ placeHeld s link m → h ≡ true → Refused 11 ≡ verdictFor (Held x) s link b
+    unfolding verdictFor judged
     in-held m h t eh th = rw (← ec, tc, ← ey, t, ← eh, th)
 
-    pub in-accepted : (m : Message) (h : Bool) → y ≡ parsed.Taken m → h ≡ placeHeld s link m → h ≡ false → Accepted m ≡ verdictIn x s link b
-    unfolding verdictIn judged
+    pub in-accepted : (m : Message) (h : Bool) → y ≡ parsed.Taken m → h ≡ placeHeld s link m → h ≡ false → Accepted m ≡ verdictFor (Held x) s link b
+    unfolding verdictFor judged
     in-accepted m h t eh th = rw (← ec, tc, ← ey, t, ← eh, th)
 
 pub no-state : (s : List ℕ) (link : ℕ) (b : List ℕ) (y : Stored) → y ≡ stored s → y ≡ NoState → Refused 9 ≡ verdict s link b
-unfolding verdict verdictFor
-no-state s link b y e t = rw (← e, t)
+unfolding verdictFor
+no-state s link b y e t = rw (verdict-stored s link b, ← e, t)
 
-pub a-state : (s : List ℕ) (link : ℕ) (b : List ℕ) (y : Stored) (x : Session) (v : Verdict) → y ≡ stored s → y ≡ Held x → v ≡ verdictIn x s link b → v ≡ verdict s link b
-unfolding verdict verdictFor
-a-state s link b y x v e t f = rw (← e, t) f
+pub a-state : (s : List ℕ) (link : ℕ) (b : List ℕ) (y : Stored) (x : Session) (v : Verdict) → y ≡ stored s → y ≡ Held x → v ≡ verdictFor (Held x) s link b → v ≡ verdict s link b
+a-state s link b y x v e t f = rw (verdict-stored s link b, ← e, t) f
 
 pub no-size : (s : List ℕ) (link : ℕ) (b : List ℕ) → (length s ≡ 2048 → ⊥) → Refused 9 ≡ verdict s link b
 no-size s link b h = no-state s link b NoState (size-wrong s h) refl

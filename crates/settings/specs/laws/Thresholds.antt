@@ -2,14 +2,14 @@
 use Prim.Native.Nat.{ℕ, _+_, _*_, _≤_}
 use mathlib.Core.Path.{_≡_, refl}
 use native.Mathlib.Omega.{arith}
-use Rattle.settings.specs.Settings.{quorum, copy, voteQuorum, relay, accept, turnBound}
+use Rattle.settings.specs.Settings.{quorum, repeat, voteQuorum, relay, accept, turnBound}
 use Rattle.settings.specs.Rules.{Ruled}
 use Rattle.settings.specs.declared.Settings.{Settings}
 
 module _ (g : Settings) where
-  pub copy-sum : copy g ≡ g .ts + 1
-  unfolding copy
-  copy-sum = refl
+  pub repeat-sum : repeat g ≡ g .ts + 1
+  unfolding repeat
+  repeat-sum = refl
 
   pub relay-sum : relay g ≡ g .ta + 1
   unfolding relay
@@ -54,7 +54,7 @@ pub record Bounds (g : Settings) : Type 0 where
   pub few : g .n ≤ 16
   pub quorum-some : 1 ≤ quorum g
   pub quorum-few : quorum g ≤ g .whole
-  pub copy-quorum : copy g ≤ quorum g
+  pub repeat-quorum : repeat g ≤ quorum g
   pub vote-quorum-some : 1 ≤ voteQuorum g
   pub vote-quorum-few : voteQuorum g ≤ g .whole
   pub relay-accept : relay g ≤ accept g
@@ -63,14 +63,14 @@ pub record Bounds (g : Settings) : Type 0 where
   pub bound-few : turnBound g ≤ 1587
 
 pub ruled-bounds : (g : Settings) → Ruled g → Bounds g
-unfolding quorum copy voteQuorum relay accept turnBound
+unfolding quorum repeat voteQuorum relay accept turnBound
 ruled-bounds g r =
     record {
       some = omega arith;
       few = omega arith;
       quorum-some = omega arith;
       quorum-few = omega arith;
-      copy-quorum = omega arith;
+      repeat-quorum = omega arith;
       vote-quorum-some = omega arith;
       vote-quorum-few = omega arith;
       relay-accept = omega arith;

@@ -10,7 +10,7 @@ use lib.Dec.{eqb, leb}
 use borrow.Author.Tests.{ne-eqb, eqb-false, ltb-true}
 use Rattle.quorum.specs.laws.Bools.{and-left}
 use Rattle.settings.specs.Rules.{Ruled}
-use Rattle.settings.specs.Settings.{quorum, copy}
+use Rattle.settings.specs.Settings.{quorum, repeat}
 use Rattle.settings.specs.declared.Settings.{Settings}
 use Rattle.quorum.specs.Lowest.{lowest}
 use Rattle.quorum.specs.laws.Lowest.{Lowest, lowest-is, lowest-agree, lowest-le}
@@ -83,8 +83,8 @@ module _ (g : Settings) (s : List ℕ) where
     in-force z = rw (← eq, ← ep, ne-eqb p 0 z)
 
   -- a set that is held from ts + 1 senders
-  module _ (p q : ℕ) (eq : q ≡ copy g) (ep : p ≡ setLeader (g .weights) s (g .n) q) where
-    pub none-repeated : (set : List ℕ) → p ≡ 0 → Chosen (commitOf (leadingSet (g .weights) s (g .n) (copy g))) (leadingSet (g .weights) s (g .n) (copy g)) Idle set
+  module _ (p q : ℕ) (eq : q ≡ repeat g) (ep : p ≡ setLeader (g .weights) s (g .n) q) where
+    pub none-repeated : (set : List ℕ) → p ≡ 0 → Chosen (commitOf (leadingSet (g .weights) s (g .n) (repeat g))) (leadingSet (g .weights) s (g .n) (repeat g)) Idle set
     unfolding leadingSet setOf commitOf
     none-repeated set z =
         record {
@@ -121,11 +121,11 @@ module _ (g : Settings) (s : List ℕ) where
             let some : 0 < commitCount s p = ltb-true 0 (commitCount s p) held in
             omega arith
 
-        is-set : leadingSet (g .weights) s (g .n) (copy g) ≡ take k (drop (751 + 16 * p + 1) s)
+        is-set : leadingSet (g .weights) s (g .n) (repeat g) ≡ take k (drop (751 + 16 * p + 1) s)
         unfolding leadingSet setOf commitSet
         is-set = rw (← eq, ← ep, ne-eqb p 0 ne, ← ek)
 
-        pub set-repeated : (after : List ℕ) → after ≡ copied (take (length s - (751 + 16 * p + 1)) (drop (751 + 16 * p + 1) s)) before k → Chosen (commitOf (leadingSet (g .weights) s (g .n) (copy g))) (leadingSet (g .weights) s (g .n) (copy g)) (Commit k) after
+        pub set-repeated : (after : List ℕ) → after ≡ copied (take (length s - (751 + 16 * p + 1)) (drop (751 + 16 * p + 1) s)) before k → Chosen (commitOf (leadingSet (g .weights) s (g .n) (repeat g))) (leadingSet (g .weights) s (g .n) (repeat g)) (Commit k) after
         unfolding copied
         set-repeated after e =
             let row : List ℕ = drop (751 + 16 * p + 1) s in
@@ -133,7 +133,7 @@ module _ (g : Settings) (s : List ℕ) where
             let sized : length (take k row) ≡ k = length-take-le k row (rw whole at row-holds) in
             let is : after ≡ take k row ++ drop k before = rw whole at e in
             record {
-              same = sym (commit-some (leadingSet (g .weights) s (g .n) (copy g)) k (rw is-set sized) count-some);
+              same = sym (commit-some (leadingSet (g .weights) s (g .n) (repeat g)) k (rw is-set sized) count-some);
               front = λ m t. let q : m ≡ k = cc in rw (q, is, is-set) (take-at (take k row) (drop k before) k sized);
             }
 
@@ -161,16 +161,16 @@ module _ (g : Settings) (s : List ℕ) (b : Bool) (eb : b ≡ commitSent s) wher
     pub set-named : (y .count ≡ 0 → ⊥) → Chosen (commitRule g s) (commitDue g s) (Commit (y .count)) (y .values)
     unfolding commitRule commitDue
     set-named ne =
-        let is : commitDue g s ≡ exitNow g s .names = or-set-some (exitNow g s .names) (leadingSet (g .weights) s (g .n) (copy g)) (y .count) (st .sized) ne in
+        let is : commitDue g s ≡ exitNow g s .names = or-set-some (exitNow g s .names) (leadingSet (g .weights) s (g .n) (repeat g)) (y .count) (st .sized) ne in
         record {
           same = rw (← eb, tb, is) (sym (commit-some (exitNow g s .names) (y .count) (st .sized) ne));
           front = λ k e. let q : k ≡ y .count = cc in rw q (names-stated y (exitNow g s) st ∙ sym is);
         }
 
-    pub none-named : (a : Act) (set : List ℕ) → y .count ≡ 0 → Chosen (commitOf (leadingSet (g .weights) s (g .n) (copy g))) (leadingSet (g .weights) s (g .n) (copy g)) a set → Chosen (commitRule g s) (commitDue g s) a set
+    pub none-named : (a : Act) (set : List ℕ) → y .count ≡ 0 → Chosen (commitOf (leadingSet (g .weights) s (g .n) (repeat g))) (leadingSet (g .weights) s (g .n) (repeat g)) a set → Chosen (commitRule g s) (commitDue g s) a set
     unfolding commitRule commitDue
     none-named a set z h =
-        let is : commitDue g s ≡ leadingSet (g .weights) s (g .n) (copy g) = or-set-none (exitNow g s .names) (leadingSet (g .weights) s (g .n) (copy g)) (y .count) (st .sized) z in
+        let is : commitDue g s ≡ leadingSet (g .weights) s (g .n) (repeat g) = or-set-none (exitNow g s .names) (leadingSet (g .weights) s (g .n) (repeat g)) (y .count) (st .sized) z in
         record {
           same = rw (← eb, tb, is) (h .same);
           front = λ k e. h .front k e ∙ sym is;

@@ -10,7 +10,7 @@ use lib.Dec.{eqb, leb}
 use borrow.Author.Tests.{eqb-false, leb-true}
 use Rattle.quorum.specs.laws.Bools.{and-left, and-right}
 use Rattle.settings.specs.Rules.{Ruled}
-use Rattle.settings.specs.Settings.{quorum, copy}
+use Rattle.settings.specs.Settings.{quorum, repeat}
 use Rattle.settings.specs.declared.Settings.{Settings}
 use Rattle.quorum.specs.laws.Lowest.{Lowest, lowest-is}
 use Rattle.records.specs.Layout.{inputAt}
@@ -77,14 +77,14 @@ module _ (g : Settings) (s : List ℕ) where
   unfolding commitDue orSet
   set-rests h = go (exitNow g s .names) refl h
     where
-      copies : (leadingSet (g .weights) s (g .n) (copy g) ≡ commitDue g s) → (setLeader (g .weights) s (g .n) (copy g) ≢ 0) × (leadingSet (g .weights) s (g .n) (copy g) ≡ commitSet s (setLeader (g .weights) s (g .n) (copy g))) → Rests g s
-      copies e l = on-copies (setLeader (g .weights) s (g .n) (copy g)) (leader-holds (g .weights) s (g .n) (copy g) (l .0)) (sym e ∙ l .1)
+      copies : (leadingSet (g .weights) s (g .n) (repeat g) ≡ commitDue g s) → (setLeader (g .weights) s (g .n) (repeat g) ≢ 0) × (leadingSet (g .weights) s (g .n) (repeat g) ≡ commitSet s (setLeader (g .weights) s (g .n) (repeat g))) → Rests g s
+      copies e l = on-copies (setLeader (g .weights) s (g .n) (repeat g)) (leader-holds (g .weights) s (g .n) (repeat g) (l .0)) (sym e ∙ l .1)
 
-      go : (xs : List ℕ) → exitNow g s .names ≡ xs → 1 ≤ length (orSet xs (leadingSet (g .weights) s (g .n) (copy g))) → Rests g s
-      go [] e l = copies (ap (λ (xs : List ℕ). orSet xs (leadingSet (g .weights) s (g .n) (copy g))) (sym e)) (leading-some (g .weights) s (g .n) (copy g) l)
+      go : (xs : List ℕ) → exitNow g s .names ≡ xs → 1 ≤ length (orSet xs (leadingSet (g .weights) s (g .n) (repeat g))) → Rests g s
+      go [] e l = copies (ap (λ (xs : List ℕ). orSet xs (leadingSet (g .weights) s (g .n) (repeat g))) (sym e)) (leading-some (g .weights) s (g .n) (repeat g) l)
       go (x ∷ xs) e l =
           on-exit (named-number (rw e l))
-          (ap (λ (ys : List ℕ). orSet ys (leadingSet (g .weights) s (g .n) (copy g))) e ∙ sym e)
+          (ap (λ (ys : List ℕ). orSet ys (leadingSet (g .weights) s (g .n) (repeat g))) e ∙ sym e)
 
   module _ (Set : ℕ → Type 0) where
     abbrev P : Act → Type 0

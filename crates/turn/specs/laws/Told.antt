@@ -5,7 +5,7 @@ use mathlib.Core.List.{List}
 use mathlib.Core.Logic.{_≢_}
 use mathlib.Core.Path.{_≡_}
 use lib.ListN.{length}
-use Rattle.settings.specs.Settings.{quorum, copy}
+use Rattle.settings.specs.Settings.{quorum, repeat}
 use Rattle.settings.specs.declared.Settings.{Settings}
 use Rattle.records.specs.Layout.{inputAt}
 use Rattle.records.specs.Words.{word}
@@ -31,7 +31,7 @@ pub record SetHeld (w : ℕ) (s : List ℕ) (n k p : ℕ) : Type 0 where
 -- what a COMMIT's set rests on: an exit that names it, or ts + 1 senders that hold it
 pub data Rests (g : Settings) (s : List ℕ) : Type 0 where
   on-exit : exitNow g s .number ≢ 0 → commitDue g s ≡ exitNow g s .names → Rests g s
-  on-copies : (p : ℕ) → SetHeld (g .weights) s (g .n) (copy g) p → commitDue g s ≡ commitSet s p → Rests g s
+  on-copies : (p : ℕ) → SetHeld (g .weights) s (g .n) (repeat g) p → commitDue g s ≡ commitSet s p → Rests g s
 
 pub record CommitTold (g : Settings) (s : List ℕ) (k : ℕ) : Type 0 where
   pub unsent : commitSent s ≡ false

@@ -11,7 +11,7 @@ use Rattle.quorum.specs.laws.Whole.{total-weights}
 use Rattle.quorum.specs.laws.Every.{each-every}
 use Rattle.settings.specs.Settings as weighted
 use Rattle.settings.specs.declared.Settings as weighted-settings
-use Rattle.unweighted.specs.Settings.{Settings, validSettings, namedTa, quorum, copy, voteQuorum, relay, accept, turnBound}
+use Rattle.unweighted.specs.Settings.{Settings, validSettings, namedTa, quorum, repeat, voteQuorum, relay, accept, turnBound}
 
 module _ (w n : ℕ) (each : (p : ℕ) → 1 ≤ p → p ≤ n → weightOf w p ≡ 1) where
   pub weigh-count : (M : ℕ → Bool) → weigh w M n ≡ count M n
@@ -59,9 +59,9 @@ module _ (g : weighted-settings.Settings) (one : Ones g) where
   vote-quorum-same = ap (λ (k : ℕ). k - g .ta) (one .whole)
 
 module _ (g : weighted-settings.Settings) where
-  pub copy-same : weighted.copy g ≡ copy (plain g)
-  unfolding weighted.copy copy
-  copy-same = refl
+  pub repeat-same : weighted.repeat g ≡ repeat (plain g)
+  unfolding weighted.repeat repeat
+  repeat-same = refl
 
   pub relay-same : weighted.relay g ≡ relay (plain g)
   unfolding weighted.relay relay

@@ -24,7 +24,8 @@ use Rattle.acts.specs.declared.Act.the-variants.{Idle, Start, Relay, Aux, Move}
 use Rattle.acts.specs.declared.View.{View}
 use Rattle.acts.specs.declared.View.the-variants.{Only}
 use Rattle.votes.specs.Votes.{estCount, auxCount, votesDecidedOne, startAct, relayValue, relayRound, relayAct, running, accepted, auxValue, auxAct}
-use Rattle.votes.specs.Votes.{carries, carriers, view, moveValue, moveAct, roundAct, voteAct, coinValue, decides}
+use Rattle.votes.specs.Votes.{moveAct, roundAct, voteAct, coinValue, decides}
+use Rattle.votes.specs.laws.Given.{carriesGiven, carriersGiven, viewGiven, moveGiven, move-given}
 
 -- the marks counted of a word that was read
 read-counted : (w v base n c ws : ℕ) → w ≡ v → c ≡ weigh ws (λ p. mark w (base + p)) n → c ≡ weigh ws (λ p. mark v (base + p)) n
@@ -129,9 +130,9 @@ module _ (g : Settings) (s : List ℕ) (i r : ℕ) (t : Bool) (e : r ≡ round s
   unfolding moveAct
   move-waits k q h = rw (← e, ← f, ← q, h)
 
-  pub move-now : (a : Act) (k : Bool) → k ≡ coinKnown s i r → (a0 a1 : Bool) → (t && k) ≡ true → a0 ≡ accepted g s i r 0 → a1 ≡ accepted g s i r 1 → a ≡ moveValue g s i r a0 a1 → a ≡ moveAct g s i
+  pub move-now : (a : Act) (k : Bool) → k ≡ coinKnown s i r → (a0 a1 : Bool) → (t && k) ≡ true → a0 ≡ accepted g s i r 0 → a1 ≡ accepted g s i r 1 → a ≡ moveGiven g s i r a0 a1 → a ≡ moveAct g s i
   unfolding moveAct
-  move-now a k q a0 a1 h z o d = rw (← e, ← f, ← q, h, ← z, ← o) d
+  move-now a k q a0 a1 h z o d = rw (← e, ← f, ← q, h, ← move-given g s i r, ← z, ← o) d
 
 pub ruleset auxes = (aux-zero, aux-one, aux-waits, aux-was-sent, aux-now)
 
@@ -142,25 +143,25 @@ group-mark : (a : Bool) (w base p : ℕ) → 1 ≤ p → mark (share a (w / 2 ^ 
 group-mark true w base p lo = mark-shifted w base p lo
 group-mark false w base p lo = mark-zero p
 
-pub carriers-weighed : (g : Settings) (s : List ℕ) (i r : ℕ) (a0 a1 : Bool) (w x y c : ℕ) → w ≡ word s (voteAt i r) → x ≡ share a0 (w / 4294967296) → y ≡ share a1 (w / 281474976710656) → c ≡ weigh (g .weights) (λ p. mark (bitOr x y) (0 + p)) (g .n) → c ≡ carriers g s i r a0 a1
-unfolding carriers carries auxHeld marked
+pub carriers-weighed : (g : Settings) (s : List ℕ) (i r : ℕ) (a0 a1 : Bool) (w x y c : ℕ) → w ≡ word s (voteAt i r) → x ≡ share a0 (w / 4294967296) → y ≡ share a1 (w / 281474976710656) → c ≡ weigh (g .weights) (λ p. mark (bitOr x y) (0 + p)) (g .n) → c ≡ carriersGiven g s i r a0 a1
+unfolding carriersGiven carriesGiven auxHeld marked
 carriers-weighed g s i r a0 a1 w x y c e z o h =
-    h ∙ total-agree (weightOf (g .weights)) (λ p. mark (bitOr x y) (0 + p)) (carries s i r a0 a1) (g .n) (λ p lo hi. at p lo)
+    h ∙ total-agree (weightOf (g .weights)) (λ p. mark (bitOr x y) (0 + p)) (carriesGiven s i r a0 a1) (g .n) (λ p lo hi. at p lo)
   where
-    at : (p : ℕ) → 1 ≤ p → mark (bitOr x y) (0 + p) ≡ carries s i r a0 a1 p
+    at : (p : ℕ) → 1 ≤ p → mark (bitOr x y) (0 + p) ≡ carriesGiven s i r a0 a1 p
     at p lo =
         let same : 0 + p ≡ p = omega arith in
         rw (same, z, o, ← e)
         (mark-or (share a0 (w / 4294967296)) (share a1 (w / 281474976710656)) p
         ∙ ap₂ (λ (b d : Bool). b || d) (group-mark a0 w 32 p lo) (group-mark a1 w 48 p lo))
 
-module _ (g : Settings) (s : List ℕ) (i r : ℕ) (a0 a1 : Bool) (q c : ℕ) (f : q ≡ voteQuorum g) (d : c ≡ carriers g s i r a0 a1) where
-  pub move-few : c < q → Idle ≡ moveValue g s i r a0 a1
-  unfolding moveValue
+module _ (g : Settings) (s : List ℕ) (i r : ℕ) (a0 a1 : Bool) (q c : ℕ) (f : q ≡ voteQuorum g) (d : c ≡ carriersGiven g s i r a0 a1) where
+  pub move-few : c < q → Idle ≡ moveGiven g s i r a0 a1
+  unfolding moveGiven
   move-few l = rw (← f, ← d, lt-leb q c l)
 
-  pub move-due : (v : View) → q ≤ c → v ≡ view g s i r a0 a1 → Move i r v ≡ moveValue g s i r a0 a1
-  unfolding moveValue
+  pub move-due : (v : View) → q ≤ c → v ≡ viewGiven g s i r a0 a1 → Move i r v ≡ moveGiven g s i r a0 a1
+  unfolding moveGiven
   move-due v l e = rw (← f, ← d, le-leb q c l, e)
 
 pub ruleset moves = (move-few, move-due, move-waits, move-now)
@@ -178,8 +179,8 @@ module _ (g : Settings) (s : List ℕ) (i : ℕ) (t : Bool) (e : t ≡ running s
 pub ruleset rounds = (in-round, no-round, due-first, due-second)
 
 -- vote i with the output that `held` tells
-pub vote-numbered : (g : Settings) (s : List ℕ) (held ones i : ℕ) (t : Bool) (x : Act) → t ≡ mark held i → x ≡ voteAct g s t ones i → x ≡ voteAct g s (mark held i) ones i
-vote-numbered g s held ones i t x e h = rw (← e) h
+pub vote-numbered : (g : Settings) (s : List ℕ) (held ones i : ℕ) (t : Bool) (x : Act) → ones ≡ votesDecidedOne g s → t ≡ mark held i → x ≡ voteAct g s t ones i → x ≡ voteAct g s (mark held i) (votesDecidedOne g s) i
+vote-numbered g s held ones i t x o e h = rw (← o, ← e) h
 
 pub decides-only : (coin : Bool) (v : View) (b k : ℕ) → v ≡ Only b → k ≡ coinValue coin → eqb b k ≡ decides coin v
 decides-only coin v b k e f = rw (e, f)

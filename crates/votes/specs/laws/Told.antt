@@ -62,7 +62,7 @@ pub record MoveTold (g : Settings) (s : List ℕ) (i r : ℕ) (v : View) : Type 
   pub high : r ≤ roundLimit
   pub sent : auxSent s i r ≡ true
   pub known : coinKnown s i r ≡ true
-  pub enough : voteQuorum g ≤ carriers g s i r (accepted g s i r 0) (accepted g s i r 1)
+  pub enough : voteQuorum g ≤ carriers g s i r
   pub shown : Shown g s i r v
 
 -- an act of one of the votes in Vote, where `output i` tells whether broadcast i has output

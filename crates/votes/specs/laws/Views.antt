@@ -17,66 +17,76 @@ use Rattle.quorum.specs.laws.Total.{Member, total-mono, total-member, member-to
 use Rattle.records.specs.Records.{auxHeld}
 use Rattle.acts.specs.declared.View.{View}
 use Rattle.acts.specs.declared.View.the-variants.{Only, Both}
-use Rattle.votes.specs.Votes.{estCount, accepted, carries, carriers, auxCount, viewOf, view, coinValue, estimate, decides}
+use Rattle.votes.specs.Votes.{estCount, accepted, carries, carriers, auxCount, carried, viewOf, view, coinValue, estimate, decides}
 use Rattle.votes.specs.laws.Told.{OnlyShown, Shown}
 
 either-of : (a b : Bool) → a || b ≡ true → (a ≡ true) ⊎ (b ≡ true)
 either-of true b e = inl refl
 either-of false b e = inr e
 
--- a carrier's AUX carries 0 or 1, and that value is accepted
-pub carries-held : (s : List ℕ) (i r : ℕ) (a0 a1 : Bool) (p : ℕ) → carries s i r a0 a1 p ≡ true → (a0 && auxHeld s i r 0 p ≡ true) ⊎ (a1 && auxHeld s i r 1 p ≡ true)
-unfolding carries
-carries-held s i r a0 a1 p e = either-of (a0 && auxHeld s i r 0 p) (a1 && auxHeld s i r 1 p) e
+module _ (g : Settings) (s : List ℕ) (i r : ℕ) where
+  -- p's AUX carries b, which is accepted
+  abbrev By : ℕ → ℕ → Type 0
+  By b p = accepted g s i r b && auxHeld s i r b p ≡ true
+
+  -- a carrier's AUX carries 0 or 1, and that value is accepted
+  pub carries-held : (p : ℕ) → carries g s i r p ≡ true → By 0 p ⊎ By 1 p
+  unfolding carries
+  carries-held p e = either-of (accepted g s i r 0 && auxHeld s i r 0 p) (accepted g s i r 1 && auxHeld s i r 1 p) e
 
 module _ (g : Settings) (s : List ℕ) (i r : ℕ) (right : weightsRight (g .weights) (g .n) ≡ true) where
-  -- b is accepted and carried
-  abbrev shows : Bool → ℕ → Bool
-  shows a b = a && ltb 0 (auxCount g s i r b)
+  shows : (b p : ℕ) → 1 ≤ p → p ≤ g .n → By g s i r b p → carried g s i r b ≡ true
+  unfolding carried auxCount
+  shows b p low high e =
+      let some : 1 ≤ weigh (g .weights) (auxHeld s i r b) (g .n) =
+      omega (arith, weight-low (g .weights) (g .n) right p low high, member-total (weightOf (g .weights)) (auxHeld s i r b) (g .n) p low high (and-right (accepted g s i r b) (auxHeld s i r b p) e)) in
+      and-both (accepted g s i r b) (ltb 0 (weigh (g .weights) (auxHeld s i r b) (g .n))) (and-left (accepted g s i r b) (auxHeld s i r b p) e) (lt-ltb 0 (weigh (g .weights) (auxHeld s i r b) (g .n)) (omega arith))
 
-  carried-shows : (a : Bool) (b p : ℕ) → 1 ≤ p → p ≤ g .n → a && auxHeld s i r b p ≡ true → shows a b ≡ true
-  unfolding auxCount
-  carried-shows a b p low high e =
-      let one : 1 ≤ weigh (g .weights) (auxHeld s i r b) (g .n) = omega (arith, weight-low (g .weights) (g .n) right p low high, member-total (weightOf (g .weights)) (auxHeld s i r b) (g .n) p low high (and-right a (auxHeld s i r b p) e)) in
-      and-both a (ltb 0 (weigh (g .weights) (auxHeld s i r b) (g .n))) (and-left a (auxHeld s i r b p) e) (lt-ltb 0 (weigh (g .weights) (auxHeld s i r b) (g .n)) (omega arith))
+  carried-accepted : (b : ℕ) → carried g s i r b ≡ true → accepted g s i r b ≡ true
+  unfolding carried
+  carried-accepted b e = and-left (accepted g s i r b) (ltb 0 (auxCount g s i r b)) e
 
-  -- where the other value does not show, every carrier carries b
-  only-shown : (a0 a1 a : Bool) (b : ℕ) → accepted g s i r b ≡ a → b ≤ 1 → ((p : ℕ) → 1 ≤ p → p ≤ g .n → carries s i r a0 a1 p ≡ true → a && auxHeld s i r b p ≡ true) → 1 ≤ voteQuorum g → voteQuorum g ≤ carriers g s i r a0 a1 → OnlyShown g s i r b
-  unfolding carriers auxCount
-  only-shown a0 a1 a b acc bit each some enough =
-      let most : weigh (g .weights) (carries s i r a0 a1) (g .n) ≤ weigh (g .weights) (auxHeld s i r b) (g .n) = total-mono (weightOf (g .weights)) (carries s i r a0 a1) (auxHeld s i r b) (g .n) (λ p low high e. and-right a (auxHeld s i r b p) (each p low high e)) in
-      let m : Member (g .n) (carries s i r a0 a1) = total-member (weightOf (g .weights)) (carries s i r a0 a1) (g .n) (omega arith) in
-      record {
-        bit = bit;
-        is-accepted = acc ∙ and-left a (auxHeld s i r b (m .at)) (each (m .at) (m .low) (m .high) (m .holds));
-        carried = omega arith;
-      }
+  carried-some : (b : ℕ) → carried g s i r b ≡ true → 1 ≤ auxCount g s i r b
+  unfolding carried
+  carried-some b e = ltb-true 0 (auxCount g s i r b) (and-right (accepted g s i r b) (ltb 0 (auxCount g s i r b)) e)
 
-  pub view-shown : (a0 a1 : Bool) → accepted g s i r 0 ≡ a0 → accepted g s i r 1 ≡ a1 → 1 ≤ voteQuorum g → voteQuorum g ≤ carriers g s i r a0 a1 → Shown g s i r (view g s i r a0 a1)
-  unfolding view
-  view-shown a0 a1 acc0 acc1 some enough = go (shows a0 0) refl (shows a1 1) refl
-    where
-      carried : (a : Bool) (b : ℕ) → shows a b ≡ true → 1 ≤ auxCount g s i r b
-      carried a b e = ltb-true 0 (auxCount g s i r b) (and-right a (ltb 0 (auxCount g s i r b)) e)
+  module _ (some : 1 ≤ voteQuorum g) (enough : voteQuorum g ≤ carriers g s i r) where
+    -- where each carrier carries b, b shows alone
+    only-shown : (b : ℕ) → b ≤ 1 → ((p : ℕ) → 1 ≤ p → p ≤ g .n → By g s i r 0 p ⊎ By g s i r 1 p → By g s i r b p) → OnlyShown g s i r b
+    unfolding carriers auxCount
+    only-shown b bit each =
+        let by : (p : ℕ) → 1 ≤ p → p ≤ g .n → carries g s i r p ≡ true → By g s i r b p = λ p low high c. each p low high (carries-held g s i r p c) in
+        let most : weigh (g .weights) (carries g s i r) (g .n) ≤ weigh (g .weights) (auxHeld s i r b) (g .n) =
+        total-mono (weightOf (g .weights)) (carries g s i r) (auxHeld s i r b) (g .n) (λ p low high c. and-right (accepted g s i r b) (auxHeld s i r b p) (by p low high c)) in
+        let m : Member (g .n) (carries g s i r) = total-member (weightOf (g .weights)) (carries g s i r) (g .n) (omega arith) in
+        record {
+          bit = bit;
+          is-accepted = and-left (accepted g s i r b) (auxHeld s i r b (m .at)) (by (m .at) (m .low) (m .high) (m .holds));
+          carried = omega arith;
+        }
 
-      zero-carries : shows a1 1 ≡ false → (p : ℕ) → 1 ≤ p → p ≤ g .n → (a0 && auxHeld s i r 0 p ≡ true) ⊎ (a1 && auxHeld s i r 1 p ≡ true) → a0 && auxHeld s i r 0 p ≡ true
-      zero-carries clear p low high (inl e) = e
-      zero-carries clear p low high (inr e) = absurd (false≢true (sym clear ∙ carried-shows a1 1 p low high e))
+    pub view-shown : Shown g s i r (view g s i r)
+    unfolding view
+    view-shown = go (carried g s i r 0) refl (carried g s i r 1) refl
+      where
+        zero-carries : carried g s i r 1 ≡ false → (p : ℕ) → 1 ≤ p → p ≤ g .n → By g s i r 0 p ⊎ By g s i r 1 p → By g s i r 0 p
+        zero-carries clear p low high (inl e) = e
+        zero-carries clear p low high (inr e) = absurd (false≢true (sym clear ∙ shows 1 p low high e))
 
-      one-carries : shows a0 0 ≡ false → (p : ℕ) → 1 ≤ p → p ≤ g .n → (a0 && auxHeld s i r 0 p ≡ true) ⊎ (a1 && auxHeld s i r 1 p ≡ true) → a1 && auxHeld s i r 1 p ≡ true
-      one-carries clear p low high (inl e) = absurd (false≢true (sym clear ∙ carried-shows a0 0 p low high e))
-      one-carries clear p low high (inr e) = e
+        one-carries : carried g s i r 0 ≡ false → (p : ℕ) → 1 ≤ p → p ≤ g .n → By g s i r 0 p ⊎ By g s i r 1 p → By g s i r 1 p
+        one-carries clear p low high (inl e) = absurd (false≢true (sym clear ∙ shows 0 p low high e))
+        one-carries clear p low high (inr e) = e
 
-      go : (z : Bool) → shows a0 0 ≡ z → (o : Bool) → shows a1 1 ≡ o → Shown g s i r (viewOf z o)
-      go true e true f =
-          record {
-            zero-accepted = acc0 ∙ and-left a0 (ltb 0 (auxCount g s i r 0)) e;
-            one-accepted = acc1 ∙ and-left a1 (ltb 0 (auxCount g s i r 1)) f;
-            zero-carried = carried a0 0 e;
-            one-carried = carried a1 1 f;
-          }
-      go true e false f = only-shown a0 a1 a0 0 acc0 (omega arith) (λ p low high c. zero-carries f p low high (carries-held s i r a0 a1 p c)) some enough
-      go false e o f = only-shown a0 a1 a1 1 acc1 (omega arith) (λ p low high c. one-carries e p low high (carries-held s i r a0 a1 p c)) some enough
+        go : (z : Bool) → carried g s i r 0 ≡ z → (o : Bool) → carried g s i r 1 ≡ o → Shown g s i r (viewOf z o)
+        go true e true f =
+            record {
+              zero-accepted = carried-accepted 0 e;
+              one-accepted = carried-accepted 1 f;
+              zero-carried = carried-some 0 e;
+              one-carried = carried-some 1 f;
+            }
+        go true e false f = only-shown 0 (omega arith) (zero-carries f)
+        go false e o f = only-shown 1 (omega arith) (one-carries e)
 
   -- a move's estimate is 0 or 1
   pub estimate-bit : (coin : Bool) (v : View) → Shown g s i r v → estimate coin v ≤ 1

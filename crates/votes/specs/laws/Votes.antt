@@ -11,14 +11,13 @@ use Rattle.settings.specs.Settings.{voteQuorum, relay, roundLimit}
 use Rattle.settings.specs.Rules.{Ruled}
 use Rattle.settings.specs.laws.Thresholds.{ruled-bounds}
 use Rattle.settings.specs.declared.Settings.{Settings}
-use Rattle.quorum.specs.Marks.{mark}
 use Rattle.quorum.specs.Whole.{weightsRight}
 use Rattle.records.specs.Records.{round, estSent, auxSent, coinKnown}
 use Rattle.acts.specs.Acts.{orAct}
 use Rattle.acts.specs.declared.Act.{Act}
 use Rattle.acts.specs.declared.Act.the-variants.{Idle, Start, Relay, Aux, Move}
 use Rattle.votes.specs.Votes.{estCount, accepted, startAct, relayValue, relayRound, relayAct, running, auxValue, auxAct, carriers, view}
-use Rattle.votes.specs.Votes.{moveValue, moveAct, roundAct, voteAct, voteRule}
+use Rattle.votes.specs.Votes.{votesDecidedOne, moveValue, moveAct, roundAct, voteAct, voteRule}
 use Rattle.acts.specs.laws.Choices.{all-cond, all-or, all-first}
 use Rattle.votes.specs.laws.Told.{Told, Among}
 use Rattle.votes.specs.laws.Views.{view-shown}
@@ -69,21 +68,14 @@ module _ (g : Settings) (right : weightsRight (g .weights) (g .n) ≡ true) (s :
     aux-told = all-cond P (auxSent s i (round s i)) Idle (auxValue g s i (round s i)) (λ e. tt) aux-value-told
 
     module _ (some : 1 ≤ voteQuorum g) where
-      abbrev zero-accepted : Bool
-      zero-accepted = accepted g s i (round s i) 0
-
-      abbrev one-accepted : Bool
-      one-accepted = accepted g s i (round s i) 1
-
-      move-value-told : (auxSent s i (round s i) && coinKnown s i (round s i)) ≡ true → P (moveValue g s i (round s i) zero-accepted one-accepted)
+      move-value-told : (auxSent s i (round s i) && coinKnown s i (round s i)) ≡ true → P (moveValue g s i (round s i))
       unfolding moveValue
       move-value-told e =
-          all-cond P (leb (voteQuorum g) (carriers g s i (round s i) zero-accepted one-accepted))
-          (Move i (round s i) (view g s i (round s i) zero-accepted one-accepted)) Idle
-          (λ q. moved (leb-true (voteQuorum g) (carriers g s i (round s i) zero-accepted one-accepted) q))
+          all-cond P (leb (voteQuorum g) (carriers g s i (round s i))) (Move i (round s i) (view g s i (round s i))) Idle
+          (λ q. moved (leb-true (voteQuorum g) (carriers g s i (round s i)) q))
           (λ q. tt)
         where
-          moved : voteQuorum g ≤ carriers g s i (round s i) zero-accepted one-accepted → P (Move i (round s i) (view g s i (round s i) zero-accepted one-accepted))
+          moved : voteQuorum g ≤ carriers g s i (round s i) → P (Move i (round s i) (view g s i (round s i)))
           moved q = (
             v,
             record {
@@ -93,13 +85,13 @@ module _ (g : Settings) (right : weightsRight (g .weights) (g .n) ≡ true) (s :
               sent = and-left (auxSent s i (round s i)) (coinKnown s i (round s i)) e;
               known = and-right (auxSent s i (round s i)) (coinKnown s i (round s i)) e;
               enough = q;
-              shown = view-shown g s i (round s i) right zero-accepted one-accepted refl refl some q;
+              shown = view-shown g s i (round s i) right some q;
             },
           )
 
       move-told : P (moveAct g s i)
       unfolding moveAct
-      move-told = all-cond P (auxSent s i (round s i) && coinKnown s i (round s i)) (moveValue g s i (round s i) zero-accepted one-accepted) Idle move-value-told (λ e. tt)
+      move-told = all-cond P (auxSent s i (round s i) && coinKnown s i (round s i)) (moveValue g s i (round s i)) Idle move-value-told (λ e. tt)
 
   module _ (some : 1 ≤ voteQuorum g) where
     round-told : P (roundAct g s i)
@@ -126,9 +118,9 @@ module _ (g : Settings) (ruled : Ruled g) (s : List ℕ) where
       (vote-acts g (ruled .right) s (λ j. output) ones (λ j. j ≡ i) i refl (ruled-bounds g ruled .vote-quorum-some))
 
   -- an act of rule 6 is of one of the votes 1 to n
-  pub rule-told : (held ones : ℕ) (a : Act) → voteRule g s held ones ≡ a → Told g s (mark held) ones (Among (g .n)) a
+  pub rule-told : (output : ℕ → Bool) (a : Act) → voteRule g s output ≡ a → Told g s output (votesDecidedOne g s) (Among (g .n)) a
   unfolding voteRule
-  rule-told held ones a e =
-      subst (Told g s (mark held) ones (Among (g .n))) e
-      (all-first (Told g s (mark held) ones (Among (g .n))) (λ i. voteAct g s (mark held i) ones i) (g .n) tt
-      (λ i low high. vote-acts g (ruled .right) s (mark held) ones (Among (g .n)) i (record { low = low; high = high }) (ruled-bounds g ruled .vote-quorum-some)))
+  rule-told output a e =
+      subst (Told g s output (votesDecidedOne g s) (Among (g .n))) e
+      (all-first (Told g s output (votesDecidedOne g s) (Among (g .n))) (λ i. voteAct g s (output i) (votesDecidedOne g s) i) (g .n) tt
+      (λ i low high. vote-acts g (ruled .right) s output (votesDecidedOne g s) (Among (g .n)) i (record { low = low; high = high }) (ruled-bounds g ruled .vote-quorum-some)))

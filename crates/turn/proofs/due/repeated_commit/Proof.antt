@@ -4,8 +4,8 @@ use borrow.Author.Needs.{needs}
 use Rattle.turn.proofs.due.repeated_commit.Statement.{statement}
 use Rattle.turn.proofs.due.repeated_commit.Tie as tie
 
-copy-requires : tie.Need-copy-requires
-copy-requires c κs = search needs
+repeat-requires : tie.Need-repeat-requires
+repeat-requires c κs = search needs
 
 set-leader-requires : tie.Need-set-leader-requires
 set-leader-requires c κs = search needs
@@ -50,7 +50,7 @@ pub repeated-commit-spec : {M : Type 1} → statement M
 repeated-commit-spec =
     tie.close
     (tie.spec
-    copy-requires
+    repeat-requires
     set-leader-requires
     returns
     commit-count-requires
