@@ -12,8 +12,9 @@ ghost use Rattle.records.specs.Words.{copied};
 ghost use Rattle.commits.specs.Commits.{setOf};
 ghost use Rattle.exits.specs.Exits.{exitNow};
 ghost use Rattle.exits.specs.Stated.{Stated};
-ghost use Rattle.report.specs.Report.{admittedIn, admits, figuresOf, inForceSet, reportAnswer, reportNamed, reportInForce};
+ghost use Rattle.report.specs.Report.{admits, figuresOf, inForceSet, reportAnswer, reportNamed, reportInForce};
 ghost use Rattle.report.specs.laws.Cases.{inForceSender, SetRoom, SetWritten, Room, Written};
+ghost use Rattle.report.specs.laws.Stored.{admittedIn};
 
 // What a report tells beside the sets, which stand at the front of the lent words: the exit, 0 for none, the number of
 // values named and in force, and the turns that were not idle.

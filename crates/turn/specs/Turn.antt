@@ -14,10 +14,8 @@ use Rattle.acts.specs.declared.Act.{Act}
 use Rattle.acts.specs.declared.Act.the-variants.{Idle, InForce, Commit, Send, Echo, Ready, Start, Relay, Aux, Move}
 use Rattle.acts.specs.declared.View.{View}
 use Rattle.votes.specs.Votes.{estimate, decides}
-use Rattle.session.specs.Session.{stored}
+use Rattle.session.specs.Session.{isState, sessionOf}
 use Rattle.session.specs.declared.Session.{Session}
-use Rattle.session.specs.declared.Stored.{Stored}
-use Rattle.session.specs.declared.Stored.the-variants.{NoState, Held}
 use Rattle.wire.specs.Message.{lengthOf, encode, atFront}
 use Rattle.wire.specs.declared.Message.the-variants as message
 use Rattle.turn.specs.Due.{due, commitDue}
@@ -92,17 +90,13 @@ marked s (Move i r v) = moved s i r v
 unfoldable pub applied : List ℕ → Act → List ℕ
 applied s a = cond (isDue a) (marked (counted s) a) s
 
--- "10 CLOSED: delivery or turn after closing." "8 SHORT: a turn lent under 140 bytes"
-unfoldable pub admittedIn : Session → List ℕ → ℕ → Admitted
-admittedIn x s room = cond (closed s) (admitted.Refused CLOSED) (cond (ltb room 140) (admitted.Refused SHORT) (admitted.Open x))
-
-unfoldable pub admittedFor : Stored → List ℕ → ℕ → Admitted
-admittedFor NoState s room = admitted.Refused NO-STATE
-admittedFor (Held x) s room = admittedIn x s room
-
--- "Turn 9, 10, 8."
+-- "Turn 9, 10, 8.": the first refusal, or the session. "8 SHORT: a turn lent under 140 bytes"
 unfoldable pub admits : List ℕ → ℕ → Admitted
-admits s room = admittedFor (stored s) s room
+admits s room =
+    cond (not (isState s)) (admitted.Refused NO-STATE)
+    (cond (closed s) (admitted.Refused CLOSED)
+    (cond (ltb room 140) (admitted.Refused SHORT)
+    (admitted.Open (sessionOf s))))
 
 -- the bytes after an outcome: "a success writes a message's own bytes .. and no others"; the values of a COMMIT are its set
 unfoldable pub bytesAfter : Session → List ℕ → Outcome → List ℕ → List ℕ

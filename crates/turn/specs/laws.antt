@@ -1,3 +1,4 @@
+pub mod Stored
 pub mod Due
 pub mod Turn
 pub mod Told

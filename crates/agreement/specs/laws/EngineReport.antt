@@ -24,7 +24,7 @@ use Rattle.turn.specs.laws.Admitting.{admitting}
 use Rattle.turn.specs.Turn.{admits}
 use Rattle.turn.specs.declared.Admitted.{Admitted}
 use Rattle.turn.specs.declared.Admitted.the-variants as admitted
-use Rattle.report.specs.Report.{atFront, inForceSet, figuresOf, reportNamed, reportInForce}
+use Rattle.report.specs.Report.{inForceSet, figuresOf, reportNamed, reportInForce}
 use Rattle.report.specs.laws.Report.{Reported, reported, report-gives, report-names, report-enforces, front-read}
 use Rattle.report.specs.declared.Figures.{Figures}
 use Rattle.agreement.specs.Evidence.{World, whole}
@@ -38,6 +38,7 @@ use Rattle.agreement.specs.laws.EngineLent.{forMessage}
 use Rattle.agreement.specs.laws.EngineReading.{Belongs, admittedAct, actOf}
 use Rattle.agreement.specs.laws.EngineDue.{outputs-held, force-due}
 use Rattle.agreement.specs.laws.EngineTurn.{settings-same}
+use Rattle.wire.specs.Message.{atFront}
 
 -- a set is read from the front of the words that were lent for it
 read-set : (k : ℕ) (xs old all X : List ℕ) → X ≡ take k all → all ≡ atFront xs old → k ≡ length xs → X ≡ xs

@@ -33,7 +33,8 @@ use Rattle.turn.specs.declared.Outcome.{Outcome}
 use Rattle.turn.specs.declared.Outcome.the-variants as outcome
 use Rattle.journal.specs.Journal.{turnRoom}
 use Rattle.journal.specs.Journal as journal
-use Rattle.journal.specs.laws.Journal.{room-enough, acts-admitted}
+use Rattle.journal.specs.laws.Journal.{acts-admitted}
+use Rattle.turn.specs.laws.Stored.{room-enough}
 use Rattle.agreement.specs.Evidence.{World}
 use Rattle.agreement.specs.History.{Act, send}
 use Rattle.held.specs.laws.Keeping.{kept-holding, count-back, set-back}

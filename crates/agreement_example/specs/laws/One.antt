@@ -1,17 +1,14 @@
 -- The list of specs/One.antt passes the test; its refusals, and one more, are computed.
 use Prim.Native.Nat.{ℕ}
-use mathlib.Core.Bool.{Bool, true, false, cond}
+use mathlib.Core.Bool.{Bool, true, false, cond, not}
 use mathlib.Core.List.{List, [], _∷_}
 use mathlib.Core.Path.{_≡_, refl}
 use lib.Dec.{eqb}
-use Rattle.settings.specs.Refusals.{SETTINGS, CLOSED, HELD}
+use Rattle.settings.specs.Refusals.{SETTINGS, CLOSED, HELD, NO-STATE}
 use Rattle.records.specs.Records.{closed}
-use Rattle.session.specs.Session.{stored}
-use Rattle.session.specs.declared.Session.{Session}
-use Rattle.session.specs.declared.Stored.{Stored}
-use Rattle.session.specs.declared.Stored.the-variants.{NoState, Held}
+use Rattle.session.specs.Session.{isState, sessionOf}
 use Rattle.wire.specs.Reading.{lengthRight, readMessage}
-use Rattle.delivery.specs.Delivery.{judged, verdictIn, verdictFor, verdict, answerOf, deliverAnswer}
+use Rattle.delivery.specs.Delivery.{judged, verdict, answerOf, deliverAnswer}
 use Rattle.delivery.specs.declared.Verdict.the-variants.{Refused}
 use Rattle.agreement_example.specs.laws.Example.{passes, passes-example}
 use Rattle.agreement_example.specs.laws.Refusals.{refusals}
@@ -20,6 +17,7 @@ use Rattle.agreement_example.specs.Messages.{inputFive}
 use Rattle.turn_bound.specs.laws.Computing.{calls}
 use Rattle.agreement_example.specs.laws.Computing.{checks}
 use Rattle.agreement_example.specs.One.{session, everyone, oneCalls, OneMeets}
+use Rattle.wire.specs.declared.Parsed.{Parsed}
 
 one-passes : passes session everyone inputFive 1 (5 ∷ []) oneCalls ≡ true
 unfolding calls checks oneCalls
@@ -39,13 +37,13 @@ one-refusals = refl
 
 -- the delivery before the opening is refused whatever the buffer holds: by 9, 10 or 2
 pub short-refused : (s : List ℕ) → eqb (deliverAnswer s 1 (1 ∷ 1 ∷ 1 ∷ [])) 0 ≡ false
-unfolding deliverAnswer verdict verdictFor verdictIn judged answerOf readMessage lengthRight
-short-refused s = go (stored s)
+unfolding deliverAnswer verdict judged answerOf readMessage lengthRight
+short-refused s = go (isState s) (closed s)
   where
-    in-session : (x : Session) (c : Bool) → eqb (answerOf (cond c (Refused CLOSED) (judged s 1 (readMessage (x .settings .n) (x .number) 1 (1 ∷ 1 ∷ 1 ∷ []))))) 0 ≡ false
-    in-session x true = refl
-    in-session x false = refl
+    parsed : Parsed
+    parsed = readMessage (sessionOf s .settings .n) (sessionOf s .number) 1 (1 ∷ 1 ∷ 1 ∷ [])
 
-    go : (x : Stored) → eqb (answerOf (verdictFor x s 1 (1 ∷ 1 ∷ 1 ∷ []))) 0 ≡ false
-    go NoState = refl
-    go (Held x) = in-session x (closed s)
+    go : (t c : Bool) → eqb (answerOf (cond (not t) (Refused NO-STATE) (cond c (Refused CLOSED) (judged s 1 parsed)))) 0 ≡ false
+    go false c = refl
+    go true true = refl
+    go true false = refl

@@ -14,7 +14,7 @@ use Rattle.records.specs.Records.{closed, sendHeld, sendValue, echoHeld, echoVa
 use Rattle.records.specs.Words.{word}
 use Rattle.commits.specs.Commits.{commitHeld}
 use Rattle.session.specs.laws.Session.{State, state-is}
-use Rattle.session.specs.Session.{settingsOf, sessionWith, sessionOf, stored}
+use Rattle.session.specs.Session.{settingsOf, sessionWith, sessionOf}
 use Rattle.wire.specs.Bytes.{values}
 use Rattle.wire.specs.Message.{countOf}
 use Rattle.wire.specs.Reading.{readMessage}
@@ -26,7 +26,7 @@ use Rattle.wire_laws.specs.Proper.{Layout}
 use Rattle.wire_laws.proofs.Converse.{taken-form}
 use Rattle.delivery.specs.laws.Accepting.{Accepting, accepting}
 use Rattle.delivery.specs.laws.Answers.{answer-accepted}
-use Rattle.delivery.specs.Delivery.{placeHeld, judged, verdictIn, verdictFor, verdict, recorded, answerOf, wordsAfter, deliverAnswer, delivered}
+use Rattle.delivery.specs.Delivery.{placeHeld, judged, verdict, recorded, answerOf, wordsAfter, deliverAnswer, delivered}
 use Rattle.delivery.specs.laws.Frame.{InLayout}
 use Rattle.delivery.specs.laws.Held.{new-recorded, commit-recorded}
 use Rattle.delivery.specs.declared.Verdict.the-variants as delivery
@@ -142,7 +142,7 @@ module _ (s v : List ℕ) (size : length s ≡ 2048) (p : ℕ) (x : wire.Message
 -- the answer to a message that an open session takes
 answer-taken : (s : List ℕ) (q : ℕ) (c : List ℕ) (y : wire.Message) → State s → closed s ≡ false → readMessage (sessionOf s .settings .n) (sessionOf s .number) q c ≡ Taken y →
     deliverAnswer s q c ≡ cond (placeHeld s q y) HELD 0
-unfolding deliverAnswer verdict verdictFor verdictIn judged answerOf stored
+unfolding deliverAnswer verdict judged answerOf
 answer-taken s q c y S running read = rw (state-is s S, running, read) (go (placeHeld s q y))
   where
     go : (b : Bool) → answerOf (cond b (delivery.Refused HELD) (delivery.Accepted y)) ≡ cond b HELD 0

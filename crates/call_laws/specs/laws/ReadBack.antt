@@ -1,6 +1,6 @@
 -- Each part of an answer is read back from its number.
 use Prim.Native.Nat.{ℕ, zero, suc, _≤_, _<_, _-_, _^_}
-use mathlib.Core.Bool.{Bool, true, false, _||_, cond, false≢true}
+use mathlib.Core.Bool.{Bool, true, false, _||_, cond, false≢true, not}
 use mathlib.Core.List.{List}
 use mathlib.Core.Path.{_≡_, refl}
 use native.Mathlib.Omega.{arith}
@@ -9,17 +9,13 @@ use lib.Dec.{eqb, ltb}
 use lib.ListN.{length}
 use borrow.Author.Tests.{eqb-false}
 use Rattle.settings.specs.Refusals.{SHORT, NO-STATE, CLOSED, COIN}
-use Rattle.settings.specs.declared.Settings.{Settings}
 use Rattle.records.specs.Records.{closed, coin}
-use Rattle.session.specs.Session.{stored}
-use Rattle.session.specs.declared.Session.{Session}
-use Rattle.session.specs.declared.Stored.{Stored}
-use Rattle.session.specs.declared.Stored.the-variants.{NoState, Held}
+use Rattle.session.specs.Session.{isState, sessionOf, settingsOf}
 use Rattle.opening.specs.Given.{weightsWord}
 use Rattle.coin_box.specs.Box.{boxOpenAnswer, asks, unsealed, requestWords, requestReply}
 use Rattle.coin_box.specs.declared.Reply.the-variants as box
 use Rattle.turn.specs.Due.{due}
-use Rattle.turn.specs.Turn.{sentLength, outcomeOf, turnOutcome, outcomeFor, admits, admittedFor, admittedIn}
+use Rattle.turn.specs.Turn.{sentLength, outcomeOf, turnOutcome, outcomeFor, admits}
 use Rattle.turn.specs.declared.Admitted.{Admitted}
 use Rattle.turn.specs.declared.Admitted.the-variants as turn-admitted
 use Rattle.turn.specs.declared.Outcome.{Outcome}
@@ -90,17 +86,14 @@ ShutBack (turn-admitted.Refused k) = Refusal k k
 ShutBack (turn-admitted.Open x) = Unit {0}
 
 shut-back : (s : List ℕ) (room : ℕ) → ShutBack (admits s room)
-unfolding ShutBack admits admittedFor admittedIn
-shut-back s room = of (stored s)
+unfolding ShutBack admits
+shut-back s room = of (isState s) (closed s) (ltb room 140)
   where
-    go : (x : Session) (c b : Bool) → ShutBack (cond c (turn-admitted.Refused CLOSED) (cond b (turn-admitted.Refused SHORT) (turn-admitted.Open x)))
-    go x true b = refusal-back CLOSED (omega arith) (omega arith)
-    go x false true = refusal-back SHORT (omega arith) (omega arith)
-    go x false false = tt
-
-    of : (y : Stored) → ShutBack (admittedFor y s room)
-    of NoState = refusal-back NO-STATE (omega arith) (omega arith)
-    of (Held x) = go x (closed s) (ltb room 140)
+    of : (t c b : Bool) → ShutBack (cond (not t) (turn-admitted.Refused NO-STATE) (cond c (turn-admitted.Refused CLOSED) (cond b (turn-admitted.Refused SHORT) (turn-admitted.Open (sessionOf s)))))
+    of false c b = refusal-back NO-STATE (omega arith) (omega arith)
+    of true true b = refusal-back CLOSED (omega arith) (omega arith)
+    of true false true = refusal-back SHORT (omega arith) (omega arith)
+    of true false false = tt
 
 turn-back : (s : List ℕ) (room : ℕ) → OutcomeBack (turnOutcome s room)
 unfolding turnOutcome outcomeFor ShutBack
@@ -118,16 +111,13 @@ RefusedBack (report.Refused k) = Refusal k k
 RefusedBack (report.Given f) = Unit {0}
 
 refused-back : (s : List ℕ) (named inForce : ℕ) → RefusedBack (reportAnswer s named inForce)
-unfolding RefusedBack reportAnswer answerFor reporting.admits reporting.admittedFor reporting.admittedIn
-refused-back s named inForce = of (stored s)
+unfolding RefusedBack reportAnswer answerFor reporting.admits
+refused-back s named inForce = of (isState s) (ltb named 16 || ltb inForce 16)
   where
-    go : (g : Settings) (b : Bool) → RefusedBack (answerFor (cond b (report-admitted.Refused SHORT) (report-admitted.Open g)) s)
-    go g true = refusal-back SHORT (omega arith) (omega arith)
-    go g false = tt
-
-    of : (y : Stored) → RefusedBack (answerFor (reporting.admittedFor y named inForce) s)
-    of NoState = refusal-back NO-STATE (omega arith) (omega arith)
-    of (Held x) = go (x .settings) (ltb named 16 || ltb inForce 16)
+    of : (t b : Bool) → RefusedBack (answerFor (cond (not t) (report-admitted.Refused NO-STATE) (cond b (report-admitted.Refused SHORT) (report-admitted.Open (settingsOf s)))) s)
+    of false b = refusal-back NO-STATE (omega arith) (omega arith)
+    of true true = refusal-back SHORT (omega arith) (omega arith)
+    of true false = tt
 
 figures-back : (f : Figures) → Small f → ReportBack (report.Given f)
 figures-back f h =

@@ -10,9 +10,7 @@ use Rattle.settings.specs.Settings.{validSettings, namedTa}
 use Rattle.records.specs.Layout.{stateWords, nAt}
 use Rattle.records.specs.Records.{closed}
 use Rattle.records.specs.Words.{word}
-use Rattle.session.specs.Session.{numbered, isState, stored}
-use Rattle.session.specs.declared.Stored.{Stored}
-use Rattle.session.specs.declared.Stored.the-variants.{NoState, Held}
+use Rattle.session.specs.Session.{numbered, isState}
 use Rattle.wire.specs.Message.{SEND, ECHO, READY, EST, AUX, byKind}
 use Rattle.wire.specs.Reading.{lengthRight, headerOf, kindKnown, senderRight, fieldsRight, takenIf, readValues, readChecked, readMessage}
 use Rattle.wire.specs.declared.Header.{Header}
@@ -23,7 +21,7 @@ use Rattle.opening.specs.Given.{coinsGiven}
 use Rattle.opening.specs.Opening.{openAnswer}
 use Rattle.coin_box.specs.Box.{boxWords, boxOpenAnswer}
 use Rattle.recording.specs.Recording.{recordable, recordAnswer}
-use Rattle.delivery.specs.Delivery.{placeHeld, judged, verdictIn, verdictFor, verdict, answerOf, deliverAnswer}
+use Rattle.delivery.specs.Delivery.{placeHeld, judged, verdict, answerOf, deliverAnswer}
 use Rattle.delivery.specs.declared.Verdict.{Verdict}
 use Rattle.delivery.specs.declared.Verdict.the-variants as delivery
 use Rattle.journal.specs.Journal.{LINE-BYTES, lineAnswer}
@@ -114,12 +112,10 @@ judged-fits s p (parsed.Refused k) h = h
 judged-fits s p (parsed.Taken m) h = either-judged (placeHeld s p m) (delivery.Refused HELD) (delivery.Accepted m) (omega arith) (omega arith)
 
 pub deliver-fits : (s : List ℕ) (link : ℕ) (b : List ℕ) → Fits (deliverAnswer s link b)
-unfolding deliverAnswer verdict verdictFor verdictIn answerOf
-deliver-fits s link b = of (stored s)
-  where
-    of : (y : Stored) → Fits (answerOf (verdictFor y s link b))
-    of NoState = omega arith
-    of (Held x) = either-judged (closed s) (delivery.Refused CLOSED) _ (omega arith) (judged-fits s link _ (message-fits _ _ link b))
+unfolding deliverAnswer verdict answerOf
+deliver-fits s link b =
+    either-judged (not (isState s)) (delivery.Refused NO-STATE) _ (omega arith)
+    (either-judged (closed s) (delivery.Refused CLOSED) _ (omega arith) (judged-fits s link _ (message-fits _ _ link b)))
 
 -- ---- restore
 

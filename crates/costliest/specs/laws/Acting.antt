@@ -27,7 +27,7 @@ use Rattle.session.specs.declared.Stored.the-variants.{Held}
 use Rattle.turn.specs.laws.Told.{ActTold}
 use Rattle.turn.specs.Due.{due}
 use Rattle.turn.specs.laws.Due.{due-told}
-use Rattle.turn.specs.Turn.{applied, admittedIn, admittedFor, admits, wordsFor, turnWords}
+use Rattle.turn.specs.Turn.{applied, admits, wordsFor, turnWords}
 use Rattle.turn.specs.Turn as turn-specs
 use Rattle.turn.specs.laws.Frame.{Placed, told-placed, Kept, setting, beyond, length-applied, applied-idle, applied-other, applied-kept, applied-turns}
 use Rattle.turn_bound.specs.TurnBound.{Step, after}
@@ -58,8 +58,8 @@ module _ (n c : ℕ) (low : 1 ≤ n) (few : n ≤ 16) (s : List ℕ) (x : Good n
   is-stored = rw (sound-state (settings n) (ruled n c low few) s (x .sound))
 
   pub turn-words : turnWords s (length (blank 140)) ≡ applied s a
-  unfolding turnWords wordsFor admits admittedFor admittedIn sessionOf sessionWith
-  turn-words = rw (is-stored, x .unclosed, length-blank 140, x .sound .settings)
+  unfolding turnWords wordsFor admits sessionOf sessionWith
+  turn-words = rw (sound-state (settings n) (ruled n c low few) s (x .sound), x .unclosed, length-blank 140, x .sound .settings)
 
   same : (j : ℕ) → Kept j → word (applied s a) j ≡ word s j
   same j k = applied-kept s a placed j k

@@ -31,7 +31,7 @@ use Rattle.broadcasts.specs.declared.Output.{Output}
 use Rattle.broadcasts.specs.declared.Output.the-variants.{Value, Nothing}
 use Rattle.commits.specs.Commits.{commitHeld, sameSet, setHolders, setLeads, setLeader, setOf, leadingSet}
 use Rattle.commits.specs.laws.Sets.{set-length, set-same}
-use Rattle.votes.specs.Votes.{estCount, accepted, votesDecidedOne, startAct, relayValue, relayRound, relayAct, running, auxValue, auxAct, carries, carriers, moveValue, moveAct, roundAct, voteAct}
+use Rattle.votes.specs.Votes.{estCount, accepted, votesDecidedOne, startAct, relayValue, relayRound, relayAct, running, auxValue, auxAct, carries, carriers, moveValue, moveAct, roundAct, voteAct, voteRule}
 use Rattle.exits.specs.Exits.{Exit, withOutput, hasValue, everyBroadcast, noExit}
 use Rattle.exits.specs.laws.Stated.{singleExit, outputsExit}
 use Rattle.exits.specs.laws.Ways.{First, Way, first, second, third, none, way}
@@ -126,9 +126,10 @@ module _ (n : ℕ) (two : 2 ≤ n) (few : n ≤ 16) (low : 1 ≤ n) (begin : Lis
   unfolding accepted accept
   is-accepted i r b lo hi rl rh bit = le-leb 1 (estCount g s i r b) (est-one i r b lo hi rl rh bit)
 
-  all-carry : (i r : ℕ) → 1 ≤ i → i ≤ n → 1 ≤ r → r ≤ 32 → carriers g s i r true true ≡ n
+  all-carry : (i r : ℕ) → 1 ≤ i → i ≤ n → 1 ≤ r → r ≤ 32 → carriers g s i r ≡ n
   unfolding carriers carries auxHeld
-  all-carry i r lo hi rl rh = ones-count n (carries s i r true true) few ∙ all-count (carries s i r true true) n (λ p l k. rw (h .voted i lo hi r rl rh p l k))
+  all-carry i r lo hi rl rh =
+      ones-count n (carries g s i r) few ∙ all-count (carries g s i r) n (λ p l k. rw (is-accepted i r 0 lo hi rl rh (omega arith), h .voted i lo hi r rl rh p l k))
 
   record VoteDone (i : ℕ) : Type 0 where
     out : word s (roundAt i) ≡ 33
@@ -166,10 +167,10 @@ module _ (n : ℕ) (two : 2 ≤ n) (few : n ≤ 16) (low : 1 ≤ n) (begin : Lis
     unfolding coinKnown printed
     known r = rw (x .printed)
 
-    moves : (r : ℕ) → 1 ≤ r → r ≤ 32 → auxSent s i r ≡ true → isDue (cond (auxSent s i r && coinKnown s i r) (moveValue g s i r (accepted g s i r 0) (accepted g s i r 1)) Idle) ≡ true
+    moves : (r : ℕ) → 1 ≤ r → r ≤ 32 → auxSent s i r ≡ true → isDue (cond (auxSent s i r && coinKnown s i r) (moveValue g s i r) Idle) ≡ true
     unfolding moveValue voteQuorum
     moves r rl rh a =
-        rw (a, known r, is-accepted i r 0 lo hi rl rh (omega arith), is-accepted i r 1 lo hi rl rh (omega arith), le-leb (voteQuorum g) (carriers g s i r true true) (omega (arith, all-carry i r lo hi rl rh, ones-whole n few)))
+        rw (a, known r, le-leb (voteQuorum g) (carriers g s i r) (omega (arith, all-carry i r lo hi rl rh, ones-whole n few)))
 
     not-running : isDue (roundAct g s i) ≡ false → 1 ≤ round s i → 33 ≤ round s i
     unfolding roundAct running auxAct moveAct
@@ -191,7 +192,7 @@ module _ (n : ℕ) (two : 2 ≤ n) (few : n ≤ 16) (low : 1 ≤ n) (begin : Lis
         record { out = omega (arith, x .sound .orderly .rounds i lo hi); ests = λ r c rl rh bit. relayed (b .0) r c rl rh (omega arith) bit }
 
   votes-done : isDue (votesRule g s) ≡ false → (i : ℕ) → 1 ≤ i → i ≤ n → VoteDone i
-  unfolding votesRule
+  unfolding votesRule voteRule
   votes-done e i lo hi =
       vote-done i lo hi (votesDecidedOne g s) (rw (output-is i lo hi) at (first-idle (λ j. voteAct g s (present (output g s j)) (votesDecidedOne g s) j) n (rw not-exit1 at e) i lo hi))
 

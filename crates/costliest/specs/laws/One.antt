@@ -30,7 +30,7 @@ use Rattle.broadcasts.specs.Broadcasts.{output, echoRule, readyRule}
 use Rattle.broadcasts.specs.laws.Due.{echo-rule-holds, ready-rule-holds}
 use Rattle.broadcasts.specs.declared.Output.{Output}
 use Rattle.broadcasts.specs.declared.Output.the-variants.{Value, Nothing}
-use Rattle.votes.specs.Votes.{votesDecidedOne, voteAct, startAct, relayAct, roundAct, running}
+use Rattle.votes.specs.Votes.{votesDecidedOne, voteAct, startAct, relayAct, roundAct, running, voteRule}
 use Rattle.exits.specs.Exits.{exitOf, exit1At, naming, withOutput}
 use Rattle.exits.specs.Exits.{exitNow}
 use Rattle.commits.specs.Commits.{setLeader}
@@ -98,7 +98,7 @@ module _ (s : List ℕ) (q : Quiet s) where
   vote-idle = rw (before, no-ones)
 
   votes-idle : votesRule alone s ≡ Idle
-  unfolding votesRule exitNow firstAct actAt lowest
+  unfolding votesRule voteRule exitNow firstAct actAt lowest
   votes-idle = go (output alone s 1) refl
     where
       go : (x : Output) → output alone s 1 ≡ x → votesRule alone s ≡ Idle

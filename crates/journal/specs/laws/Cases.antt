@@ -1,6 +1,6 @@
 -- The cases of the code of the four calls.
 use Prim.Native.Nat.{ℕ, _≤_, _<_}
-use mathlib.Core.Bool.{Bool, true, false, cond, false≢true}
+use mathlib.Core.Bool.{Bool, true, false, cond, false≢true, not}
 use mathlib.Core.List.{List, [], _++_, append-nil}
 use mathlib.Core.Path.{_≡_, refl, sym, ap, _∙_}
 use native.Mathlib.Omega.{arith}
@@ -19,11 +19,8 @@ use Rattle.delivery.specs.declared.Verdict.the-variants as verdicts
 use Rattle.wire.specs.Message.{atFront}
 use Rattle.wire.specs.declared.Message.{Message}
 use Rattle.records.specs.Records.{closed}
-use Rattle.session.specs.Session.{stored}
-use Rattle.session.specs.declared.Session.{Session}
-use Rattle.session.specs.declared.Stored.{Stored}
-use Rattle.session.specs.declared.Stored.the-variants.{NoState, Held}
-use Rattle.turn.specs.Turn.{turnOutcome, turnWords, turnBytes, outcomeFor, bytesFor, admits, admittedFor, admittedIn}
+use Rattle.session.specs.Session.{isState}
+use Rattle.turn.specs.Turn.{turnOutcome, turnWords, turnBytes, outcomeFor, bytesFor, admits}
 use Rattle.turn.specs.declared.Admitted.the-variants as admitted
 use Rattle.turn.specs.declared.Outcome.{Outcome}
 use Rattle.journal.specs.Lines.{openingLine, deliveryLine, recordingLine, turnLine}
@@ -237,29 +234,23 @@ pub ruleset room-cases = (room-none, room-all)
 
 -- a turn lent nothing is refused
 none-refused : (s : List ℕ) → acts (turnOutcome s 0) ≡ false
-unfolding turnOutcome outcomeFor admits admittedFor admittedIn
-none-refused s = of (stored s)
+unfolding turnOutcome outcomeFor admits
+none-refused s = of (isState s) (closed s)
   where
-    open-or-closed : (x : Session) (c : Bool) → acts (outcomeFor (cond c (admitted.Refused 10) (admitted.Refused 8)) s) ≡ false
-    open-or-closed x true = refl
-    open-or-closed x false = refl
-
-    of : (y : Stored) → acts (outcomeFor (admittedFor y s 0) s) ≡ false
-    of NoState = refl
-    of (Held x) = open-or-closed x (closed s)
+    of : (t c : Bool) → acts (outcomeFor (cond (not t) (admitted.Refused 9) (cond c (admitted.Refused 10) (admitted.Refused 8))) s) ≡ false
+    of false c = refl
+    of true true = refl
+    of true false = refl
 
 -- and keeps its bytes
 none-bytes : (s : List ℕ) → turnBytes s [] ≡ []
-unfolding turnBytes bytesFor admits admittedFor admittedIn
-none-bytes s = of (stored s)
+unfolding turnBytes bytesFor admits
+none-bytes s = of (isState s) (closed s)
   where
-    open-or-closed : (x : Session) (c : Bool) → bytesFor (cond c (admitted.Refused 10) (admitted.Refused 8)) s [] ≡ []
-    open-or-closed x true = refl
-    open-or-closed x false = refl
-
-    of : (y : Stored) → bytesFor (admittedFor y s 0) s [] ≡ []
-    of NoState = refl
-    of (Held x) = open-or-closed x (closed s)
+    of : (t c : Bool) → bytesFor (cond (not t) (admitted.Refused 9) (cond c (admitted.Refused 10) (admitted.Refused 8))) s [] ≡ []
+    of false c = refl
+    of true true = refl
+    of true false = refl
 
 -- turn: it gets the first k bytes for its message, all or none
 module _ (out : List ℕ) (line k : ℕ) (e : k ≡ turnRoom (length out) line) where

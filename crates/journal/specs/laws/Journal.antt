@@ -1,17 +1,14 @@
 -- Laws of a call with its line: accepted, it is lent enough and does what it does without the line; refused, it leaves the words.
 use Prim.Native.Nat.{ℕ, _≤_}
-use mathlib.Core.Bool.{Bool, true, false, cond, false≢true}
+use mathlib.Core.Bool.{Bool, true, false, cond, false≢true, not}
 use mathlib.Core.List.{List}
 use mathlib.Core.Path.{_≡_, refl, sym, ap, _∙_}
 use native.Mathlib.Omega.{arith}
 use lib.Dec.{eqb, ltb}
 use borrow.Author.Tests.{eqb-true, ltb-false, le-ltb}
 use Rattle.records.specs.Records.{closed}
-use Rattle.session.specs.Session.{stored}
-use Rattle.session.specs.declared.Session.{Session}
-use Rattle.session.specs.declared.Stored.{Stored}
-use Rattle.session.specs.declared.Stored.the-variants.{NoState, Held}
-use Rattle.turn.specs.Turn.{turnOutcome, turnWords, turnBytes, outcomeFor, wordsFor, admits, admittedFor, admittedIn}
+use Rattle.session.specs.Session.{isState, sessionOf}
+use Rattle.turn.specs.Turn.{turnOutcome, turnWords, turnBytes, outcomeFor, wordsFor, admits}
 use Rattle.turn.specs.declared.Admitted.{Admitted}
 use Rattle.turn.specs.declared.Admitted.the-variants as admitted
 use Rattle.journal.specs.Journal.{LINE-BYTES, lineAnswer, lineWords, turnRoom, acts, turnedOutcome, turnedMessage}
@@ -59,32 +56,20 @@ pub message-kept : (s out : List ℕ) (line : ℕ) → LINE-BYTES ≤ line → t
 unfolding turnedMessage
 message-kept s out line l = rw (le-ltb line LINE-BYTES l)
 
--- a turn lent enough for a message is admitted as with 140 bytes
-pub room-enough : (s : List ℕ) (room : ℕ) → 140 ≤ room → admits s room ≡ admits s 140
-unfolding admits admittedFor admittedIn
-room-enough s room l = of (stored s)
-  where
-    of : (y : Stored) → admittedFor y s room ≡ admittedFor y s 140
-    of NoState = refl
-    of (Held x) = rw (le-ltb room 140 l)
-
 module _ (s : List ℕ) (room : ℕ) where
   -- a turn that acts is admitted as with any other number of bytes that is enough for a message
   pub acts-admitted : acts (turnOutcome s room) ≡ true → (140 ≤ room) × (admits s 140 ≡ admits s room)
-  unfolding turnOutcome outcomeFor admits admittedFor admittedIn
-  acts-admitted e = of (stored s) e
+  unfolding turnOutcome outcomeFor admits
+  acts-admitted e = of (isState s) (closed s) (ltb room 140) refl e
     where
-      short : (x : Session) (b : Bool) → ltb room 140 ≡ b → acts (outcomeFor (cond b (admitted.Refused 8) (admitted.Open x)) s) ≡ true → (140 ≤ room) × (admitted.Open x ≡ cond b (admitted.Refused 8) (admitted.Open x))
-      short x true q f = absurd (false≢true f)
-      short x false q f = (ltb-false room 140 q, refl)
+      tested : Bool → Bool → Bool → Admitted
+      tested t c b = cond (not t) (admitted.Refused 9) (cond c (admitted.Refused 10) (cond b (admitted.Refused 8) (admitted.Open (sessionOf s))))
 
-      shut : (x : Session) (c : Bool) → acts (outcomeFor (cond c (admitted.Refused 10) (cond (ltb room 140) (admitted.Refused 8) (admitted.Open x))) s) ≡ true → (140 ≤ room) × (cond c (admitted.Refused 10) (cond (ltb 140 140) (admitted.Refused 8) (admitted.Open x)) ≡ cond c (admitted.Refused 10) (cond (ltb room 140) (admitted.Refused 8) (admitted.Open x)))
-      shut x true f = absurd (false≢true f)
-      shut x false f = short x (ltb room 140) refl f
-
-      of : (y : Stored) → acts (outcomeFor (admittedFor y s room) s) ≡ true → (140 ≤ room) × (admittedFor y s 140 ≡ admittedFor y s room)
-      of NoState f = absurd (false≢true f)
-      of (Held x) f = shut x (closed s) f
+      of : (t c b : Bool) → ltb room 140 ≡ b → acts (outcomeFor (tested t c b) s) ≡ true → (140 ≤ room) × (tested t c false ≡ tested t c b)
+      of false c b q f = absurd (false≢true f)
+      of true true b q f = absurd (false≢true f)
+      of true false true q f = absurd (false≢true f)
+      of true false false q f = (ltb-false room 140 q, refl)
 
   pub acts-outcome : acts (turnOutcome s room) ≡ true → turnOutcome s 140 ≡ turnOutcome s room
   unfolding turnOutcome

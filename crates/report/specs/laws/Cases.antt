@@ -27,13 +27,14 @@ use Rattle.session.specs.Session.{stored}
 use Rattle.session.specs.declared.Session.{Session}
 use Rattle.session.specs.declared.Stored.{Stored}
 use Rattle.session.specs.declared.Stored.the-variants.{NoState, Held}
-use Rattle.report.specs.Report.{inForceSet, figuresOf, admittedIn, admittedFor, admits, atFront, answerFor, namedFor, inForceFor, reportAnswer, reportNamed, reportInForce}
+use Rattle.report.specs.Report.{inForceSet, figuresOf, admits, answerFor, namedFor, inForceFor, reportAnswer, reportNamed, reportInForce}
 use Rattle.report.specs.laws.Report.{Admitting, admitting}
 use Rattle.report.specs.declared.Figures.{Figures}
 use Rattle.report.specs.declared.Admitted.{Admitted}
 use Rattle.report.specs.declared.Admitted.the-variants as admitted
-use Rattle.report.specs.declared.Answer.{Answer}
 use Rattle.report.specs.declared.Answer.the-variants.{Refused, Given}
+use Rattle.report.specs.laws.Stored.{admittedIn, admittedFor, admits-stored}
+use Rattle.wire.specs.Message.{atFront}
 
 -- what is asked of the code
 
@@ -74,16 +75,16 @@ module _ (g : Settings) (a b : ℕ) (t : Bool) (e : t ≡ (ltb a 16 || ltb b 16)
 
 module _ (s : List ℕ) (a b : ℕ) (y : Stored) (e : y ≡ stored s) where
   pub no-state : y ≡ NoState → admitted.Refused 9 ≡ admits s a b
-  unfolding admits admittedFor
-  no-state t = rw (← e, t)
+  unfolding admittedFor
+  no-state t = rw (admits-stored s a b, ← e, t)
 
   pub a-state : (x : Session) (v : Admitted) → y ≡ Held x → v ≡ admittedIn (x .settings) a b → v ≡ admits s a b
-  unfolding admits admittedFor
-  a-state x v t f = rw (← e, t) f
+  unfolding admittedFor
+  a-state x v t f = rw (admits-stored s a b, ← e, t) f
 
 pub no-size : (s : List ℕ) (a b : ℕ) → (length s ≡ 2048 → ⊥) → admitted.Refused 9 ≡ admits s a b
-unfolding admits admittedFor
-no-size s a b h = rw (← size-wrong s h)
+unfolding admittedFor
+no-size s a b h = rw (admits-stored s a b, ← size-wrong s h)
 
 pub ruleset admit-cases = (short, long, no-size, no-state, a-state)
 

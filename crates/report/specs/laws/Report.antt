@@ -17,12 +17,13 @@ use Rattle.session.specs.laws.Session.{State, Read, held-read}
 use Rattle.session.specs.declared.Session.{Session}
 use Rattle.session.specs.declared.Stored.{Stored}
 use Rattle.session.specs.declared.Stored.the-variants.{NoState, Held}
-use Rattle.report.specs.Report.{inForceSet, figuresOf, admittedIn, admittedFor, admits, atFront, answerFor, namedFor, inForceFor, reportAnswer, reportNamed, reportInForce}
+use Rattle.report.specs.Report.{inForceSet, figuresOf, admits, answerFor, namedFor, inForceFor, reportAnswer, reportNamed, reportInForce}
 use Rattle.report.specs.declared.Figures.{Figures}
 use Rattle.report.specs.declared.Admitted.{Admitted}
 use Rattle.report.specs.declared.Admitted.the-variants as admitted
-use Rattle.report.specs.declared.Answer.{Answer}
 use Rattle.report.specs.declared.Answer.the-variants.{Refused, Given}
+use Rattle.report.specs.laws.Stored.{admittedIn, admittedFor, admits-stored}
+use Rattle.wire.specs.Message.{atFront}
 
 -- the state has room lent for both sets
 pub record Admitting (s : List ℕ) (a b : ℕ) (g : Settings) : Type 0 where
@@ -32,8 +33,8 @@ pub record Admitting (s : List ℕ) (a b : ℕ) (g : Settings) : Type 0 where
   pub in-force-room : 16 ≤ b
 
 pub admitting : (s : List ℕ) (a b : ℕ) (g : Settings) → admits s a b ≡ admitted.Open g → Admitting s a b g
-unfolding admits admittedFor admittedIn sessionOf sessionWith
-admitting s a b g e = of (stored s) refl e
+unfolding admittedFor admittedIn sessionOf sessionWith
+admitting s a b g e = of (stored s) refl (sym (admits-stored s a b) ∙ e)
   where
     settings-of : (x : Session) → x ≡ sessionOf s → x .settings ≡ settingsOf s
     settings-of x r = ap (λ (y : Session). y .settings) r
@@ -78,7 +79,7 @@ turns-few s f r = rw (r .same) (omega (arith, r .state .turns, ruled-bounds (set
 -- a state lent 16 words for each set gives its figures and sets
 module _ (s : List ℕ) (e : isState s ≡ true) where
   gives : (a b : ℕ) → 16 ≤ a → 16 ≤ b → admits s a b ≡ admitted.Open (settingsOf s)
-  unfolding admits admittedFor admittedIn stored sessionOf sessionWith
+  unfolding admits
   gives a b h k = rw (e, le-ltb a 16 h, le-ltb b 16 k)
 
   pub report-gives : (a b : ℕ) → 16 ≤ a → 16 ≤ b → reportAnswer s a b ≡ Given (figuresOf (settingsOf s) s)

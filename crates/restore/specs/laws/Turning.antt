@@ -11,13 +11,10 @@ use lib.Seq.{length-take-le}
 use borrow.Author.Tests.{eq-eqb, ne-eqb, le-ltb}
 use Rattle.acts.specs.declared.Act.{Act}
 use Rattle.acts.specs.declared.Act.the-variants as act
-use Rattle.session.specs.Session.{stored}
 use Rattle.session.specs.declared.Session.{Session}
-use Rattle.session.specs.declared.Stored.{Stored}
-use Rattle.session.specs.declared.Stored.the-variants.{NoState, Held}
 use Rattle.settings.specs.Settings.{roundLimit}
 use Rattle.turn.specs.Due.{due}
-use Rattle.turn.specs.Turn.{moveOutcome, outcomeOf, applied, admittedIn, admittedFor, admits, bytesAfter, sentLength, outcomeFor, wordsFor, bytesFor, turnOutcome, turnWords, turnBytes}
+use Rattle.turn.specs.Turn.{moveOutcome, outcomeOf, applied, admits, bytesAfter, sentLength, outcomeFor, wordsFor, bytesFor, turnOutcome, turnWords, turnBytes}
 use Rattle.turn.specs.declared.Admitted.{Admitted}
 use Rattle.turn.specs.declared.Admitted.the-variants as admitted
 use Rattle.turn.specs.declared.Outcome.{Outcome}
@@ -37,6 +34,7 @@ use Rattle.restore.specs.laws.Parts.{fieldsAt, Field, field-at}
 use Rattle.restore.specs.laws.Applying.{applies, wordsOr, Tried, fields-past}
 use Rattle.restore.specs.declared.lines.Applied.{Applied}
 use Rattle.restore.specs.declared.lines.Applied.the-variants.{Wrong, Right}
+use Rattle.turn.specs.laws.Stored.{room-enough}
 
 -- the answer of a line, with the length of its message
 unfoldable pub appliedAs : Option Point → Applied
@@ -85,15 +83,6 @@ pub ruleset outcome-cases = (applied-refused, applied-idle, applied-sent, applie
 unfoldable pub takenApplied : Bool → Applied
 takenApplied b = cond b (Right 0) Wrong
 
--- a turn lent enough bytes does what it does with 140
-admits-room : (w : List ℕ) (room : ℕ) → 140 ≤ room → admits w room ≡ admits w 140
-unfolding admits admittedFor admittedIn
-admits-room w room h = go (stored w)
-  where
-    go : (y : Stored) → admittedFor y w room ≡ admittedFor y w 140
-    go NoState = refl
-    go (Held x) = rw (le-ltb room 140 h)
-
 -- a turn that does not act leaves the words and the bytes
 move-acts : (t : Bool) (o : Outcome) → acts o ≡ true → acts (cond t o outcome.MovedOut) ≡ true
 move-acts true o e = e
@@ -135,7 +124,7 @@ unfolding turnOutcome turnWords turnBytes outcomeApplied turnedFrom appliedAs wo
 turn-taken w lent after message o r h a b c d = go (acts (outcomeFor (admits w 140) w)) refl
   where
     same : admits w (length lent) ≡ admits w 140
-    same = admits-room w (length lent) h
+    same = room-enough w (length lent) h
 
     what : o ≡ outcomeFor (admits w 140) w
     what = a ∙ ap (λ (x : Admitted). outcomeFor x w) same

@@ -2,7 +2,7 @@
 use Prim.Native.Nat.{ℕ, _≤_}
 use mathlib.Core.Bool.{Bool, true, false, cond}
 use mathlib.Core.List.{List}
-use mathlib.Core.Path.{_≡_, refl, ap, _∙_}
+use mathlib.Core.Path.{_≡_, refl, ap, _∙_, sym}
 use native.Mathlib.Omega.{arith}
 use lib.Dec.{ltb}
 use lib.ListN.{length}
@@ -17,9 +17,10 @@ use Rattle.session.specs.laws.Session.{State, Read, held-read}
 use Rattle.session.specs.declared.Session.{Session}
 use Rattle.session.specs.declared.Stored.{Stored}
 use Rattle.session.specs.declared.Stored.the-variants.{NoState, Held}
-use Rattle.turn.specs.Turn.{admittedIn, admittedFor, admits}
+use Rattle.turn.specs.Turn.{admits}
 use Rattle.turn.specs.laws.Choosing.{Readable}
 use Rattle.turn.specs.declared.Admitted.the-variants.{Refused, Open}
+use Rattle.turn.specs.laws.Stored.{admittedFor, admits-stored}
 
 -- a turn of session x is taken, with room bytes lent
 pub record Admitting (s : List ℕ) (room : ℕ) (x : Session) : Type 0 where
@@ -29,8 +30,8 @@ pub record Admitting (s : List ℕ) (room : ℕ) (x : Session) : Type 0 where
   pub long : 140 ≤ room
 
 pub admitting : (s : List ℕ) (room : ℕ) (x : Session) → admits s room ≡ Open x → Admitting s room x
-unfolding admits admittedFor admittedIn
-admitting s room x e = of (stored s) refl e
+unfolding admittedFor
+admitting s room x e = of (stored s) refl (sym (admits-stored s room) ∙ e)
   where
     in-room : (y : Session) → Read s y → closed s ≡ false → (b : Bool) → ltb room 140 ≡ b → cond b (Refused 8) (Open y) ≡ Open x → Admitting s room x
     in-room y r c true l f = absurd (let z : _≡_ {A = ℕ} 0 1 = cc in omega arith)

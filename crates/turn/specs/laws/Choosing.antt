@@ -16,15 +16,15 @@ use Rattle.quorum.specs.Lowest.{lowest}
 use Rattle.quorum.specs.laws.Lowest.{Lowest, lowest-is, lowest-agree, lowest-le}
 use Rattle.quorum.specs.Marks.{mark}
 use Rattle.records.specs.Words.{copied}
-use Rattle.records.specs.Words.{word, marked}
+use Rattle.records.specs.Words.{word}
 use Rattle.records.specs.Records.{sendSent, commitSent, commitCount, commitSet}
 use Rattle.acts.specs.Acts.{isDue, orAct, actAt, firstAct}
 use Rattle.acts.specs.declared.Act.{Act}
 use Rattle.acts.specs.declared.Act.the-variants.{Idle, InForce, Commit, Send}
 use Rattle.broadcasts.specs.Leading.{present}
 use Rattle.broadcasts.specs.Broadcasts.{output, echoRule, readyRule}
-use Rattle.broadcasts.specs.Outputs.{outputAt, Outputs}
-use Rattle.broadcasts.specs.laws.Broadcasts.{outputs-each, outputs-marks}
+use Rattle.broadcasts.specs.Outputs.{Outputs}
+use Rattle.broadcasts.specs.laws.Broadcasts.{outputs-marks}
 use Rattle.votes.specs.Votes.{votesDecidedOne, voteAct, voteRule}
 use Rattle.exits.specs.Exits.{Exit, named}
 use Rattle.exits.specs.Stated.{Stated}
@@ -46,7 +46,7 @@ pub record Chosen (want : Act) (xs : List ℕ) (a : Act) (set : List ℕ) : Type
 
 -- rules 5 and 6, where `held` has mark i if broadcast i has output, and `first` tells whether Exit 1 holds
 unfoldable pub lastRules : Settings → List ℕ → ℕ → Bool → Act
-lastRules g s held first = orAct (readyRule g s) (cond first Idle (voteRule g s held (votesDecidedOne g s)))
+lastRules g s held first = orAct (readyRule g s) (cond first Idle (voteRule g s (mark held)))
 
 -- rules 3 to 6
 unfoldable pub laterRules : Settings → List ℕ → ℕ → Bool → Act
@@ -200,9 +200,9 @@ module _ (g : Settings) (s : List ℕ) (held : ℕ) (first : Bool) (a : Act) (d 
   unfolding lastRules orAct
   votes-off t h = rw (← ea, ← ed, t, h)
 
-  pub votes-on : (v : Act) (ones : ℕ) → d ≡ false → first ≡ false → ones ≡ votesDecidedOne g s → v ≡ voteRule g s held ones → v ≡ lastRules g s held first
+  pub votes-on : (v : Act) → d ≡ false → first ≡ false → v ≡ voteRule g s (mark held) → v ≡ lastRules g s held first
   unfolding lastRules orAct
-  votes-on v ones t h eo ev = rw (← ea, ← ed, t, h, ← eo) ev
+  votes-on v t h ev = rw (← ea, ← ed, t, h) ev
 
 pub ruleset last-cases = (first-ready, votes-off, votes-on)
 
@@ -237,7 +237,7 @@ module _ (g : Settings) (s : List ℕ) (held : ℕ) (values : List ℕ) (r : Rul
       at true t = refl
       at false t = e k (omega (arith, eqb-false k 0 t)) (lowest-le (λ i. isDue (h i)) n)
 
-  rule-same : voteRule g s held (votesDecidedOne g s) ≡ firstAct (λ i. voteAct g s (present (output g s i)) (votesDecidedOne g s) i) (g .n)
+  rule-same : voteRule g s (mark held) ≡ voteRule g s (λ i. present (output g s i))
   unfolding voteRule
   rule-same =
       first-agree (λ i. voteAct g s (mark held i) (votesDecidedOne g s) i) (λ i. voteAct g s (present (output g s i)) (votesDecidedOne g s) i) (g .n)

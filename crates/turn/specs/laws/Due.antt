@@ -16,13 +16,13 @@ use Rattle.quorum.specs.laws.Lowest.{Lowest, lowest-is}
 use Rattle.records.specs.Layout.{inputAt}
 use Rattle.records.specs.Words.{word}
 use Rattle.records.specs.Records.{sendSent, commitSent, commitCount, commitSet, decidedZero, decidedOne}
-use Rattle.acts.specs.Acts.{orAct, firstAct}
+use Rattle.acts.specs.Acts.{orAct}
 use Rattle.acts.specs.declared.Act.{Act}
 use Rattle.acts.specs.declared.Act.the-variants.{Idle, InForce, Commit, Send, Echo, Ready, Start, Relay, Aux, Move}
 use Rattle.broadcasts.specs.Leading.{present}
 use Rattle.broadcasts.specs.Broadcasts.{output, echoRule, readyRule}
 use Rattle.broadcasts.specs.laws.Due.{echo-rule-holds, ready-rule-holds}
-use Rattle.votes.specs.Votes.{votesDecidedOne, voteAct}
+use Rattle.votes.specs.Votes.{votesDecidedOne, voteAct, voteRule}
 use Rattle.acts.specs.laws.Choices.{all-cond, all-or, all-first}
 use Rattle.votes.specs.laws.Told.{StartTold, Told, Among}
 use Rattle.votes.specs.laws.Votes.{vote-told}
@@ -124,9 +124,9 @@ module _ (g : Settings) (s : List ℕ) where
 
     module _ (ruled : Ruled g) where
       votes-told : P (votesRule g s)
-      unfolding votesRule
+      unfolding votesRule voteRule
       votes-told =
-          all-cond P (eqb (exitNow g s .number) 1) Idle (firstAct (λ i. voteAct g s (present (output g s i)) (votesDecidedOne g s) i) (g .n)) (λ e. tt)
+          all-cond P (eqb (exitNow g s .number) 1) Idle (voteRule g s (λ i. present (output g s i))) (λ e. tt)
           (λ e. all-first P (λ i. voteAct g s (present (output g s i)) (votesDecidedOne g s) i) (g .n) tt
           (λ i low high. of-vote i low high (voteAct g s (present (output g s i)) (votesDecidedOne g s) i) (vote-told g ruled s (present (output g s i)) (votesDecidedOne g s) i _ refl)))
 

@@ -24,7 +24,7 @@ use Rattle.wire.proofs.Laws.{written-whole}
 use Rattle.wire.specs.declared.Message.{Message}
 use Rattle.wire.specs.declared.Message.the-variants as message
 use Rattle.turn.specs.Due.{commitDue, due}
-use Rattle.turn.specs.Turn.{moveOutcome, outcomeOf, applied, admittedIn, admittedFor, admits, bytesAfter, outcomeFor, wordsFor, bytesFor, turnOutcome, turnWords, turnBytes}
+use Rattle.turn.specs.Turn.{moveOutcome, outcomeOf, applied, admits, bytesAfter, outcomeFor, wordsFor, bytesFor, turnOutcome, turnWords, turnBytes}
 use Rattle.turn.specs.laws.Told.{CommitTold}
 use Rattle.turn.specs.laws.Due.{due-is}
 use Rattle.turn.specs.laws.Choosing.{Chosen}
@@ -33,28 +33,29 @@ use Rattle.turn.specs.declared.Admitted.{Admitted}
 use Rattle.turn.specs.declared.Admitted.the-variants as admitted
 use Rattle.turn.specs.declared.Outcome.{Outcome}
 use Rattle.turn.specs.declared.Outcome.the-variants as outcome
+use Rattle.turn.specs.laws.Stored.{admittedFor, admits-stored}
 
 module _ (s : List ℕ) (room : ℕ) (y : Stored) (ey : y ≡ stored s) where
   pub admit-none : y ≡ NoState → admitted.Refused 9 ≡ admits s room
-  unfolding admits admittedFor
-  admit-none t = rw (← ey, t)
+  unfolding admittedFor
+  admit-none t = rw (admits-stored s room, ← ey, t)
 
   module _ (x : Session) (tx : y ≡ Held x) (c : Bool) (ec : c ≡ closed s) where
     pub admit-closed : c ≡ true → admitted.Refused 10 ≡ admits s room
-    unfolding admits admittedFor admittedIn
-    admit-closed t = rw (← ey, tx, ← ec, t)
+    unfolding admittedFor
+    admit-closed t = rw (admits-stored s room, ← ey, tx, ← ec, t)
 
     pub admit-short : c ≡ false → room < 140 → admitted.Refused 8 ≡ admits s room
-    unfolding admits admittedFor admittedIn
-    admit-short t l = rw (← ey, tx, ← ec, t, lt-ltb room 140 l)
+    unfolding admittedFor
+    admit-short t l = rw (admits-stored s room, ← ey, tx, ← ec, t, lt-ltb room 140 l)
 
     pub admit-open : c ≡ false → 140 ≤ room → admitted.Open x ≡ admits s room
-    unfolding admits admittedFor admittedIn
-    admit-open t l = rw (← ey, tx, ← ec, t, le-ltb room 140 l)
+    unfolding admittedFor
+    admit-open t l = rw (admits-stored s room, ← ey, tx, ← ec, t, le-ltb room 140 l)
 
 pub admit-size : (s : List ℕ) (room : ℕ) → (length s ≡ 2048 → ⊥) → admitted.Refused 9 ≡ admits s room
-unfolding admits admittedFor
-admit-size s room h = rw (← size-wrong s h)
+unfolding admittedFor
+admit-size s room h = rw (admits-stored s room, ← size-wrong s h)
 
 pub ruleset admit-cases = (admit-size, admit-none, admit-closed, admit-short, admit-open)
 

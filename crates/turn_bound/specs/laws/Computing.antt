@@ -14,9 +14,8 @@ use Rattle.acts.specs.Acts.{orAct, actAt, firstAct}
 use Rattle.broadcasts.specs.Leading.{holders, leads, valueOf, leading}
 use Rattle.broadcasts.specs.Broadcasts.{output, echoAct, readyDue, readyAct, echoRule, readyRule}
 use Rattle.commits.specs.Commits.{commitHeld, sameSet, setHolders, setLeads, setLeader, setOf, leadingSet}
-use Rattle.votes.specs.Votes.{estCount, accepted, votesDecidedOne, startAct, relayValue, relayRound, relayAct, running, auxValue, auxAct, carries, carriers, auxCount, view, moveValue, moveAct, roundAct, voteAct}
-use Rattle.exits.specs.Exits.{withOutput, sizeS, exit1At, votesDone, exit2At, exit3Full, noExit, exit3, naming, exitOf}
-use Rattle.exits.specs.Exits.{exitNow}
+use Rattle.votes.specs.Votes.{estCount, accepted, votesDecidedOne, startAct, relayValue, relayRound, relayAct, running, auxValue, auxAct, carries, carriers, auxCount, carried, view, moveValue, moveAct, roundAct, voteAct, voteRule}
+use Rattle.exits.specs.Exits.{withOutput, sizeS, exit1At, votesDone, exit2At, exit3Full, noExit, exit3, naming, exitOf, exitNow}
 use Rattle.session.specs.Session.{numbered, roundsRight, commitsRight, numbersRight, settingsOf, isState, sessionWith, sessionOf, stored}
 use Rattle.wire.specs.Bytes.{be2, be4, be8, valueAt, values, risesFrom, rises, bytes2, bytes4, bytes8, valueBytes}
 use Rattle.wire.specs.Message.{byKind, headerFor, frontBytes, headerBytes, messageBytes, encode}
@@ -24,14 +23,14 @@ use Rattle.wire.specs.Message as wire
 use Rattle.wire.specs.Reading.{lengthRight, headerOf, fieldsRight, takenIf, readValues, readChecked, readMessage}
 use Rattle.opening.specs.Opening.{openAnswer, withSettings, withCoins, openWords, opened}
 use Rattle.opening.specs.Given.{item, coinZero, coinsGiven, weightGiven, weightsGiven, weightsWord}
-use Rattle.delivery.specs.Delivery.{placeHeld, judged, verdictIn, verdictFor, verdict, recorded, answerOf, wordsAfter, deliverAnswer, delivered}
+use Rattle.delivery.specs.Delivery.{placeHeld, judged, verdict, recorded, answerOf, wordsAfter, deliverAnswer, delivered}
 use Rattle.recording.specs.Recording.{bitMark, otherMark, inLayout, unopposed, recordable, recordAnswer, withBit, recordedWords}
 use Rattle.turn.specs.Due.{inForceRule, orSet, commitDue, commitOf, commitRule, sendRule, votesRule, due}
-use Rattle.turn.specs.Turn.{moveOutcome, outcomeOf, entered, decidedAs, newDecision, moveDecided, moved, applied, admittedIn, admittedFor, admits, bytesAfter, outcomeFor, wordsFor, bytesFor, turnOutcome, turnWords, turnBytes}
+use Rattle.turn.specs.Turn.{moveOutcome, outcomeOf, entered, decidedAs, newDecision, moveDecided, moved, applied, admits, bytesAfter, outcomeFor, wordsFor, bytesFor, turnOutcome, turnWords, turnBytes}
 use Rattle.turn.specs.Turn as turn
 use Rattle.report.specs.Report.{inForceSet, figuresOf, answerFor, namedFor, inForceFor, reportAnswer, reportNamed, reportInForce}
 use Rattle.report.specs.Report as report
 
 unfoldable pub calls : Unit {0}
-unfolding validSettings largestTa namedTa quorum repeat voteQuorum relay accept turnBound mark withMark total weightOf wholeOf weightRight weightsRight markIf withWeight packed lowest every words.word words.put words.marked words.setMark closed sendSent commitSent echoSent readySent sendHeld sendValue echoHeld echoValue readyHeld readyValue estHeld auxHeld coin printed coinRecorded coinKnown round estSent auxSent decidedZero decidedOne decided commitCount commitValue commitSet blank storeOf orAct actAt firstAct holders leads valueOf leading output echoAct readyDue readyAct echoRule readyRule estCount accepted votesDecidedOne startAct relayValue relayRound relayAct running auxValue auxAct carries carriers auxCount view moveValue moveAct roundAct voteAct commitHeld sameSet setHolders setLeads setLeader setOf leadingSet withOutput sizeS exit1At votesDone exit2At exit3Full noExit exit3 naming exitOf exitNow numbered roundsRight commitsRight numbersRight settingsOf isState sessionWith sessionOf stored be2 be4 be8 valueAt values risesFrom rises bytes2 bytes4 bytes8 valueBytes byKind headerFor frontBytes headerBytes messageBytes encode wire.atFront lengthRight headerOf fieldsRight takenIf readValues readChecked readMessage openAnswer item coinZero coinsGiven weightGiven weightsGiven weightsWord withSettings withCoins openWords opened placeHeld judged verdictIn verdictFor verdict recorded answerOf wordsAfter deliverAnswer delivered bitMark otherMark inLayout unopposed recordable recordAnswer withBit recordedWords inForceRule orSet commitDue commitOf commitRule sendRule votesRule due moveOutcome outcomeOf entered decidedAs newDecision moveDecided moved turn.counted turn.marked applied admittedIn admittedFor admits bytesAfter outcomeFor wordsFor bytesFor turnOutcome turnWords turnBytes inForceSet figuresOf report.admittedIn report.admittedFor report.admits report.atFront answerFor namedFor inForceFor reportAnswer reportNamed reportInForce
+unfolding validSettings largestTa namedTa quorum repeat voteQuorum relay accept turnBound mark withMark total weightOf wholeOf weightRight weightsRight markIf withWeight packed lowest every words.word words.put words.marked words.setMark closed sendSent commitSent echoSent readySent sendHeld sendValue echoHeld echoValue readyHeld readyValue estHeld auxHeld coin printed coinRecorded coinKnown round estSent auxSent decidedZero decidedOne decided commitCount commitValue commitSet blank storeOf orAct actAt firstAct holders leads valueOf leading output echoAct readyDue readyAct echoRule readyRule estCount accepted votesDecidedOne startAct relayValue relayRound relayAct running auxValue auxAct carries carriers auxCount carried view moveValue moveAct roundAct voteAct voteRule commitHeld sameSet setHolders setLeads setLeader setOf leadingSet withOutput sizeS exit1At votesDone exit2At exit3Full noExit exit3 naming exitOf exitNow numbered roundsRight commitsRight numbersRight settingsOf isState sessionWith sessionOf stored be2 be4 be8 valueAt values risesFrom rises bytes2 bytes4 bytes8 valueBytes byKind headerFor frontBytes headerBytes messageBytes encode wire.atFront lengthRight headerOf fieldsRight takenIf readValues readChecked readMessage openAnswer item coinZero coinsGiven weightGiven weightsGiven weightsWord withSettings withCoins openWords opened placeHeld judged verdict recorded answerOf wordsAfter deliverAnswer delivered bitMark otherMark inLayout unopposed recordable recordAnswer withBit recordedWords inForceRule orSet commitDue commitOf commitRule sendRule votesRule due moveOutcome outcomeOf entered decidedAs newDecision moveDecided moved turn.counted turn.marked applied admits bytesAfter outcomeFor wordsFor bytesFor turnOutcome turnWords turnBytes inForceSet figuresOf report.admits answerFor namedFor inForceFor reportAnswer reportNamed reportInForce
 calls = tt

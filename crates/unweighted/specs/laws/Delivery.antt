@@ -24,14 +24,9 @@ module _ (s : List ℕ) (all : AllOne s) (link : ℕ) (b : List ℕ) where
   abbrev judge : Bool → Verdict
   judge t = cond (not t) (Refused NO-STATE) (cond (closed s) (Refused CLOSED) (judged s link (readMessage (word s nAt) (sessionNumber s) link b)))
 
-  by-state : (t : Bool) → weighted.verdictFor (cond t (Held (sessionOf s)) NoState) s link b ≡ judge t
-  unfolding weighted.verdictFor weighted.verdictIn sessionOf sessionWith weighted-session.settingsOf sessionNumber
-  by-state true = refl
-  by-state false = refl
-
   verdict-same : weighted.verdict s link b ≡ verdict s link b
-  unfolding weighted.verdict stored verdict
-  verdict-same = by-state (weighted-session.isState s) ∙ ap (λ (t : Bool). judge t) (state-same s all)
+  unfolding weighted.verdict verdict sessionOf sessionWith weighted-session.settingsOf sessionNumber
+  verdict-same = ap (λ (t : Bool). judge t) (state-same s all)
 
   pub deliver-answer-same : weighted.deliverAnswer s link b ≡ deliverAnswer s link b
   unfolding weighted.deliverAnswer deliverAnswer

@@ -44,7 +44,7 @@ module _ (g : weighted-settings.Settings) (one : Ones g) (s : List ℕ) where
       ∙ vote-act-same g one s i (present (output (plain g) s i)) (votesDecidedOne (plain g) s)
 
   votes-same : weighted.votesRule g s ≡ votesRule (plain g) s
-  unfolding weighted.votesRule votesRule
+  unfolding weighted.votesRule weighted-votes.voteRule votesRule
   votes-same =
       ap₂ (λ (x : Exit) (f : ℕ → Act). cond (eqb (x .number) 1) Idle (firstAct f (g .n))) (exit-now-same g one s) (fun-ext vote-same)
 

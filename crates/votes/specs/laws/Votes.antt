@@ -17,9 +17,9 @@ use Rattle.acts.specs.Acts.{orAct}
 use Rattle.acts.specs.declared.Act.{Act}
 use Rattle.acts.specs.declared.Act.the-variants.{Idle, Start, Relay, Aux, Move}
 use Rattle.votes.specs.Votes.{estCount, accepted, startAct, relayValue, relayRound, relayAct, running, auxValue, auxAct, carriers, view}
-use Rattle.votes.specs.Votes.{votesDecidedOne, moveValue, moveAct, roundAct, voteAct, voteRule}
+use Rattle.votes.specs.Votes.{moveValue, moveAct, roundAct, voteAct}
 use Rattle.acts.specs.laws.Choices.{all-cond, all-or, all-first}
-use Rattle.votes.specs.laws.Told.{Told, Among}
+use Rattle.votes.specs.laws.Told.{Told}
 use Rattle.votes.specs.laws.Views.{view-shown}
 
 module _ (g : Settings) (right : weightsRight (g .weights) (g .n) ≡ true) (s : List ℕ) (output : ℕ → Bool) (ones : ℕ) (Vote : ℕ → Type 0) (i : ℕ) (v : Vote i) where
@@ -116,11 +116,3 @@ module _ (g : Settings) (ruled : Ruled g) (s : List ℕ) where
   vote-told output ones i a e =
       subst (Told g s (λ j. output) ones (λ j. j ≡ i)) e
       (vote-acts g (ruled .right) s (λ j. output) ones (λ j. j ≡ i) i refl (ruled-bounds g ruled .vote-quorum-some))
-
-  -- an act of rule 6 is of one of the votes 1 to n
-  pub rule-told : (output : ℕ → Bool) (a : Act) → voteRule g s output ≡ a → Told g s output (votesDecidedOne g s) (Among (g .n)) a
-  unfolding voteRule
-  rule-told output a e =
-      subst (Told g s output (votesDecidedOne g s) (Among (g .n))) e
-      (all-first (Told g s output (votesDecidedOne g s) (Among (g .n))) (λ i. voteAct g s (output i) (votesDecidedOne g s) i) (g .n) tt
-      (λ i low high. vote-acts g (ruled .right) s output (votesDecidedOne g s) (Among (g .n)) i (record { low = low; high = high }) (ruled-bounds g ruled .vote-quorum-some)))
