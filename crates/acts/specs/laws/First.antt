@@ -1,11 +1,12 @@
 -- The first act due of several, and what a loop keeps that looks for it.
 use Prim.Native.Nat.{ℕ, _+_, _≤_, _<_}
-use mathlib.Core.Bool.{Bool, true, false}
-use mathlib.Core.Path.{_≡_, sym, ap, _∙_}
+use mathlib.Core.Bool.{Bool, true, false, cond}
+use mathlib.Core.Path.{_≡_, refl, ap, _∙_}
 use native.Mathlib.Omega.{arith}
-use borrow.Author.Tests.{ne-eqb}
+use lib.Dec.{eqb}
+use borrow.Author.Tests.{ne-eqb, eqb-false}
 use Rattle.quorum.specs.Lowest.{lowest}
-use Rattle.quorum.specs.laws.Lowest.{lowest-agree, Passed, passed-start, passed-next, passed-found, passed-missing}
+use Rattle.quorum.specs.laws.Lowest.{lowest-agree, lowest-le, Passed, passed-start, passed-next, passed-found, passed-missing}
 use Rattle.acts.specs.Acts.{isDue, actAt, firstAct}
 use Rattle.acts.specs.declared.Act.{Act}
 use Rattle.acts.specs.declared.Act.the-variants.{Idle}
@@ -37,3 +38,15 @@ quiet-done f n k q l =
     rw (← p)
 
 pub ruleset firsts = (quiet-start, quiet-next, quiet-found, quiet-done)
+
+-- acts that agree on 1 to n have the same first
+pub first-agree : (f h : ℕ → Act) (n : ℕ) → ((i : ℕ) → 1 ≤ i → i ≤ n → f i ≡ h i) → firstAct f n ≡ firstAct h n
+unfolding firstAct actAt
+first-agree f h n e = rw (lowest-agree (λ i. isDue (f i)) (λ i. isDue (h i)) n (λ i a b. ap isDue (e i a b))) (at (eqb k 0) refl)
+  where
+    k : ℕ
+    k = lowest (λ i. isDue (h i)) n
+
+    at : (b : Bool) → eqb k 0 ≡ b → cond b Idle (f k) ≡ cond b Idle (h k)
+    at true z = refl
+    at false z = e k (omega (arith, eqb-false k 0 z)) (lowest-le (λ i. isDue (h i)) n)

@@ -7,18 +7,17 @@ use native.Mathlib.Omega.{arith}
 use lib.ListN.{length, take, drop, length-take, length-drop}
 use lib.Seq.{take-all, take-at, length-take-le}
 use lib.Dec.{eqb, leb}
-use borrow.Author.Tests.{ne-eqb, eqb-false, ltb-true}
+use borrow.Author.Tests.{ne-eqb, ltb-true}
 use Rattle.quorum.specs.laws.Bools.{and-left}
 use Rattle.settings.specs.Rules.{Ruled}
 use Rattle.settings.specs.Settings.{quorum, repeat}
 use Rattle.settings.specs.declared.Settings.{Settings}
-use Rattle.quorum.specs.Lowest.{lowest}
-use Rattle.quorum.specs.laws.Lowest.{Lowest, lowest-is, lowest-agree, lowest-le}
+use Rattle.quorum.specs.laws.Lowest.{Lowest, lowest-is}
 use Rattle.quorum.specs.Marks.{mark}
 use Rattle.records.specs.Words.{copied}
 use Rattle.records.specs.Words.{word}
 use Rattle.records.specs.Records.{sendSent, commitSent, commitCount, commitSet}
-use Rattle.acts.specs.Acts.{isDue, orAct, actAt, firstAct}
+use Rattle.acts.specs.Acts.{isDue, orAct}
 use Rattle.acts.specs.declared.Act.{Act}
 use Rattle.acts.specs.declared.Act.the-variants.{Idle, InForce, Commit, Send}
 use Rattle.broadcasts.specs.Leading.{present}
@@ -32,6 +31,7 @@ use Rattle.exits.specs.declared.Named.{Named}
 use Rattle.commits.specs.Commits.{commitHeld, setHolders, setLeads, setLeader, setOf, leadingSet}
 use Rattle.turn.specs.Due.{inForceRule, orSet, commitDue, commitOf, commitRule, sendRule, votesRule}
 use Rattle.exits.specs.Exits.{exitNow}
+use Rattle.acts.specs.laws.First.{first-agree}
 
 -- what the readers of a state ask for, and an array for a set
 pub record Readable (g : Settings) (s set : List ℕ) : Type 0 where
@@ -225,18 +225,6 @@ pub ruleset later-cases = (first-send, first-echo, rest-later)
 
 -- the marks and the array say what the rules ask of the outputs
 module _ (g : Settings) (s : List ℕ) (held : ℕ) (values : List ℕ) (r : Ruled g) (x : Outputs g s (g .n) held values) where
-  -- acts that agree on 1 to n have the same first
-  first-agree : (f h : ℕ → Act) (n : ℕ) → ((i : ℕ) → 1 ≤ i → i ≤ n → f i ≡ h i) → firstAct f n ≡ firstAct h n
-  unfolding firstAct actAt
-  first-agree f h n e = rw (lowest-agree (λ i. isDue (f i)) (λ i. isDue (h i)) n (λ i a b. ap isDue (e i a b))) (at (eqb k 0) refl)
-    where
-      k : ℕ
-      k = lowest (λ i. isDue (h i)) n
-
-      at : (b : Bool) → eqb k 0 ≡ b → cond b Idle (f k) ≡ cond b Idle (h k)
-      at true t = refl
-      at false t = e k (omega (arith, eqb-false k 0 t)) (lowest-le (λ i. isDue (h i)) n)
-
   rule-same : voteRule g s (mark held) ≡ voteRule g s (λ i. present (output g s i))
   unfolding voteRule
   rule-same =

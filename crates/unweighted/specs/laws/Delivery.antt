@@ -1,15 +1,14 @@
 -- A delivery to words in which all weights are 1.
 use Prim.Native.Nat.{ℕ}
-use mathlib.Core.Bool.{Bool, true, false, not, cond}
+use mathlib.Core.Bool.{Bool, not, cond}
 use mathlib.Core.List.{List}
-use mathlib.Core.Path.{_≡_, refl, ap, _∙_}
+use mathlib.Core.Path.{_≡_, ap}
 use Rattle.settings.specs.Refusals.{NO-STATE, CLOSED}
 use Rattle.records.specs.Layout.{nAt}
 use Rattle.records.specs.Words.{word}
 use Rattle.records.specs.Records.{closed}
-use Rattle.session.specs.Session.{stored, sessionWith, sessionOf}
+use Rattle.session.specs.Session.{sessionWith, sessionOf}
 use Rattle.session.specs.Session as weighted-session
-use Rattle.session.specs.declared.Stored.the-variants.{NoState, Held}
 use Rattle.wire.specs.Reading.{readMessage}
 use Rattle.delivery.specs.Delivery.{judged, answerOf, wordsAfter}
 use Rattle.delivery.specs.Delivery as weighted

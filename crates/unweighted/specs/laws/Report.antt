@@ -9,9 +9,7 @@ use Rattle.settings.specs.Refusals.{SHORT, NO-STATE}
 use Rattle.records.specs.Layout.{turnsAt}
 use Rattle.records.specs.Words.{word}
 use Rattle.records.specs.Records.{closed}
-use Rattle.session.specs.Session.{stored, sessionWith, sessionOf}
 use Rattle.session.specs.Session as weighted-session
-use Rattle.session.specs.declared.Stored.the-variants.{NoState, Held}
 use Rattle.exits.specs.Exits.{Exit}
 use Rattle.report.specs.Report as weighted
 use Rattle.report.specs.declared.Admitted.{Admitted}

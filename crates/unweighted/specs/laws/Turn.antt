@@ -10,9 +10,8 @@ use Rattle.records.specs.Layout.{ownAt}
 use Rattle.records.specs.Words.{word}
 use Rattle.records.specs.Records.{closed}
 use Rattle.acts.specs.declared.Act.{Act}
-use Rattle.session.specs.Session.{stored, sessionWith, sessionOf}
+use Rattle.session.specs.Session.{sessionWith, sessionOf}
 use Rattle.session.specs.Session as weighted-session
-use Rattle.session.specs.declared.Stored.the-variants.{NoState, Held}
 use Rattle.wire.specs.Message.{encode, atFront}
 use Rattle.turn.specs.Turn.{outcomeOf, applied}
 use Rattle.turn.specs.Turn as weighted

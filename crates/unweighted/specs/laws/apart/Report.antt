@@ -12,7 +12,6 @@ use Rattle.records.specs.Words.{put}
 use Rattle.exits.specs.Exits.{Exit}
 use Rattle.wire.specs.Message.{atFront}
 use Rattle.report.specs.declared.Answer.the-variants as answer
-use Rattle.report.specs.Report as weighted-report
 use Rattle.unweighted.specs.Settings.{Settings, quorum}
 use Rattle.unweighted.specs.Session.{settingsOf, isState}
 use Rattle.unweighted.specs.Exits.{exitNow}
