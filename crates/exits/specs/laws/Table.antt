@@ -88,6 +88,23 @@ table-holds :
 unfolding answers four row table v no exit at is0 is1 exitOf withOutput sizeS exit1At votesDone exit2At exit3Full insert insertOutput outputsOfS noExit exit3 naming lowest every total weightOf mark quorum voteQuorum
 table-holds = refl
 
+-- ta = 0 and ts = 1: Exit 1 goes by ts and wants 3, the others go by ta and want 4 votes decided 1
+unequal : List Row
+unequal =
+    row (v 5) (v 5) (v 5) no undecided undecided undecided undecided
+    ∷ row (v 5) (v 5) (v 6) no d1 d1 d1 d0
+    ∷ row (v 5) (v 5) (v 6) (v 7) d1 d1 d1 d1
+    ∷ []
+
+unequal-holds :
+    answers (record { n = 4; ta = 0; ts = 1; whole = 4; weights = 15 }) unequal
+    ≡ exit 1 (5 ∷ [])
+    ∷ exit 0 []
+    ∷ exit 3 (5 ∷ 6 ∷ 7 ∷ [])
+    ∷ []
+unfolding answers row unequal v no exit at is0 is1 exitOf withOutput sizeS exit1At votesDone exit2At exit3Full insert insertOutput outputsOfS noExit exit3 naming lowest every total weightOf mark quorum voteQuorum
+unequal-holds = refl
+
 -- ---- with weights (request N11)
 
 -- weights 4, 1, 1, 1: 7 in all, so Exit 1 needs 6, and s 6. The pack of the heavy one is the majority of S, where heads would name the
