@@ -4,10 +4,8 @@ use mathlib.Core.Bool.{Bool, _||_, not, cond}
 use mathlib.Core.List.{List}
 use lib.ListN.{drop}
 use Rattle.settings.specs.Refusals.{NO-STATE, CLOSED, HELD}
-use Rattle.records.specs.Layout.{sendMarksAt, sendValueAt, echoMarksAt, echoValueAt, readyMarksAt, readyValueAt, voteAt, estMark, auxMark, commitCountAt, commitRowAt}
-use Rattle.records.specs.Words.{put, setMark}
 use Rattle.records.specs.Records.{closed, sendHeld, echoHeld, readyHeld, estHeld, auxHeld}
-use Rattle.records.specs.Words.{storeOf}
+use Rattle.records.specs.Writing.{withSend, withEcho, withReady, withEst, withAux, withCommit}
 use Rattle.commits.specs.Commits.{commitHeld}
 use Rattle.session.specs.Session.{isState, sessionOf}
 use Rattle.wire.specs.Bytes.{valueAt}
@@ -43,12 +41,12 @@ verdict s link b =
 
 -- the state with a message of sender p recorded; the values of a COMMIT are in the part v that starts at byte 12
 unfoldable pub recorded : List ℕ → ℕ → Message → List ℕ → List ℕ
-recorded s p (Send i x) v = setMark (put s (sendValueAt i) x) sendMarksAt i
-recorded s p (Echo i x) v = setMark (put s (echoValueAt i p) x) (echoMarksAt i) p
-recorded s p (Ready i x) v = setMark (put s (readyValueAt i p) x) (readyMarksAt i) p
-recorded s p (Est i r b) v = setMark s (voteAt i r) (estMark b p)
-recorded s p (Aux i r b) v = setMark s (voteAt i r) (auxMark b p)
-recorded s p (Commit k) v = put (storeOf (valueAt v) (commitRowAt p) s k) (commitCountAt p) k
+recorded s p (Send i x) v = withSend s i x
+recorded s p (Echo i x) v = withEcho s i p x
+recorded s p (Ready i x) v = withReady s i p x
+recorded s p (Est i r b) v = withEst s i r b p
+recorded s p (Aux i r b) v = withAux s i r b p
+recorded s p (Commit k) v = withCommit s p (valueAt v) k
 
 -- the number of a verdict: 0 is accepted
 unfoldable pub answerOf : Verdict → ℕ

@@ -138,9 +138,16 @@ zeroMark r = 32 + r
 abbrev pub estSentMark : ℕ → ℕ → ℕ
 estSentMark r b = 32 * b + r
 
+-- in a round's word the marks of EST b, and of AUX b, are the 16 above these
+abbrev pub estGroup : ℕ → ℕ
+estGroup b = 16 * b
+
+abbrev pub auxGroup : ℕ → ℕ
+auxGroup b = 32 + 16 * b
+
 -- the marks of EST b and AUX b held from sender p
 abbrev pub estMark : ℕ → ℕ → ℕ
-estMark b p = 16 * b + p
+estMark b p = estGroup b + p
 
 abbrev pub auxMark : ℕ → ℕ → ℕ
-auxMark b p = 32 + 16 * b + p
+auxMark b p = auxGroup b + p

@@ -1,4 +1,5 @@
 pub mod Words
 pub mod Layout
 pub mod Records
+pub mod Writing
 pub mod laws

@@ -5,11 +5,9 @@ use mathlib.Core.List.{List, []}
 use lib.ListN.{length}
 use lib.Dec.{ltb}
 use Rattle.settings.specs.Refusals.{SHORT, NO-STATE}
-use Rattle.settings.specs.Settings.{quorum}
+use Rattle.settings.specs.Settings.{maxConcentrators, quorum}
 use Rattle.settings.specs.declared.Settings.{Settings}
-use Rattle.records.specs.Layout.{turnsAt}
-use Rattle.records.specs.Words.{word}
-use Rattle.records.specs.Records.{closed}
+use Rattle.records.specs.Records.{turnCount, closed}
 use Rattle.commits.specs.Commits.{leadingSet}
 use Rattle.exits.specs.Exits.{exitNow}
 use Rattle.session.specs.Session.{isState, settingsOf}
@@ -33,14 +31,18 @@ figuresOf g s =
       exit = exitNow g s .number;
       named = length (exitNow g s .names);
       in_force = length (inForceSet g s);
-      turns = word s turnsAt;
+      turns = turnCount s;
     }
+
+-- the words lent for a set, which has at most one pack of each concentrator
+abbrev pub setWords : ℕ
+setWords = maxConcentrators
 
 -- "Report 9, 8.": the first refusal, or the settings. "8 SHORT: .. a report lent under 16 words for either set"
 unfoldable pub admits : List ℕ → ℕ → ℕ → Admitted
 admits s namedWords inForceWords =
     cond (not (isState s)) (admitted.Refused NO-STATE)
-    (cond (ltb namedWords 16 || ltb inForceWords 16) (admitted.Refused SHORT)
+    (cond (ltb namedWords setWords || ltb inForceWords setWords) (admitted.Refused SHORT)
     (admitted.Open (settingsOf s)))
 
 -- "A refusal yields its number and nothing else; state and buffers are untouched."

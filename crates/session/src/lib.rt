@@ -67,7 +67,12 @@ fn numbers_right(s: &[u64], g: Settings) -> bool
     if g.turn_bound() < records::word(s, layout::TURNS) {
         return false;
     }
-    if !all_limited(s, layout::ROUNDS as u8, 33, g.n) {
+    if !all_limited(
+        s,
+        layout::ROUNDS as u8,
+        Settings::MOVED_OUT_ROUND as u64,
+        g.n,
+    ) {
         return false;
     }
     all_limited(s, layout::COMMIT_COUNTS as u8, g.n as u64, g.n)

@@ -6,9 +6,13 @@ use lib.Dec.{eqb, ltb, leb}
 use Rattle.quorum.specs.Whole.{wholeOf, weightsRight}
 use Rattle.settings.specs.declared.Settings.{Settings}
 
+-- the most concentrators: "n from 1 to 16"
+abbrev pub maxConcentrators : ℕ
+maxConcentrators = 16
+
 -- "n from 1 to 16, with ta ≤ ts and 2·ts + ta < n", the last n being the sum of the weights; a weight of 0 or over 4 is against the rules
 unfoldable pub validSettings : ℕ → ℕ → ℕ → ℕ → Bool
-validSettings n ta ts w = leb 1 n && leb n 16 && weightsRight w n && leb ta ts && ltb (2 * ts + ta) (wholeOf w n)
+validSettings n ta ts w = leb 1 n && leb n maxConcentrators && weightsRight w n && leb ta ts && ltb (2 * ts + ta) (wholeOf w n)
 
 -- "ta given as 255 means unnamed"
 abbrev pub UNNAMED : ℕ
@@ -58,3 +62,7 @@ turnBound g = 99 * g .n + 3
 -- "the round, 1 to 32"
 abbrev pub roundLimit : ℕ
 roundLimit = 32
+
+-- "33 means moved out of round 32"
+abbrev pub movedOutRound : ℕ
+movedOutRound = 33

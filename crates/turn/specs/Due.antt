@@ -6,9 +6,7 @@ use lib.ListN.{length}
 use lib.Dec.{eqb}
 use Rattle.settings.specs.Settings.{quorum, repeat}
 use Rattle.settings.specs.declared.Settings.{Settings}
-use Rattle.records.specs.Layout.{inputAt}
-use Rattle.records.specs.Words.{word}
-use Rattle.records.specs.Records.{sendSent, commitSent}
+use Rattle.records.specs.Records.{ownInput, sendSent, commitSent}
 use Rattle.acts.specs.Acts.{orAct}
 use Rattle.acts.specs.declared.Act.{Act}
 use Rattle.acts.specs.declared.Act.the-variants.{Idle, InForce, Commit, Send}
@@ -41,7 +39,7 @@ commitRule g s = cond (commitSent s) Idle (commitOf (commitDue g s))
 
 -- 3. "SEND of the own input, once."
 unfoldable pub sendRule : List ℕ → Act
-sendRule s = cond (sendSent s) Idle (Send (word s inputAt))
+sendRule s = cond (sendSent s) Idle (Send (ownInput s))
 
 -- 6. "Votes, unless Exit 1 holds."
 unfoldable pub votesRule : Settings → List ℕ → Act

@@ -1,7 +1,6 @@
 // What is due, by the turn order.
 use acts::Act;
 use exits::Named;
-use records::layout;
 use settings::Settings;
 ghost use mathlib.Core.Path.{_≡_};
 ghost use Rattle.settings.specs.Rules.{Ruled};
@@ -32,9 +31,7 @@ fn repeated_commit(s: &[u64], g: Settings, set: &mut [u64; 16]) -> Act
     if p == 0 {
         return Act::Idle;
     }
-    let count = records::commit_count(s, p);
-    let from = layout::COMMIT_VALUES + 16 * p as usize + 1;
-    records::copy_front(&s[from..], count, set);
+    let count = records::copy_commit(s, p, set);
     Act::Commit(count)
 }
 
@@ -62,7 +59,7 @@ fn send_rule(s: &[u64]) -> Act
     if records::send_sent(s) {
         return Act::Idle;
     }
-    Act::Send(records::word(s, layout::INPUT))
+    Act::Send(records::own_input(s))
 }
 
 // Rules 5 and 6: `held` has mark i where broadcast i has output, `first` tells whether Exit 1 holds.
@@ -99,8 +96,8 @@ fn exit_now(s: &[u64], g: Settings, held: u64, values: &[u64; 16]) -> Named
     requires { ⌜ (Ruled g) × (Outputs g (now s) (g .n) held (now values)) ⌝ }
     ensures { λ r. ⌜ Stated r (exitNow g (now (s .entry))) ⌝ }
 {
-    let zero = records::word(s, layout::DECIDED_ZERO);
-    let one = records::word(s, layout::DECIDED_ONE);
+    let zero = records::decided_zero_marks(s);
+    let one = records::decided_one_marks(s);
     exits::exit_of(g, held, values, zero, one)
 }
 

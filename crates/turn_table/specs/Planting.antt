@@ -14,7 +14,7 @@ use Rattle.wire.specs.declared.Message.the-variants.{Ready, Commit}
 use Rattle.opening.specs.Opening.{openWords}
 use Rattle.delivery.specs.Delivery.{recorded}
 use Rattle.turn.specs.Due.{due}
-use Rattle.turn.specs.Turn.{decidedAs, marked}
+use Rattle.turn.specs.Turn.{decidedAs, done}
 
 abbrev pub four : ℕ → Settings
 four ta = record { n = 4; ta = ta; ts = 1; whole = 4; weights = 15 }
@@ -49,7 +49,7 @@ recordedFrom s (p ∷ ps) m v = recordedFrom (recorded s p m v) ps m v
 unfoldable pub withFact : List ℕ → Fact → List ℕ
 withFact s (from ps m) = recordedFrom s ps m []
 withFact s (commits ps xs) = recordedFrom s ps (Commit (length xs)) (valueBytes xs)
-withFact s (did a) = marked s a
+withFact s (did a) = done s a
 withFact s (inRound i r) = put s (roundAt i) r
 withFact s (isDecided i b) = decidedAs s i b
 

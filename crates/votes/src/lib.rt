@@ -1,6 +1,5 @@
 // Votes, rule 6 of the turn order: the start, relay, AUX or move that is due.
 use acts::Act;
-use records::layout;
 use settings::Settings;
 ghost use mathlib.Core.Path.{_≡_};
 ghost use Prim.Native.Nat.{min};
@@ -11,30 +10,18 @@ ghost use Rattle.quorum.specs.Marks.{mark};
 ghost use Rattle.votes.specs.Votes.{auxCount, viewOf, moveAct, roundAct, voteAct, voteRule, coinValue, estimate, decides};
 ghost use Rattle.votes.specs.laws.Given.{carriersGiven, viewGiven, moveGiven};
 
-// The groups of marks in a round's word: EST 0 and EST 1, then AUX 0 and AUX 1.
-const AUX_ZERO: u16 = 32;
-
-const AUX_ONE: u16 = 48;
-
-const GROUP: u16 = 16;
-
 // The weight of the senders whose ESTs of b are held in round r of vote i.
 fn est_count(s: &[u64], g: Settings, i: u8, r: u8, b: u8) -> u64
     ensures { λ c. ⌜ c ≡ estCount g (now (s .entry)) i r b ⌝ }
 {
-    quorum::weigh_marks(records::votes(s, i, r), GROUP * b as u16, g.n, g.weights)
+    records::est_weight(s, i, r, b, g.n, g.weights)
 }
 
 // The weight of the senders whose held AUXs carry b.
 fn aux_count(s: &[u64], g: Settings, i: u8, r: u8, b: u8) -> u64
     ensures { λ c. ⌜ c ≡ auxCount g (now (s .entry)) i r b ⌝ }
 {
-    quorum::weigh_marks(
-        records::votes(s, i, r),
-        AUX_ZERO + GROUP * b as u16,
-        g.n,
-        g.weights,
-    )
+    records::aux_weight(s, i, r, b, g.n, g.weights)
 }
 
 // Whether ESTs of weight 2·ta + 1 hold b in round r of vote i.
@@ -48,7 +35,7 @@ pub fn accepted(s: &[u64], g: Settings, i: u8, r: u8, b: u8) -> bool
 pub fn votes_decided_one(s: &[u64], g: Settings) -> u64
     ensures { λ c. ⌜ c ≡ votesDecidedOne g (now (s .entry)) ⌝ }
 {
-    quorum::weigh_marks(records::word(s, layout::DECIDED_ONE), 0, g.n, g.weights)
+    quorum::weigh_marks(records::decided_one_marks(s), 0, g.n, g.weights)
 }
 
 // The start of vote i, where it is due: `output` tells whether broadcast i has output, `ones` counts the votes decided 1.
@@ -148,9 +135,9 @@ pub fn aux_act(s: &[u64], g: Settings, i: u8) -> Act
 fn carriers(s: &[u64], g: Settings, i: u8, r: u8, a0: bool, a1: bool) -> u64
     ensures { λ c. ⌜ c ≡ carriersGiven g (now (s .entry)) i r a0 a1 ⌝ }
 {
-    let w = records::votes(s, i, r);
-    let zero = quorum::share(a0, w >> AUX_ZERO);
-    let one = quorum::share(a1, w >> AUX_ONE);
+    let w = records::vote_marks(s, i, r);
+    let zero = quorum::share(a0, records::aux_zero_marks(w));
+    let one = quorum::share(a1, records::aux_one_marks(w));
     quorum::weigh_marks(zero | one, 0, g.n, g.weights)
 }
 

@@ -17,7 +17,7 @@ use Rattle.acts.specs.declared.Act as acts
 use Rattle.acts.specs.declared.Act.the-variants.{Idle, InForce, Commit, Send, Echo, Ready, Start, Relay, Aux, Move}
 use Rattle.acts.specs.declared.View.{View}
 use Rattle.votes.specs.Votes.{estimate}
-use Rattle.turn.specs.Turn.{counted, entered, decidedAs, newDecision, moveDecided, moved, applied}
+use Rattle.turn.specs.Turn.{withTurnCounted, entered, decidedAs, newDecision, moveDecided, moved, applied}
 use Rattle.turn.specs.Turn as turn
 use Rattle.turn.specs.laws.Told.{ActTold}
 use Rattle.turn.specs.laws.Frame.{Placed, told-placed, setting, coins, beyond, length-applied, applied-kept}
@@ -70,25 +70,25 @@ told-ended g s (Relay i r b) x = tt
 told-ended g s (Aux i r b) x = tt
 told-ended g s (Move i r v) x = x .1 .high
 
-fit-marked : (s : List ℕ) (a : acts.Act) → Ended a → Fit s → Fit (turn.marked s a)
-unfolding turn.marked moved
-fit-marked s Idle e f = f
-fit-marked s InForce e f = fit-setMark s _ _ f
-fit-marked s (Commit k) e f = fit-setMark s _ _ f
-fit-marked s (Send v) e f = fit-setMark s _ _ f
-fit-marked s (Echo i v) e f = fit-setMark s _ _ f
-fit-marked s (Ready i v) e f = fit-setMark s _ _ f
-fit-marked s (Start i b) e f = fit-entered s i 1 b f (omega arith)
-fit-marked s (Relay i r b) e f = fit-setMark s _ _ f
-fit-marked s (Aux i r b) e f = fit-setMark s _ _ f
-fit-marked s (Move i r v) e f = fit-entered (moveDecided s i r v) i (r + 1) (estimate (coin s i r) v) (fit-decided s i r v f) (omega arith)
+fit-done : (s : List ℕ) (a : acts.Act) → Ended a → Fit s → Fit (turn.done s a)
+unfolding turn.done moved
+fit-done s Idle e f = f
+fit-done s InForce e f = fit-setMark s _ _ f
+fit-done s (Commit k) e f = fit-setMark s _ _ f
+fit-done s (Send v) e f = fit-setMark s _ _ f
+fit-done s (Echo i v) e f = fit-setMark s _ _ f
+fit-done s (Ready i v) e f = fit-setMark s _ _ f
+fit-done s (Start i b) e f = fit-entered s i 1 b f (omega arith)
+fit-done s (Relay i r b) e f = fit-setMark s _ _ f
+fit-done s (Aux i r b) e f = fit-setMark s _ _ f
+fit-done s (Move i r v) e f = fit-entered (moveDecided s i r v) i (r + 1) (estimate (coin s i r) v) (fit-decided s i r v f) (omega arith)
 
 fit-applied : (s : List ℕ) (a : acts.Act) → Ended a → word s turnsAt ≤ 65535 → Fit s → Fit (applied s a)
-unfolding applied counted
+unfolding applied withTurnCounted
 fit-applied s a e few f = go (isDue a)
   where
-    go : (b : Bool) → Fit (cond b (turn.marked (put s turnsAt (word s turnsAt + 1)) a) s)
-    go true = fit-marked (put s turnsAt (word s turnsAt + 1)) a e (fit-put s turnsAt (word s turnsAt + 1) f (omega arith))
+    go : (b : Bool) → Fit (cond b (turn.done (put s turnsAt (word s turnsAt + 1)) a) s)
+    go true = fit-done (put s turnsAt (word s turnsAt + 1)) a e (fit-put s turnsAt (word s turnsAt + 1) f (omega arith))
     go false = f
 
 pub belongs-applied : (o : Arguments) (g : Settings) (w : List ℕ) → Belongs o w → Ruled g → (a : acts.Act) → ActTold g w a → word w turnsAt ≤ 65535 → Belongs o (applied w a)

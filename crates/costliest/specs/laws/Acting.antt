@@ -94,7 +94,7 @@ module _ (n : ℕ) (two : 2 ≤ n) (low : 1 ≤ n) (few : n ≤ 16) (s : List �
       omega (arith, one .1)
 
   still-open : (a : Act) → ActTold (settings n) s a → closed (applied s a) ≡ false
-  unfolding closed marked applied turn-specs.marked
+  unfolding closed marked applied turn-specs.done
   still-open Idle h = x .unclosed
   still-open InForce h = absurd (not-in-force h)
   still-open (Commit k) h = ap (λ (w : ℕ). mark w 1) (counted-mark s (x .sound .size) 7 3 (omega arith) (λ z. omega arith)) ∙ mark-other (word s 7) 3 1 (λ z. omega arith) ∙ x .unclosed

@@ -213,7 +213,7 @@ module _ (g : Settings) (ruled : Ruled g) (own : ℕ) (s : List ℕ) (h : Sound 
   flag a p e q ne = other-mark n s (applied s a) p q ne e
 
   act-sends : (a : Act) → isDue a ≡ true → ActTold g s a → ActSends n (outcomeOf own s a) s (applied s a)
-  unfolding outcomeOf applied turn-specs.marked closed commitSent marked
+  unfolding outcomeOf applied turn-specs.done closed commitSent marked
   act-sends Idle d t = absurd (true≢false (sym d))
   act-sends InForce d t =
       closing n s (applied s InForce) unclosed (closed-marked s (h .size))

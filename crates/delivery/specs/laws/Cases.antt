@@ -1,14 +1,11 @@
 -- The cases of the code.
-use Prim.Native.Nat.{ℕ, _+_, _*_}
+use Prim.Native.Nat.{ℕ}
 use mathlib.Core.Bool.{Bool, true, false, _||_}
 use mathlib.Core.List.{List}
 use mathlib.Core.Path.{_≡_, refl}
 use lib.ListN.{length}
-use Rattle.quorum.specs.Marks.{mark}
-use Rattle.records.specs.Layout.{voteAt}
-use Rattle.records.specs.Words.{word, put, marked, setMark}
 use Rattle.records.specs.Records.{closed, sendHeld, echoHeld, readyHeld, estHeld, auxHeld}
-use Rattle.records.specs.Words.{storeOf}
+use Rattle.records.specs.Writing.{withSend, withEcho, withReady, withEst, withAux, withCommit}
 use Rattle.commits.specs.Commits.{commitHeld}
 use Rattle.session.specs.laws.Cases.{size-wrong}
 use Rattle.session.specs.Session.{stored}
@@ -26,25 +23,17 @@ use Rattle.delivery.specs.laws.Stored.{verdictFor, verdict-stored}
 use Rattle.delivery.specs.declared.Verdict.{Verdict}
 use Rattle.delivery.specs.declared.Verdict.the-variants.{Refused, Accepted}
 
-pub est-mark : (s : List ℕ) (i r b p w : ℕ) (c : Bool) → w ≡ word s (voteAt i r) → c ≡ mark w (16 * b + p) → c ≡ estHeld s i r b p
-unfolding estHeld marked
-est-mark s i r b p w c e f = cc
-
-pub aux-mark : (s : List ℕ) (i r p w : ℕ) (a b : Bool) → w ≡ word s (voteAt i r) → a ≡ mark w (32 + p) → b ≡ mark w (48 + p) → (a || b) ≡ (auxHeld s i r 0 p || auxHeld s i r 1 p)
-unfolding auxHeld marked
-aux-mark s i r p w a b e f g = rw (f, g, e)
-
 module _ (s : List ℕ) (p : ℕ) (m : Message) (c : Bool) where
   pub place-send : (i v : ℕ) → m ≡ Send i v → c ≡ sendHeld s i → c ≡ placeHeld s p m
   unfolding placeHeld
   place-send i v e f = rw e f
 
-  pub place-echo : (i v : ℕ) → m ≡ Echo i v → c ≡ marked s (87 + i) p → c ≡ placeHeld s p m
-  unfolding placeHeld echoHeld
+  pub place-echo : (i v : ℕ) → m ≡ Echo i v → c ≡ echoHeld s i p → c ≡ placeHeld s p m
+  unfolding placeHeld
   place-echo i v e f = rw e f
 
-  pub place-ready : (i v : ℕ) → m ≡ Ready i v → c ≡ marked s (103 + i) p → c ≡ placeHeld s p m
-  unfolding placeHeld readyHeld
+  pub place-ready : (i v : ℕ) → m ≡ Ready i v → c ≡ readyHeld s i p → c ≡ placeHeld s p m
+  unfolding placeHeld
   place-ready i v e f = rw e f
 
   pub place-est : (i r b : ℕ) → m ≡ Est i r b → c ≡ estHeld s i r b p → c ≡ placeHeld s p m
@@ -59,7 +48,7 @@ module _ (s : List ℕ) (p : ℕ) (m : Message) (c : Bool) where
   unfolding placeHeld
   place-commit k e f = rw e f
 
-pub ruleset place-cases = (est-mark, aux-mark, place-send, place-echo, place-ready, place-est, place-aux, place-commit)
+pub ruleset place-cases = (place-send, place-echo, place-ready, place-est, place-aux, place-commit)
 
 module _ (x : Session) (s : List ℕ) (link : ℕ) (b : List ℕ) (c : Bool) (ec : c ≡ closed s) where
   pub in-closed : c ≡ true → Refused 10 ≡ verdictFor (Held x) s link b
@@ -92,27 +81,27 @@ no-size s link b h = no-state s link b NoState (size-wrong s h) refl
 pub ruleset verdict-cases = (in-closed, in-refused, in-held, in-accepted, no-size, no-state, a-state)
 
 module _ (s t v : List ℕ) (p : ℕ) (m : Message) where
-  pub record-send : (i x : ℕ) → m ≡ Send i x → t ≡ setMark (put s (71 + i) x) 140 i → t ≡ recorded s p m v
+  pub record-send : (i x : ℕ) → m ≡ Send i x → t ≡ withSend s i x → t ≡ recorded s p m v
   unfolding recorded
   record-send i x e f = rw e f
 
-  pub record-echo : (i x : ℕ) → m ≡ Echo i x → t ≡ setMark (put s (239 + 16 * i + p) x) (87 + i) p → t ≡ recorded s p m v
+  pub record-echo : (i x : ℕ) → m ≡ Echo i x → t ≡ withEcho s i p x → t ≡ recorded s p m v
   unfolding recorded
   record-echo i x e f = rw e f
 
-  pub record-ready : (i x : ℕ) → m ≡ Ready i x → t ≡ setMark (put s (495 + 16 * i + p) x) (103 + i) p → t ≡ recorded s p m v
+  pub record-ready : (i x : ℕ) → m ≡ Ready i x → t ≡ withReady s i p x → t ≡ recorded s p m v
   unfolding recorded
   record-ready i x e f = rw e f
 
-  pub record-est : (i r b : ℕ) → m ≡ Est i r b → t ≡ setMark s (991 + 32 * i + r) (16 * b + p) → t ≡ recorded s p m v
+  pub record-est : (i r b : ℕ) → m ≡ Est i r b → t ≡ withEst s i r b p → t ≡ recorded s p m v
   unfolding recorded
   record-est i r b e f = rw e f
 
-  pub record-aux : (i r b : ℕ) → m ≡ Aux i r b → t ≡ setMark s (991 + 32 * i + r) (32 + 16 * b + p) → t ≡ recorded s p m v
+  pub record-aux : (i r b : ℕ) → m ≡ Aux i r b → t ≡ withAux s i r b p → t ≡ recorded s p m v
   unfolding recorded
   record-aux i r b e f = rw e f
 
-  pub record-commit : (k : ℕ) → m ≡ Commit k → t ≡ put (storeOf (valueAt v) (751 + 16 * p) s k) (119 + p) k → t ≡ recorded s p m v
+  pub record-commit : (k : ℕ) → m ≡ Commit k → t ≡ withCommit s p (valueAt v) k → t ≡ recorded s p m v
   unfolding recorded
   record-commit k e f = rw e f
 

@@ -1,12 +1,10 @@
 -- The cases of the code.
-use Prim.Native.Nat.{ℕ, _+_, _*_, _-_, _≤_}
+use Prim.Native.Nat.{ℕ, _≤_}
 use mathlib.Core.Bool.{Bool, true, false, _||_, cond}
 use mathlib.Core.List.{List, []}
 use mathlib.Core.Path.{_≡_, refl, sym, ap, _∙_}
 use native.Mathlib.Omega.{arith}
-use native.Mathlib.Nat.{min-le-right}
-use lib.ListN.{length, take, drop, length-take, length-drop}
-use lib.Seq.{take-all, length-take-le}
+use lib.ListN.{length, take}
 use lib.Dec.{ltb}
 use borrow.Author.Tests.{eq-eqb, ne-eqb}
 use Rattle.settings.specs.Rules.{Ruled}
@@ -14,8 +12,8 @@ use Rattle.settings.specs.Settings.{quorum}
 use Rattle.settings.specs.declared.Settings.{Settings}
 use Rattle.quorum.specs.Lowest.{lowest}
 use Rattle.quorum.specs.laws.Lowest.{lowest-le}
-use Rattle.records.specs.Words.{word}
-use Rattle.records.specs.Records.{closed, commitCount, commitSet}
+use Rattle.records.specs.Records.{turnCount, closed}
+use Rattle.records.specs.laws.Sets.{SetRoom, SetCopied}
 use Rattle.records.specs.Words.{copied}
 use Rattle.commits.specs.Commits.{setLeads, setLeader, setOf, leadingSet}
 use Rattle.exits.specs.Exits.{Exit, named}
@@ -41,12 +39,6 @@ use Rattle.wire.specs.Message.{atFront}
 -- the lowest sender that holds the set in force, and 0 if none is
 unfoldable pub inForceSender : Settings → List ℕ → ℕ
 inForceSender g s = cond (closed s) (setLeader (g .weights) s (g .n) (quorum g)) 0
-
--- a set lent room enough
-pub record SetRoom (s : List ℕ) (p : ℕ) (out : List ℕ) : Type 0 where
-  pub size : length s ≡ 2048
-  pub sender : p ≤ 16
-  pub room : 16 ≤ length out
 
 pub record SetWritten (xs old new : List ℕ) (count : ℕ) : Type 0 where
   pub words : new ≡ atFront xs old
@@ -107,24 +99,9 @@ pub set-none : (s : List ℕ) (p : ℕ) (out : List ℕ) → p ≡ 0 → SetWrit
 unfolding setOf atFront
 set-none s p out e = rw (eq-eqb p 0 e) (record { words = refl; counted = refl })
 
-module _ (s : List ℕ) (p : ℕ) (out : List ℕ) (h : SetRoom s p out) (k : ℕ) (e : k ≡ commitCount s p) where
-  count-few : k ≤ 16
-  unfolding commitCount
-  count-few = rw e (min-le-right _ 16)
-
-  pub set-there : k ≤ length (take (length s - (751 + 16 * p + 1)) (drop (751 + 16 * p + 1) s))
-  set-there = simp (length-take, length-drop) (omega (arith, count-few))
-
-  pub set-fits : k ≤ length out
-  set-fits = omega (arith, count-few)
-
-  pub set-done : (new : List ℕ) → (p ≡ 0 → ⊥) → new ≡ copied (take (length s - (751 + 16 * p + 1)) (drop (751 + 16 * p + 1) s)) out k → SetWritten (setOf s p) out new k
-  unfolding setOf commitSet copied atFront
-  set-done new z f =
-      let rest : List ℕ = drop (751 + 16 * p + 1) s in
-      let whole : take (length s - (751 + 16 * p + 1)) rest ≡ rest = take-all (length s - (751 + 16 * p + 1)) rest (simp length-drop (omega arith)) in
-      let sized : length (take k rest) ≡ k = length-take-le k rest (simp length-drop (omega (arith, count-few))) in
-      rw (ne-eqb p 0 z, ← e) (record { words = f ∙ rw (whole, sized); counted = sym sized })
+pub set-done : (s : List ℕ) (p : ℕ) (out new : List ℕ) (k : ℕ) → (p ≡ 0 → ⊥) → SetCopied s p out new k → SetWritten (setOf s p) out new k
+unfolding setOf atFront
+set-done s p out new k z c = rw (ne-eqb p 0 z) (record { words = c .words ∙ rw (c .sized); counted = sym (c .sized) })
 
 -- the set in force
 
@@ -164,7 +141,7 @@ module _ (g : Settings) (s : List ℕ) (x : Named) (h : Stated x (exitNow g s)) 
   unfolding named
   number-of = ap (λ (y : Exit). y .number) (h .states)
 
-  pub report-done : (a b a′ b′ : List ℕ) (k t : ℕ) → a′ ≡ copied (x .values) a (x .count) → SetWritten (inForceSet g s) b b′ k → t ≡ word s 6 → Written g s a b a′ b′ (record { exit = x .exit; named = x .count; in_force = k; turns = t })
+  pub report-done : (a b a′ b′ : List ℕ) (k t : ℕ) → a′ ≡ copied (x .values) a (x .count) → SetWritten (inForceSet g s) b b′ k → t ≡ turnCount s → Written g s a b a′ b′ (record { exit = x .exit; named = x .count; in_force = k; turns = t })
   unfolding copied atFront figuresOf
   report-done a b a′ b′ k t e w f =
       record {

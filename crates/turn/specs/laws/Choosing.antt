@@ -1,11 +1,11 @@
 -- The paths of src/due.rt.
-use Prim.Native.Nat.{ℕ, _+_, _*_, _-_, _≤_, _<_}
+use Prim.Native.Nat.{ℕ, _≤_, _<_}
 use mathlib.Core.Bool.{Bool, true, false, cond}
-use mathlib.Core.List.{List, [], _∷_, _++_}
+use mathlib.Core.List.{List, [], _∷_}
 use mathlib.Core.Path.{_≡_, refl, sym, ap, _∙_}
 use native.Mathlib.Omega.{arith}
-use lib.ListN.{length, take, drop, length-take, length-drop}
-use lib.Seq.{take-all, take-at, length-take-le}
+use lib.ListN.{length, take, drop}
+use lib.Seq.{take-at}
 use lib.Dec.{eqb, leb}
 use borrow.Author.Tests.{ne-eqb, ltb-true}
 use Rattle.quorum.specs.laws.Bools.{and-left}
@@ -14,9 +14,8 @@ use Rattle.settings.specs.Settings.{quorum, repeat}
 use Rattle.settings.specs.declared.Settings.{Settings}
 use Rattle.quorum.specs.laws.Lowest.{Lowest, lowest-is}
 use Rattle.quorum.specs.Marks.{mark}
-use Rattle.records.specs.Words.{copied}
-use Rattle.records.specs.Words.{word}
-use Rattle.records.specs.Records.{sendSent, commitSent, commitCount, commitSet}
+use Rattle.records.specs.Records.{ownInput, sendSent, commitSent, commitCount, commitSet}
+use Rattle.records.specs.laws.Sets.{SetRoom, SetCopied}
 use Rattle.acts.specs.Acts.{isDue, orAct}
 use Rattle.acts.specs.declared.Act.{Act}
 use Rattle.acts.specs.declared.Act.the-variants.{Idle, InForce, Commit, Send}
@@ -97,49 +96,31 @@ module _ (g : Settings) (s : List ℕ) where
       unfolding setLeader
       is-leader = lowest-is (setLeads (g .weights) s (g .n) q) (g .n) p (sym ep) ne
 
-      pub leader-few : p ≤ 16
-      leader-few = omega (arith, is-leader .high, r .ruled .few)
+      pub set-room : SetRoom s p before
+      set-room = record { size = r .size; sender = omega (arith, is-leader .high, r .ruled .few); room = omega (arith, r .room) }
 
-      pub row-within : 751 + 16 * p + 1 ≤ length s
-      row-within = omega (arith, leader-few, r .size)
-
-      module _ (k : ℕ) (ek : k ≡ commitCount s p) where
-        count-few : k ≤ 16
-        unfolding commitCount
-        count-few = omega arith
-
-        pub row-holds : k ≤ length (take (length s - (751 + 16 * p + 1)) (drop (751 + 16 * p + 1) s))
-        row-holds = simp (length-take, length-drop) (omega (arith, count-few, leader-few, r .size))
-
-        pub array-holds : k ≤ length before
-        array-holds = omega (arith, count-few, r .room)
-
+      module _ (after : List ℕ) (k : ℕ) (c : SetCopied s p before after k) where
         count-some : k ≡ 0 → ⊥
         unfolding setLeads commitHeld
         count-some z =
             let held : commitHeld s p ≡ true = and-left (commitHeld s p) (leb q (setHolders (g .weights) s (g .n) p)) (is-leader .holds) in
             let some : 0 < commitCount s p = ltb-true 0 (commitCount s p) held in
-            omega arith
+            omega (arith, c .counted)
 
-        is-set : leadingSet (g .weights) s (g .n) (repeat g) ≡ take k (drop (751 + 16 * p + 1) s)
-        unfolding leadingSet setOf commitSet
-        is-set = rw (← eq, ← ep, ne-eqb p 0 ne, ← ek)
+        is-set : leadingSet (g .weights) s (g .n) (repeat g) ≡ commitSet s p
+        unfolding leadingSet setOf
+        is-set = rw (← eq, ← ep, ne-eqb p 0 ne)
 
-        pub set-repeated : (after : List ℕ) → after ≡ copied (take (length s - (751 + 16 * p + 1)) (drop (751 + 16 * p + 1) s)) before k → Chosen (commitOf (leadingSet (g .weights) s (g .n) (repeat g))) (leadingSet (g .weights) s (g .n) (repeat g)) (Commit k) after
-        unfolding copied
-        set-repeated after e =
-            let row : List ℕ = drop (751 + 16 * p + 1) s in
-            let whole : take (length s - (751 + 16 * p + 1)) row ≡ row = take-all (length s - (751 + 16 * p + 1)) row (simp length-drop (omega arith)) in
-            let sized : length (take k row) ≡ k = length-take-le k row (rw whole at row-holds) in
-            let is : after ≡ take k row ++ drop k before = rw whole at e in
+        pub set-repeated : Chosen (commitOf (leadingSet (g .weights) s (g .n) (repeat g))) (leadingSet (g .weights) s (g .n) (repeat g)) (Commit k) after
+        set-repeated =
             record {
-              same = sym (commit-some (leadingSet (g .weights) s (g .n) (repeat g)) k (rw is-set sized) count-some);
-              front = λ m t. let q : m ≡ k = cc in rw (q, is, is-set) (take-at (take k row) (drop k before) k sized);
+              same = sym (commit-some (leadingSet (g .weights) s (g .n) (repeat g)) k (rw is-set (c .sized)) count-some);
+              front = λ m t. let q : m ≡ k = cc in rw (q, c .words, is-set) (take-at (commitSet s p) (drop k before) k (c .sized));
             }
 
 pub ruleset in-force-cases = (not-in-force, in-force)
 
-pub ruleset repeat-cases = (none-repeated, leader-few, row-within, row-holds, array-holds, set-repeated)
+pub ruleset repeat-cases = (none-repeated, set-room, set-repeated)
 
 -- an answer of `exits` states the exit: number and set apart
 module _ (r : Named) (x : Exit) (h : Stated r x) where
@@ -184,7 +165,7 @@ module _ (s : List ℕ) (b : Bool) (eb : b ≡ sendSent s) where
   unfolding sendRule
   send-was-sent t = rw (← eb, t)
 
-  pub send-due : (v : ℕ) → b ≡ false → v ≡ word s 5 → Send v ≡ sendRule s
+  pub send-due : (v : ℕ) → b ≡ false → v ≡ ownInput s → Send v ≡ sendRule s
   unfolding sendRule
   send-due v t e = rw (← eb, t, e)
 

@@ -17,7 +17,7 @@ use Rattle.acts.specs.declared.Act.{Act}
 use Rattle.acts.specs.declared.Act.the-variants.{Idle, InForce, Commit, Send, Echo, Ready, Start, Relay, Aux, Move}
 use Rattle.acts.specs.declared.View.{View}
 use Rattle.votes.specs.Votes.{estimate}
-use Rattle.turn.specs.Turn.{counted, entered, decidedAs, newDecision, moveDecided, moved, applied}
+use Rattle.turn.specs.Turn.{withTurnCounted, entered, decidedAs, newDecision, moveDecided, moved, applied}
 use Rattle.turn.specs.Turn as turn
 use Rattle.turn.specs.laws.Frame.{Placed, Spared, length-counted, word-counted-other, word-entered-other, applied-other}
 
@@ -42,11 +42,11 @@ record Came (s : List ℕ) (j r : ℕ) (v : View) (z : Bool) (i : ℕ) : Type 0 
 
 -- counting changes neither coins nor decisions
 module _ (s : List ℕ) (j r : ℕ) (v : View) where
-  coin-counted : coin (counted s) j r ≡ coin s j r
+  coin-counted : coin (withTurnCounted s) j r ≡ coin s j r
   unfolding coin marked
   coin-counted = ap (λ (w : ℕ). mark w r) (word-counted-other s (7 + j) (λ e. omega arith))
 
-  new-counted : newDecision (counted s) j r v ≡ newDecision s j r v
+  new-counted : newDecision (withTurnCounted s) j r v ≡ newDecision s j r v
   unfolding newDecision decided decidedZero decidedOne marked
   new-counted = rw (word-counted-other s 138 (λ e. omega arith), word-counted-other s 139 (λ e. omega arith), coin-counted)
 
@@ -59,15 +59,15 @@ module _ (s : List ℕ) (size : length s ≡ 2048) where
   kept : (t : List ℕ) (k i : ℕ) → word t k ≡ word s k → mark (word t k) i ≡ true → mark (word s k) i ≡ true
   kept t k i e h = sym (ap (λ (w : ℕ). mark w i) e) ∙ h
 
-  set-here : (k j i : ℕ) → k < 2048 → k ≢ 6 → mark (word (setMark (counted s) k j) k) i ≡ true → (mark (word s k) i ≡ true) ⊎ (i ≡ j)
+  set-here : (k j i : ℕ) → k < 2048 → k ≢ 6 → mark (word (setMark (withTurnCounted s) k j) k) i ≡ true → (mark (word s k) i ≡ true) ⊎ (i ≡ j)
   set-here k j i l ne h =
-      let is : word (setMark (counted s) k j) k ≡ withMark (word s k) j = word-setMark-same (counted s) k j (omega (arith, size, length-counted s)) ∙ ap (λ (w : ℕ). withMark w j) (word-counted-other s k ne) in
+      let is : word (setMark (withTurnCounted s) k j) k ≡ withMark (word s k) j = word-setMark-same (withTurnCounted s) k j (omega (arith, size, length-counted s)) ∙ ap (λ (w : ℕ). withMark w j) (word-counted-other s k ne) in
       mark-came (word s k) j i (sym (ap (λ (w : ℕ). mark w i) is) ∙ h)
 
-  set-elsewhere : (k m j i : ℕ) → k ≢ m → k ≢ 6 → mark (word (setMark (counted s) m j) k) i ≡ true → mark (word s k) i ≡ true
-  set-elsewhere k m j i ne away h = kept (setMark (counted s) m j) k i (word-setMark-other (counted s) m j k ne ∙ word-counted-other s k away) h
+  set-elsewhere : (k m j i : ℕ) → k ≢ m → k ≢ 6 → mark (word (setMark (withTurnCounted s) m j) k) i ≡ true → mark (word s k) i ≡ true
+  set-elsewhere k m j i ne away h = kept (setMark (withTurnCounted s) m j) k i (word-setMark-other (withTurnCounted s) m j k ne ∙ word-counted-other s k away) h
 
-  move-came : (j r : ℕ) (v : View) (z : Bool) (i : ℕ) → mark (word (moveDecided (counted s) j r v) (decidedAt z)) i ≡ true → (mark (word s (decidedAt z)) i ≡ true) ⊎ Came s j r v z i
+  move-came : (j r : ℕ) (v : View) (z : Bool) (i : ℕ) → mark (word (moveDecided (withTurnCounted s) j r v) (decidedAt z)) i ≡ true → (mark (word s (decidedAt z)) i ≡ true) ⊎ Came s j r v z i
   unfolding moveDecided decidedAs
   move-came j r v z i h = go (newDecision s j r v) refl (eqb (estimate (coin s j r) v) 0) refl z (rw (new-counted s j r v, coin-counted s j r v) at h)
     where
@@ -75,19 +75,19 @@ module _ (s : List ℕ) (size : length s ≡ 2048) where
       of w e f (inl x) = inl x
       of w e f (inr x) = inr (record { vote = x; new = e; value = f })
 
-      go : (n : Bool) → newDecision s j r v ≡ n → (w : Bool) → eqb (estimate (coin s j r) v) 0 ≡ w → (z : Bool) → mark (word (cond n (setMark (counted s) (cond w decidedZeroAt decidedOneAt) j) (counted s)) (decidedAt z)) i ≡ true → (mark (word s (decidedAt z)) i ≡ true) ⊎ Came s j r v z i
+      go : (n : Bool) → newDecision s j r v ≡ n → (w : Bool) → eqb (estimate (coin s j r) v) 0 ≡ w → (z : Bool) → mark (word (cond n (setMark (withTurnCounted s) (cond w decidedZeroAt decidedOneAt) j) (withTurnCounted s)) (decidedAt z)) i ≡ true → (mark (word s (decidedAt z)) i ≡ true) ⊎ Came s j r v z i
       go true e true f true g = of true e f (set-here 138 j i (omega arith) (λ q. omega arith) g)
       go true e true f false g = inl (set-elsewhere 139 138 j i (λ q. omega arith) (λ q. omega arith) g)
       go true e false f true g = inl (set-elsewhere 138 139 j i (λ q. omega arith) (λ q. omega arith) g)
       go true e false f false g = of false e f (set-here 139 j i (omega arith) (λ q. omega arith) g)
-      go false e w f z g = inl (kept (counted s) (decidedAt z) i (word-counted-other s (decidedAt z) (away z 6 (omega arith))) g)
+      go false e w f z g = inl (kept (withTurnCounted s) (decidedAt z) i (word-counted-other s (decidedAt z) (away z 6 (omega arith))) g)
 
   module _ (z : Bool) (i : ℕ) where
     other : (a : Act) → Spared a (decidedAt z) → mark (word (applied s a) (decidedAt z)) i ≡ true → (mark (word s (decidedAt z)) i ≡ true) ⊎ DecidedBy s a i z
     other a p h = inl (kept (applied s a) (decidedAt z) i (applied-other s a (decidedAt z) (away z 6 (omega arith)) p) h)
 
     decided-came : (a : Act) → Placed a → mark (word (applied s a) (decidedAt z)) i ≡ true → (mark (word s (decidedAt z)) i ≡ true) ⊎ DecidedBy s a i z
-    unfolding applied turn.marked moved
+    unfolding applied turn.done moved
     decided-came Idle p h = inl h
     decided-came InForce p h = other InForce (away z 7 (omega arith)) h
     decided-came (Commit k) p h = other (Commit k) (away z 7 (omega arith)) h
@@ -100,10 +100,10 @@ module _ (s : List ℕ) (size : length s ≡ 2048) where
     decided-came (Move j r v) p h = of (move-came j r v z i (before h))
       where
         b : ℕ
-        b = estimate (coin (counted s) j r) v
+        b = estimate (coin (withTurnCounted s) j r) v
 
-        before : mark (word (entered (moveDecided (counted s) j r v) j (r + 1) b) (decidedAt z)) i ≡ true → mark (word (moveDecided (counted s) j r v) (decidedAt z)) i ≡ true
-        before g = sym (ap (λ (w : ℕ). mark w i) (word-entered-other (moveDecided (counted s) j r v) j (r + 1) b (decidedAt z) (away z (23 + j) (omega arith)) (away z (39 + j) (omega arith)))) ∙ g
+        before : mark (word (entered (moveDecided (withTurnCounted s) j r v) j (r + 1) b) (decidedAt z)) i ≡ true → mark (word (moveDecided (withTurnCounted s) j r v) (decidedAt z)) i ≡ true
+        before g = sym (ap (λ (w : ℕ). mark w i) (word-entered-other (moveDecided (withTurnCounted s) j r v) j (r + 1) b (decidedAt z) (away z (23 + j) (omega arith)) (away z (39 + j) (omega arith)))) ∙ g
 
         of : (mark (word s (decidedAt z)) i ≡ true) ⊎ Came s j r v z i → (mark (word s (decidedAt z)) i ≡ true) ⊎ DecidedBy s (Move j r v) i z
         of (inl x) = inl x

@@ -20,7 +20,7 @@ use Rattle.acts.specs.declared.Act.the-variants.{Idle, InForce, Commit, Send, E
 use Rattle.acts.specs.declared.View.{View}
 use Rattle.votes.specs.Votes.{estimate}
 use Rattle.turn.specs.laws.Told.{ActTold}
-use Rattle.turn.specs.Turn.{counted, entered, decidedAs, newDecision, moveDecided, moved, marked, applied}
+use Rattle.turn.specs.Turn.{withTurnCounted, entered, decidedAs, newDecision, moveDecided, moved, done, applied}
 
 -- word j is none of those that an act marks
 abbrev pub Spared : Act → ℕ → Type 0
@@ -101,39 +101,39 @@ module _ (s : List ℕ) (i r : ℕ) (v : View) where
       go false b = refl
 
 -- what is marked
-pub length-marked : (s : List ℕ) (a : Act) → length (marked s a) ≡ length s
-unfolding marked moved
-length-marked s Idle = refl
-length-marked s InForce = length-setMark s _ _
-length-marked s (Commit k) = length-setMark s _ _
-length-marked s (Send v) = length-setMark s _ _
-length-marked s (Echo i v) = length-setMark s _ _
-length-marked s (Ready i v) = length-setMark s _ _
-length-marked s (Start i b) = length-entered s i 1 b
-length-marked s (Relay i r b) = length-setMark s _ _
-length-marked s (Aux i r b) = length-setMark s _ _
-length-marked s (Move i r v) = length-entered (moveDecided s i r v) i (r + 1) _ ∙ length-decided s i r v
+pub length-done : (s : List ℕ) (a : Act) → length (done s a) ≡ length s
+unfolding done moved
+length-done s Idle = refl
+length-done s InForce = length-setMark s _ _
+length-done s (Commit k) = length-setMark s _ _
+length-done s (Send v) = length-setMark s _ _
+length-done s (Echo i v) = length-setMark s _ _
+length-done s (Ready i v) = length-setMark s _ _
+length-done s (Start i b) = length-entered s i 1 b
+length-done s (Relay i r b) = length-setMark s _ _
+length-done s (Aux i r b) = length-setMark s _ _
+length-done s (Move i r v) = length-entered (moveDecided s i r v) i (r + 1) _ ∙ length-decided s i r v
 
-pub word-marked-other : (s : List ℕ) (a : Act) (j : ℕ) → Spared a j → word (marked s a) j ≡ word s j
-unfolding marked moved
-word-marked-other s Idle j h = refl
-word-marked-other s InForce j h = word-setMark-other s 7 _ j h
-word-marked-other s (Commit k) j h = word-setMark-other s 7 _ j h
-word-marked-other s (Send v) j h = word-setMark-other s 7 _ j h
-word-marked-other s (Echo i v) j h = word-setMark-other s 136 i j h
-word-marked-other s (Ready i v) j h = word-setMark-other s 137 i j h
-word-marked-other s (Start i b) j h = word-entered-other s i 1 b j (h .0) (h .1)
-word-marked-other s (Relay i r b) j h = word-setMark-other s (39 + i) _ j h
-word-marked-other s (Aux i r b) j h = word-setMark-other s (55 + i) r j h
-word-marked-other s (Move i r v) j h = word-entered-other (moveDecided s i r v) i (r + 1) _ j (h .0) (h .1) ∙ word-decided-other s i r v j (h .2) (h .3)
+pub word-done-other : (s : List ℕ) (a : Act) (j : ℕ) → Spared a j → word (done s a) j ≡ word s j
+unfolding done moved
+word-done-other s Idle j h = refl
+word-done-other s InForce j h = word-setMark-other s 7 _ j h
+word-done-other s (Commit k) j h = word-setMark-other s 7 _ j h
+word-done-other s (Send v) j h = word-setMark-other s 7 _ j h
+word-done-other s (Echo i v) j h = word-setMark-other s 136 i j h
+word-done-other s (Ready i v) j h = word-setMark-other s 137 i j h
+word-done-other s (Start i b) j h = word-entered-other s i 1 b j (h .0) (h .1)
+word-done-other s (Relay i r b) j h = word-setMark-other s (39 + i) _ j h
+word-done-other s (Aux i r b) j h = word-setMark-other s (55 + i) r j h
+word-done-other s (Move i r v) j h = word-entered-other (moveDecided s i r v) i (r + 1) _ j (h .0) (h .1) ∙ word-decided-other s i r v j (h .2) (h .3)
 
 -- what is counted
-pub length-counted : (s : List ℕ) → length (counted s) ≡ length s
-unfolding counted
+pub length-counted : (s : List ℕ) → length (withTurnCounted s) ≡ length s
+unfolding withTurnCounted
 length-counted s = length-put s turnsAt (word s turnsAt + 1)
 
-pub word-counted-other : (s : List ℕ) (j : ℕ) → j ≢ 6 → word (counted s) j ≡ word s j
-unfolding counted
+pub word-counted-other : (s : List ℕ) (j : ℕ) → j ≢ 6 → word (withTurnCounted s) j ≡ word s j
+unfolding withTurnCounted
 word-counted-other s j h = word-put-other s turnsAt (word s turnsAt + 1) j h
 
 -- no act but the count itself changes the count
@@ -193,15 +193,15 @@ module _ (s : List ℕ) (a : Act) where
   unfolding applied
   length-applied = go (isDue a)
     where
-      go : (b : Bool) → length (cond b (marked (counted s) a) s) ≡ length s
-      go true = length-marked (counted s) a ∙ length-counted s
+      go : (b : Bool) → length (cond b (done (withTurnCounted s) a) s) ≡ length s
+      go true = length-done (withTurnCounted s) a ∙ length-counted s
       go false = refl
 
   pub applied-idle : isDue a ≡ false → applied s a ≡ s
   unfolding applied
   applied-idle e = rw e
 
-  pub applied-due : isDue a ≡ true → applied s a ≡ marked (counted s) a
+  pub applied-due : isDue a ≡ true → applied s a ≡ done (withTurnCounted s) a
   unfolding applied
   applied-due e = rw e
 
@@ -210,8 +210,8 @@ module _ (s : List ℕ) (a : Act) where
   unfolding applied
   applied-other j h k = go (isDue a)
     where
-      go : (b : Bool) → word (cond b (marked (counted s) a) s) j ≡ word s j
-      go true = word-marked-other (counted s) a j k ∙ word-counted-other s j h
+      go : (b : Bool) → word (cond b (done (withTurnCounted s) a) s) j ≡ word s j
+      go true = word-done-other (withTurnCounted s) a j k ∙ word-counted-other s j h
       go false = refl
 
   module _ (p : Placed a) where
@@ -223,8 +223,8 @@ module _ (s : List ℕ) (a : Act) where
 
     -- "the number of turns since opening that did not answer idle"
     pub applied-turns : 6 < length s → isDue a ≡ true → word (applied s a) turnsAt ≡ word s turnsAt + 1
-    unfolding counted
+    unfolding withTurnCounted
     applied-turns l e =
         ap (λ (t : List ℕ). word t 6) (applied-due e)
-        ∙ word-marked-other (counted s) a 6 (spares-turns a p)
+        ∙ word-done-other (withTurnCounted s) a 6 (spares-turns a p)
         ∙ word-put-same s turnsAt (word s turnsAt + 1) l

@@ -19,7 +19,7 @@ use Rattle.acts.specs.declared.Act.{Act}
 use Rattle.acts.specs.declared.Act.the-variants.{Idle, InForce, Commit, Send, Echo, Ready, Start, Relay, Aux, Move}
 use Rattle.acts.specs.declared.View.{View}
 use Rattle.votes.specs.Votes.{estimate}
-use Rattle.turn.specs.Turn.{counted, entered, decidedAs, newDecision, moveDecided, moved, applied}
+use Rattle.turn.specs.Turn.{withTurnCounted, entered, decidedAs, newDecision, moveDecided, moved, applied}
 use Rattle.turn.specs.Turn as turn
 use Rattle.turn.specs.laws.Frame.{Placed, length-counted, word-counted-other}
 
@@ -59,59 +59,59 @@ module _ (k : ℕ) (m : MarkWord k) where
       go true = keeps-mark k s (cond (eqb (estimate (coin s i r) v) 0) decidedZeroAt decidedOneAt) i p h
       go false = h
 
-  keeps-marked : (s : List ℕ) (a : Act) → Placed a → Keeps k s (turn.marked s a)
-  unfolding turn.marked moved
-  keeps-marked s Idle x p h = h
-  keeps-marked s InForce x p h = keeps-mark k s flagsAt closedMark p h
-  keeps-marked s (Commit n) x p h = keeps-mark k s flagsAt commitSentMark p h
-  keeps-marked s (Send v) x p h = keeps-mark k s flagsAt sendSentMark p h
-  keeps-marked s (Echo i v) x p h = keeps-mark k s echoSentAt i p h
-  keeps-marked s (Ready i v) x p h = keeps-mark k s readySentAt i p h
-  keeps-marked s (Start i b) x p h = keeps-entered s i 1 b (x .0) (x .1) p h
-  keeps-marked s (Relay i r b) x p h = keeps-mark k s (estSentAt i) (estSentMark r b) p h
-  keeps-marked s (Aux i r b) x p h = keeps-mark k s (auxSentAt i) r p h
-  keeps-marked s (Move i r v) x p h = keeps-entered (moveDecided s i r v) i (r + 1) (estimate (coin s i r) v) (x .0) (x .1) p (keeps-decided s i r v p h)
+  keeps-done : (s : List ℕ) (a : Act) → Placed a → Keeps k s (turn.done s a)
+  unfolding turn.done moved
+  keeps-done s Idle x p h = h
+  keeps-done s InForce x p h = keeps-mark k s flagsAt closedMark p h
+  keeps-done s (Commit n) x p h = keeps-mark k s flagsAt commitSentMark p h
+  keeps-done s (Send v) x p h = keeps-mark k s flagsAt sendSentMark p h
+  keeps-done s (Echo i v) x p h = keeps-mark k s echoSentAt i p h
+  keeps-done s (Ready i v) x p h = keeps-mark k s readySentAt i p h
+  keeps-done s (Start i b) x p h = keeps-entered s i 1 b (x .0) (x .1) p h
+  keeps-done s (Relay i r b) x p h = keeps-mark k s (estSentAt i) (estSentMark r b) p h
+  keeps-done s (Aux i r b) x p h = keeps-mark k s (auxSentAt i) r p h
+  keeps-done s (Move i r v) x p h = keeps-entered (moveDecided s i r v) i (r + 1) (estimate (coin s i r) v) (x .0) (x .1) p (keeps-decided s i r v p h)
 
   -- marks never vanish
   pub keeps-applied : (s : List ℕ) (a : Act) → Placed a → Keeps k s (applied s a)
   unfolding applied
   keeps-applied s a x p h = go (isDue a)
     where
-      go : (b : Bool) → mark (word (cond b (turn.marked (counted s) a) s) k) p ≡ true
-      go true = keeps-marked (counted s) a x p (keeps-same k s (counted s) (word-counted-other s k (m .not-turns)) p h)
+      go : (b : Bool) → mark (word (cond b (turn.done (withTurnCounted s) a) s) k) p ≡ true
+      go true = keeps-done (withTurnCounted s) a x p (keeps-same k s (withTurnCounted s) (word-counted-other s k (m .not-turns)) p h)
       go false = h
 
 -- what was sent is marked so
 module _ (s : List ℕ) (size : length s ≡ 2048) where
-  set-here : (k p : ℕ) → k < 2048 → 1 ≤ p → p ≤ 64 → marked (setMark (counted s) k p) k p ≡ true
+  set-here : (k p : ℕ) → k < 2048 → 1 ≤ p → p ≤ 64 → marked (setMark (withTurnCounted s) k p) k p ≡ true
   unfolding marked
   set-here k p l low high =
-      ap (λ (w : ℕ). mark w p) (word-setMark-same (counted s) k p (omega (arith, size, length-counted s))) ∙ mark-same (word (counted s) k) p low high
+      ap (λ (w : ℕ). mark w p) (word-setMark-same (withTurnCounted s) k p (omega (arith, size, length-counted s))) ∙ mark-same (word (withTurnCounted s) k) p low high
 
   pub closed-marked : closed (applied s InForce) ≡ true
-  unfolding applied turn.marked closed
+  unfolding applied turn.done closed
   closed-marked = set-here flagsAt closedMark (omega arith) (omega arith) (omega arith)
 
   pub send-marked : (v : ℕ) → sendSent (applied s (Send v)) ≡ true
-  unfolding applied turn.marked sendSent
+  unfolding applied turn.done sendSent
   send-marked v = set-here flagsAt sendSentMark (omega arith) (omega arith) (omega arith)
 
   pub commit-marked : (k : ℕ) → commitSent (applied s (Commit k)) ≡ true
-  unfolding applied turn.marked commitSent
+  unfolding applied turn.done commitSent
   commit-marked k = set-here flagsAt commitSentMark (omega arith) (omega arith) (omega arith)
 
   pub echo-marked : (i v : ℕ) → 1 ≤ i → i ≤ 16 → echoSent (applied s (Echo i v)) i ≡ true
-  unfolding applied turn.marked echoSent
+  unfolding applied turn.done echoSent
   echo-marked i v low high = set-here echoSentAt i (omega arith) low (omega arith)
 
   pub ready-marked : (i v : ℕ) → 1 ≤ i → i ≤ 16 → readySent (applied s (Ready i v)) i ≡ true
-  unfolding applied turn.marked readySent
+  unfolding applied turn.done readySent
   ready-marked i v low high = set-here readySentAt i (omega arith) low (omega arith)
 
   pub relay-marked : (i r b : ℕ) → i ≤ 16 → 1 ≤ r → r ≤ 32 → b ≤ 1 → estSent (applied s (Relay i r b)) i r b ≡ true
-  unfolding applied turn.marked estSent
+  unfolding applied turn.done estSent
   relay-marked i r b high low last bit = set-here (estSentAt i) (estSentMark r b) (omega arith) (omega arith) (omega arith)
 
   pub aux-marked : (i r b : ℕ) → i ≤ 16 → 1 ≤ r → r ≤ 32 → auxSent (applied s (Aux i r b)) i r ≡ true
-  unfolding applied turn.marked auxSent
+  unfolding applied turn.done auxSent
   aux-marked i r b high low last = set-here (auxSentAt i) r (omega arith) low (omega arith)

@@ -109,7 +109,7 @@ module _ (s : List ℕ) (size : length s ≡ 2048) (g : Settings) (ruled : Ruled
       }
 
   echo-act : (i v : ℕ) → potential (g .n) (applied s (Echo i v)) ≤ potential (g .n) s + 1
-  unfolding applied turn.marked
+  unfolding applied turn.done
   echo-act i v =
       part-one s t (g .n) i (applied-other s a 7 (λ z. omega arith) (λ z. omega arith))
       (λ j lo hi ne. other j ne (votes j lo hi))
@@ -136,7 +136,7 @@ module _ (s : List ℕ) (size : length s ≡ 2048) (g : Settings) (ruled : Ruled
       here x = echo-one s t i ready (x .est) (x .aux) (x .round)
 
   ready-act : (i v : ℕ) → potential (g .n) (applied s (Ready i v)) ≤ potential (g .n) s + 1
-  unfolding applied turn.marked
+  unfolding applied turn.done
   ready-act i v =
       part-one s t (g .n) i (applied-other s (Ready i v) 7 (λ z. omega arith) (λ z. omega arith))
       (λ j lo hi ne. other j ne (votes j lo hi))
@@ -161,7 +161,7 @@ module _ (s : List ℕ) (size : length s ≡ 2048) (g : Settings) (ruled : Ruled
       here x = ready-one s t i echo (x .est) (x .aux) (x .round)
 
   pub act-by-one : (a : Act) → ActTold g s a → potential (g .n) (applied s a) ≤ potential (g .n) s + 1
-  unfolding applied turn.marked
+  unfolding applied turn.done
   act-by-one Idle h = omega arith
   act-by-one InForce h = flag-one s _ (g .n) 1 (counted-mark s size 7 1 (omega arith) (λ z. omega arith)) (flags-part InForce (λ j z. z))
   act-by-one (Commit k) h = flag-one s _ (g .n) 3 (counted-mark s size 7 3 (omega arith) (λ z. omega arith)) (flags-part (Commit k) (λ j z. z))

@@ -23,7 +23,7 @@ use Rattle.acts.specs.declared.View.the-variants.{Only, Both}
 use Rattle.votes.specs.Votes.{estimate, coinValue}
 use Rattle.votes.specs.laws.Told.{Shown}
 use Rattle.turn.specs.laws.Told.{ActTold}
-use Rattle.turn.specs.Turn.{counted, entered, moveDecided, moved, applied}
+use Rattle.turn.specs.Turn.{withTurnCounted, entered, moveDecided, moved, applied}
 use Rattle.turn.specs.Turn as turn
 use Rattle.turn.specs.laws.Frame.{Spared, Placed, told-placed, length-counted, word-counted-other, length-decided, word-decided-other, word-entered-other, applied-other}
 use Rattle.turn.specs.laws.Marks.{MarkWord, keeps-applied, closed-marked, send-marked, commit-marked, echo-marked, ready-marked, relay-marked, aux-marked}
@@ -82,18 +82,18 @@ module _ (s u : List ℕ) (size : length u ≡ 2048) (same : Still s u) (i r b :
       }
 
 module _ (s : List ℕ) (size : length s ≡ 2048) where
-  counted-still : Still s (counted s)
+  counted-still : Still s (withTurnCounted s)
   counted-still =
       record {
         rounds = λ j lo hi. word-counted-other s (roundAt j) (λ e. omega arith);
         ests = λ j lo hi. word-counted-other s (estSentAt j) (λ e. omega arith);
       }
 
-  decided-still : (i r : ℕ) (v : View) → Still s (moveDecided (counted s) i r v)
+  decided-still : (i r : ℕ) (v : View) → Still s (moveDecided (withTurnCounted s) i r v)
   decided-still i r v =
       record {
-        rounds = λ j lo hi. word-decided-other (counted s) i r v (roundAt j) (λ e. omega arith) (λ e. omega arith) ∙ word-counted-other s (roundAt j) (λ e. omega arith);
-        ests = λ j lo hi. word-decided-other (counted s) i r v (estSentAt j) (λ e. omega arith) (λ e. omega arith) ∙ word-counted-other s (estSentAt j) (λ e. omega arith);
+        rounds = λ j lo hi. word-decided-other (withTurnCounted s) i r v (roundAt j) (λ e. omega arith) (λ e. omega arith) ∙ word-counted-other s (roundAt j) (λ e. omega arith);
+        ests = λ j lo hi. word-decided-other (withTurnCounted s) i r v (estSentAt j) (λ e. omega arith) (λ e. omega arith) ∙ word-counted-other s (estSentAt j) (λ e. omega arith);
       }
 
   spared-still : (a : Act) → ((j : ℕ) → 1 ≤ j → j ≤ 16 → Spared a (roundAt j) × Spared a (estSentAt j)) → Still s (applied s a)
@@ -104,31 +104,31 @@ module _ (s : List ℕ) (size : length s ≡ 2048) where
       }
 
   -- a mark that is set in a turn that counts
-  pub counted-mark : (k p : ℕ) → k < 2048 → k ≢ 6 → word (setMark (counted s) k p) k ≡ withMark (word s k) p
+  pub counted-mark : (k p : ℕ) → k < 2048 → k ≢ 6 → word (setMark (withTurnCounted s) k p) k ≡ withMark (word s k) p
   counted-mark k p l ne =
-      word-setMark-same (counted s) k p (omega (arith, size, length-counted s))
+      word-setMark-same (withTurnCounted s) k p (omega (arith, size, length-counted s))
       ∙ ap (λ (w : ℕ). withMark w p) (word-counted-other s k ne)
 
   pub relay-marks : (i r b : ℕ) → i ≤ 16 → word (applied s (Relay i r b)) (estSentAt i) ≡ withMark (word s (estSentAt i)) (estSentMark r b)
-  unfolding applied turn.marked
+  unfolding applied turn.done
   relay-marks i r b high = counted-mark (estSentAt i) (estSentMark r b) (omega arith) (λ e. omega arith)
 
   module _ (g : Settings) (ruled : Ruled g) where
     pub start-entry : (i b : ℕ) → ActTold g s (Start i b) → Entry i 0 b s (applied s (Start i b))
-    unfolding applied turn.marked round
+    unfolding applied turn.done round
     start-entry i b h =
         let before : word s (roundAt i) ≡ 0 = omega (arith, h .1 .before) in
-        entered-entry s (counted s) (length-counted s ∙ size) counted-still i 0 b (h .0 .low) (omega (arith, h .0 .high, ruled .few)) (yes (omega arith)) before (λ l. absurd (omega arith)) (omega arith) (h .1 .bit)
+        entered-entry s (withTurnCounted s) (length-counted s ∙ size) counted-still i 0 b (h .0 .low) (omega (arith, h .0 .high, ruled .few)) (yes (omega arith)) before (λ l. absurd (omega arith)) (omega arith) (h .1 .bit)
 
     abbrev pub moveBit : ℕ → ℕ → View → ℕ
-    moveBit i r v = estimate (coin (counted s) i r) v
+    moveBit i r v = estimate (coin (withTurnCounted s) i r) v
 
     pub move-entry : (i r : ℕ) (v : View) → ActTold g s (Move i r v) → Dec (r < 32) → Entry i r (moveBit i r v) s (applied s (Move i r v))
-    unfolding applied turn.marked moved round auxSent marked
+    unfolding applied turn.done moved round auxSent marked
     move-entry i r v h d =
         let before : word s (roundAt i) ≡ r = omega (arith, h .1 .current, h .1 .high) in
-        entered-entry s (moveDecided (counted s) i r v) (length-decided (counted s) i r v ∙ length-counted s ∙ size) (decided-still i r v)
-        i r (moveBit i r v) (h .0 .low) (omega (arith, h .0 .high, ruled .few)) d before (λ l. h .1 .sent) (h .1 .high) (shown-bit g s i r (coin (counted s) i r) v (h .1 .shown))
+        entered-entry s (moveDecided (withTurnCounted s) i r v) (length-decided (withTurnCounted s) i r v ∙ length-counted s ∙ size) (decided-still i r v)
+        i r (moveBit i r v) (h .0 .low) (omega (arith, h .0 .high, ruled .few)) d before (λ l. h .1 .sent) (h .1 .high) (shown-bit g s i r (coin (withTurnCounted s) i r) v (h .1 .shown))
 
     -- the rounds and the ESTs after an act
     pub act-change : (a : Act) → ActTold g s a → Change s (applied s a)

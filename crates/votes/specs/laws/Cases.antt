@@ -1,8 +1,8 @@
 -- The paths of the code: what each answer is by the results of the calls before it and the tests that led to it.
-use Prim.Native.Nat.{ℕ, _+_, _*_, _/_, _^_, min, _≤_, _<_}
+use Prim.Native.Nat.{ℕ, _+_, _/_, _^_, min, _≤_, _<_}
 use mathlib.Core.Bool.{Bool, true, false, _&&_, _||_}
 use mathlib.Core.List.{List}
-use mathlib.Core.Path.{_≡_, ap, ap₂, _∙_}
+use mathlib.Core.Path.{_≡_, ap₂, _∙_}
 use native.Mathlib.Omega.{arith}
 use lib.Bits.{bitOr}
 use lib.Dec.{eqb}
@@ -15,36 +15,23 @@ use Rattle.quorum.specs.laws.MarkMasks.{mark-or, mark-shifted}
 use Rattle.quorum.specs.Total.{share}
 use Rattle.quorum.specs.Weights.{weightOf, weigh}
 use Rattle.quorum.specs.laws.Total.{total-agree}
-use Rattle.records.specs.Layout.{voteAt, decidedOneAt}
-use Rattle.records.specs.Words.{word, marked}
-use Rattle.records.specs.Records.{estHeld, auxHeld, decidedOne, round, estSent, auxSent, coinKnown}
+use Rattle.records.specs.Layout.{auxGroup}
+use Rattle.records.specs.Words.{marked}
+use Rattle.records.specs.laws.MarkWords.{decidedOneMarks, voteMarks}
+use Rattle.records.specs.Records.{auxHeld, decidedOne, round, estSent, auxSent, coinKnown}
 use Rattle.acts.specs.Acts.{isDue, orAct, firstAct}
 use Rattle.acts.specs.declared.Act.{Act}
 use Rattle.acts.specs.declared.Act.the-variants.{Idle, Start, Relay, Aux, Move}
 use Rattle.acts.specs.declared.View.{View}
 use Rattle.acts.specs.declared.View.the-variants.{Only}
-use Rattle.votes.specs.Votes.{estCount, auxCount, votesDecidedOne, startAct, relayValue, relayRound, relayAct, running, accepted, auxValue, auxAct}
+use Rattle.votes.specs.Votes.{estCount, votesDecidedOne, startAct, relayValue, relayRound, relayAct, running, accepted, auxValue, auxAct}
 use Rattle.votes.specs.Votes.{moveAct, roundAct, voteAct, coinValue, decides}
 use Rattle.votes.specs.laws.Given.{carriesGiven, carriersGiven, viewGiven, moveGiven, move-given}
 
--- the marks counted of a word that was read
-read-counted : (w v base n c ws : ℕ) → w ≡ v → c ≡ weigh ws (λ p. mark w (base + p)) n → c ≡ weigh ws (λ p. mark v (base + p)) n
-read-counted w v base n c ws e h = h ∙ ap (λ (x : ℕ). weigh ws (λ p. mark x (base + p)) n) e
-
-module _ (g : Settings) (s : List ℕ) where
-  module _ (i r b w c : ℕ) (e : w ≡ word s (voteAt i r)) where
-    pub est-counted : c ≡ weigh (g .weights) (λ p. mark w (16 * b + p)) (g .n) → c ≡ estCount g s i r b
-    unfolding estCount estHeld marked
-    est-counted h = read-counted w (word s (voteAt i r)) (16 * b) (g .n) c (g .weights) e h
-
-    pub aux-counted : c ≡ weigh (g .weights) (λ p. mark w (32 + 16 * b + p)) (g .n) → c ≡ auxCount g s i r b
-    unfolding auxCount auxHeld marked
-    aux-counted h = read-counted w (word s (voteAt i r)) (32 + 16 * b) (g .n) c (g .weights) e h
-
-  pub ones-counted : (w c : ℕ) → w ≡ word s decidedOneAt → c ≡ weigh (g .weights) (λ p. mark w (0 + p)) (g .n) → c ≡ votesDecidedOne g s
-  unfolding votesDecidedOne decidedOne marked
-  ones-counted w c e h =
-      h ∙ total-agree (weightOf (g .weights)) (λ p. mark w (0 + p)) (decidedOne s) (g .n) (λ p a b. let z : 0 + p ≡ p = omega arith in rw (e, z))
+pub ones-counted : (g : Settings) (s : List ℕ) (w c : ℕ) → w ≡ decidedOneMarks s → c ≡ weigh (g .weights) (λ p. mark w (0 + p)) (g .n) → c ≡ votesDecidedOne g s
+unfolding votesDecidedOne decidedOne marked
+ones-counted g s w c e h =
+    h ∙ total-agree (weightOf (g .weights)) (λ p. mark w (0 + p)) (decidedOne s) (g .n) (λ p a b. let z : 0 + p ≡ p = omega arith in rw (e, z))
 
 -- a first act that is due, and a second after a first that is not
 pub due-first : (a b x : Act) (t : Bool) → x ≡ a → t ≡ isDue x → t ≡ true → x ≡ orAct a b
@@ -143,17 +130,17 @@ group-mark : (a : Bool) (w base p : ℕ) → 1 ≤ p → mark (share a (w / 2 ^ 
 group-mark true w base p lo = mark-shifted w base p lo
 group-mark false w base p lo = mark-zero p
 
-pub carriers-weighed : (g : Settings) (s : List ℕ) (i r : ℕ) (a0 a1 : Bool) (w x y c : ℕ) → w ≡ word s (voteAt i r) → x ≡ share a0 (w / 4294967296) → y ≡ share a1 (w / 281474976710656) → c ≡ weigh (g .weights) (λ p. mark (bitOr x y) (0 + p)) (g .n) → c ≡ carriersGiven g s i r a0 a1
+pub carriers-weighed : (g : Settings) (s : List ℕ) (i r : ℕ) (a0 a1 : Bool) (w z o x y c : ℕ) → w ≡ voteMarks s i r → z ≡ w / 2 ^ auxGroup 0 → o ≡ w / 2 ^ auxGroup 1 → x ≡ share a0 z → y ≡ share a1 o → c ≡ weigh (g .weights) (λ p. mark (bitOr x y) (0 + p)) (g .n) → c ≡ carriersGiven g s i r a0 a1
 unfolding carriersGiven carriesGiven auxHeld marked
-carriers-weighed g s i r a0 a1 w x y c e z o h =
+carriers-weighed g s i r a0 a1 w z o x y c e ez eo ex ey h =
     h ∙ total-agree (weightOf (g .weights)) (λ p. mark (bitOr x y) (0 + p)) (carriesGiven s i r a0 a1) (g .n) (λ p lo hi. at p lo)
   where
     at : (p : ℕ) → 1 ≤ p → mark (bitOr x y) (0 + p) ≡ carriesGiven s i r a0 a1 p
     at p lo =
         let same : 0 + p ≡ p = omega arith in
-        rw (same, z, o, ← e)
-        (mark-or (share a0 (w / 4294967296)) (share a1 (w / 281474976710656)) p
-        ∙ ap₂ (λ (b d : Bool). b || d) (group-mark a0 w 32 p lo) (group-mark a1 w 48 p lo))
+        rw (same, ex, ey, ez, eo, ← e)
+        (mark-or (share a0 (w / 2 ^ auxGroup 0)) (share a1 (w / 2 ^ auxGroup 1)) p
+        ∙ ap₂ (λ (b d : Bool). b || d) (group-mark a0 w (auxGroup 0) p lo) (group-mark a1 w (auxGroup 1) p lo))
 
 module _ (g : Settings) (s : List ℕ) (i r : ℕ) (a0 a1 : Bool) (q c : ℕ) (f : q ≡ voteQuorum g) (d : c ≡ carriersGiven g s i r a0 a1) where
   pub move-few : c < q → Idle ≡ moveGiven g s i r a0 a1

@@ -22,7 +22,7 @@ use Rattle.wire.specs.declared.Message.{Message}
 use Rattle.wire.specs.declared.Message.the-variants as message
 use Rattle.delivery.specs.Delivery.{recorded}
 use Rattle.delivery.specs.laws.Frame.{InLayout}
-use Rattle.turn.specs.Turn.{counted, entered, decidedAs, newDecision, moveDecided, moved, marked, applied}
+use Rattle.turn.specs.Turn.{withTurnCounted, entered, decidedAs, newDecision, moveDecided, moved, done, applied}
 use Rattle.turn.specs.laws.Frame.{Placed}
 use Rattle.unweighted.specs.laws.Opening.{put-swap, store-put}
 use Rattle.unweighted.specs.laws.apart.Records.{word-apart, coin-apart, decided-apart}
@@ -52,8 +52,8 @@ module _ (x : ℕ) where
       ∙ put-apart (storeOf (valueAt v) (commitRowAt p) s k) (commitCountAt p) k (λ e. omega arith)
 
   -- ---- an act of one of the votes 1 to 16
-  counted-apart : (s : List ℕ) → counted (put s weightsAt x) ≡ put (counted s) weightsAt x
-  unfolding counted
+  counted-apart : (s : List ℕ) → withTurnCounted (put s weightsAt x) ≡ put (withTurnCounted s) weightsAt x
+  unfolding withTurnCounted
   counted-apart s = ap (λ (w : ℕ). put (put s weightsAt x) turnsAt (w + 1)) (word-apart s x turnsAt (λ e. omega arith)) ∙ put-apart s turnsAt _ (λ e. omega arith)
 
   entered-apart : (s : List ℕ) (i r b : ℕ) → i ≤ 16 → entered (put s weightsAt x) i r b ≡ put (entered s i r b) weightsAt x
@@ -86,23 +86,23 @@ module _ (x : ℕ) where
       rw (decision-apart s i r v high, coin-apart s x i high r)
       (entered-apart (moveDecided s i r v) i (r + 1) (estimate (coin s i r) v) high)
 
-  marked-apart : (s : List ℕ) (a : Act) → Placed a → marked (put s weightsAt x) a ≡ put (marked s a) weightsAt x
-  unfolding marked
-  marked-apart s Idle h = refl
-  marked-apart s InForce h = mark-apart s flagsAt closedMark (λ e. omega arith)
-  marked-apart s (Commit k) h = mark-apart s flagsAt commitSentMark (λ e. omega arith)
-  marked-apart s (Send v) h = mark-apart s flagsAt sendSentMark (λ e. omega arith)
-  marked-apart s (Echo i v) h = mark-apart s echoSentAt i (λ e. omega arith)
-  marked-apart s (Ready i v) h = mark-apart s readySentAt i (λ e. omega arith)
-  marked-apart s (Start i b) h = entered-apart s i 1 b (h .1)
-  marked-apart s (Relay i r b) h = mark-apart s (estSentAt i) (estSentMark r b) (λ e. omega arith)
-  marked-apart s (Aux i r b) h = mark-apart s (auxSentAt i) r (λ e. omega arith)
-  marked-apart s (Move i r v) h = moved-apart s i r v (h .1)
+  done-apart : (s : List ℕ) (a : Act) → Placed a → done (put s weightsAt x) a ≡ put (done s a) weightsAt x
+  unfolding done
+  done-apart s Idle h = refl
+  done-apart s InForce h = mark-apart s flagsAt closedMark (λ e. omega arith)
+  done-apart s (Commit k) h = mark-apart s flagsAt commitSentMark (λ e. omega arith)
+  done-apart s (Send v) h = mark-apart s flagsAt sendSentMark (λ e. omega arith)
+  done-apart s (Echo i v) h = mark-apart s echoSentAt i (λ e. omega arith)
+  done-apart s (Ready i v) h = mark-apart s readySentAt i (λ e. omega arith)
+  done-apart s (Start i b) h = entered-apart s i 1 b (h .1)
+  done-apart s (Relay i r b) h = mark-apart s (estSentAt i) (estSentMark r b) (λ e. omega arith)
+  done-apart s (Aux i r b) h = mark-apart s (auxSentAt i) r (λ e. omega arith)
+  done-apart s (Move i r v) h = moved-apart s i r v (h .1)
 
   pub applied-apart : (s : List ℕ) (a : Act) → Placed a → applied (put s weightsAt x) a ≡ put (applied s a) weightsAt x
   unfolding applied
   applied-apart s a h = go (isDue a)
     where
-      go : (b : Bool) → cond b (marked (counted (put s weightsAt x)) a) (put s weightsAt x) ≡ put (cond b (marked (counted s) a) s) weightsAt x
-      go true = ap (λ (u : List ℕ). marked u a) (counted-apart s) ∙ marked-apart (counted s) a h
+      go : (b : Bool) → cond b (done (withTurnCounted (put s weightsAt x)) a) (put s weightsAt x) ≡ put (cond b (done (withTurnCounted s) a) s) weightsAt x
+      go true = ap (λ (u : List ℕ). done u a) (counted-apart s) ∙ done-apart (withTurnCounted s) a h
       go false = refl

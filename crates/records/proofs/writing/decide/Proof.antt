@@ -1,8 +1,8 @@
--- The mark of the value.
-use Rattle.turn.specs.laws.Applying.{apply-cases}
+-- The word of the value.
+use Rattle.records.specs.laws.Cases.{decision-cases}
 use borrow.Author.Needs.{needs}
-use Rattle.turn.proofs.apply.decide.Statement.{statement}
-use Rattle.turn.proofs.apply.decide.Tie as tie
+use Rattle.records.proofs.writing.decide.Statement.{statement}
+use Rattle.records.proofs.writing.decide.Tie as tie
 
 set-mark-requires : tie.Need-set-mark-requires
 set-mark-requires c κs = search needs
@@ -11,7 +11,7 @@ same-length : tie.Need-same-length
 same-length c = search needs
 
 returns : tie.Need-returns
-returns c = search apply-cases
+returns c = search decision-cases
 
 set-mark-requires-2 : tie.Need-set-mark-requires-2
 set-mark-requires-2 c κs = search needs
@@ -20,7 +20,7 @@ same-length-2 : tie.Need-same-length-2
 same-length-2 c = search needs
 
 returns-2 : tie.Need-returns-2
-returns-2 c = search apply-cases
+returns-2 c = search decision-cases
 
 pub decide-spec : {M : Type 1} → statement M
 decide-spec =

@@ -1,7 +1,7 @@
 -- A store, then a mark.
 use borrow.Author.Needs.{needs}
-use Rattle.delivery.proofs.record_value.Statement.{statement}
-use Rattle.delivery.proofs.record_value.Tie as tie
+use Rattle.records.proofs.writing.hold_value.Statement.{statement}
+use Rattle.records.proofs.writing.hold_value.Tie as tie
 
 put-requires : tie.Need-put-requires
 put-requires c κs = search needs
@@ -15,5 +15,5 @@ same-length c = search needs
 returns : tie.Need-returns
 returns c = cc
 
-pub record-value-spec : {M : Type 1} → statement M
-record-value-spec = tie.close (tie.spec put-requires set-mark-requires same-length returns)
+pub hold-value-spec : {M : Type 1} → statement M
+hold-value-spec = tie.close (tie.spec put-requires set-mark-requires same-length returns)
