@@ -1,3 +1,4 @@
 pub mod Exits
 pub mod Stated
+pub mod Exactly
 pub mod laws

@@ -11,3 +11,4 @@ pub mod Ways
 pub mod Agree
 pub mod Fair
 pub mod Now
+pub mod Exactly

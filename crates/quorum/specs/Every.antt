@@ -1,4 +1,4 @@
--- Whether all of 1 to n have a property, and what a loop keeps that asks so.
+-- Whether all of 1 to n have a property.
 use Prim.Native.Nat.{ℕ, zero, suc}
 use mathlib.Core.Bool.{Bool, true, _&&_}
 

@@ -1,4 +1,4 @@
--- The lowest of 1 to n with a property, whether none has it, and what a searching loop keeps.
+-- The lowest of 1 to n with a property.
 use Prim.Native.Nat.{ℕ, zero, suc}
 use mathlib.Core.Bool.{Bool, cond}
 use lib.Dec.{eqb}

@@ -1,5 +1,5 @@
 -- The coins of a session as one function of vote and round: the printed ones, or, in a boxed session, the bits that the opened honest ones
--- recorded. Bits that agree two by two are those of such a function, and the other way round.
+-- recorded. Bits that agree two by two are those of such a function.
 use Prim.Native.Nat.{ℕ, _≤_}
 use mathlib.Core.Bool.{Bool, true, false, _&&_, cond, false≢true}
 use mathlib.Core.List.{List, [], _∷_}
@@ -22,10 +22,6 @@ pub record Coined (M : Machine) (start : ℕ → M .Words) (S : M .Session) (κ 
 -- the recorded bits agree
 abbrev pub Agreeing : (M : Machine) → (ℕ → M .Words) → List (Call M) → Type 0
 Agreeing M start cs = (p q : ℕ) (x y : M .Recording) → Recorded M start cs p x → Recorded M start cs q y → M .vote x ≡ M .vote y → M .round x ≡ M .round y → M .bit x ≡ M .bit y
-
-pub coined-agreeing : (M : Machine) (start : ℕ → M .Words) (S : M .Session) (κ : ℕ → ℕ → Bool) (cs : List (Call M)) → Coined M start S κ cs → M .boxed S ≡ true → Agreeing M start cs
-coined-agreeing M start S κ cs k boxed p q x y a b e f =
-    k .recorded boxed p x a ∙ ap (λ (i : ℕ). coinValue (κ i (M .round x))) e ∙ ap (λ (r : ℕ). coinValue (κ (M .vote y) r)) f ∙ sym (k .recorded boxed q y b)
 
 and-true : (a b : Bool) → (a && b) ≡ true → (a ≡ true) × (b ≡ true)
 and-true true b e = (refl, e)

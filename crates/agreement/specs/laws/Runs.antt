@@ -17,7 +17,6 @@ use Rattle.agreement.specs.Evidence.{World, whole, Honest, Backed}
 use Rattle.agreement.specs.laws.Evidence.{backed-map}
 use Rattle.agreement.specs.History.{Act, send, echo, ready, start, relay, aux, move, commit, Event, by, History, Did, Single, Heard, Occurs, Decision, Names, started, moved, Est, own, relayed, Decided, by-move, Stands, Guard}
 use Rattle.agreement.specs.laws.Votes.{est-keep, decided-keep}
-use Rattle.agreement.specs.Moments.{Within, now, after}
 use Rattle.agreement.specs.Agreement.{Shown, by-exits, in-force}
 
 -- what the states of a machine show
@@ -92,10 +91,6 @@ module _ (W : World) where
   said-keep e h m (EST i r b) d = est-keep W e h i r b m d
   said-keep e h m (AUX i r b) d = inr d
   said-keep e h m (COMMIT X) d = inr d
-
-  pub said-later : {h k : History} (m : ℕ) (x : Message) → Within h k → Said h m x → Said k m x
-  said-later m x now d = d
-  said-later m x (after {cs = k} e w) d = said-keep e k m x (said-later m x w d)
 
   -- a decides vote i as b
   pub record Decides (a : Act) (i b : ℕ) : Type 0 where

@@ -22,7 +22,7 @@ use Rattle.records.specs.Records.{echoHeld, echoValue, readyHeld, readyValue}
 use Rattle.broadcasts.specs.Leading.{holders, leads, valueOf, leading, orOutput, present}
 use Rattle.broadcasts.specs.Broadcasts.{output, readyDue}
 use Rattle.broadcasts.specs.Outputs.{outputAt, Outputs}
-use Rattle.broadcasts.specs.laws.Storing.{at-clear, at-present}
+use Rattle.broadcasts.specs.laws.Storing.{at-present}
 use Rattle.broadcasts.specs.declared.Output.{Output}
 use Rattle.broadcasts.specs.declared.Output.the-variants.{Value, Nothing}
 
@@ -147,15 +147,6 @@ module _ (g : Settings) (s : List ℕ) (i : ℕ) where
   unfolding output
   output-unique v r h = leading-unique (g .weights) (readyHeld s i) (readyValue s i) (g .n) (quorum g) v (omega (arith, quorum-sum g r, r .sum)) h
 
-  pub output-none : Ruled g → output g s i ≡ Nothing → (v : ℕ) → holders (g .weights) (readyHeld s i) (readyValue s i) v (g .n) < quorum g
-  output-none r e v = go (leb (quorum g) (holders (g .weights) (readyHeld s i) (readyValue s i) v (g .n))) refl
-    where
-      go : (b : Bool) → leb (quorum g) (holders (g .weights) (readyHeld s i) (readyValue s i) v (g .n)) ≡ b → holders (g .weights) (readyHeld s i) (readyValue s i) v (g .n) < quorum g
-      go true t =
-          let is : output g s i ≡ Value v = output-unique v r (leb-true (quorum g) (holders (g .weights) (readyHeld s i) (readyValue s i) v (g .n)) t) in
-          absurd (let z : _≡_ {A = ℕ} 0 1 = cc in omega arith)
-      go false t = leb-false (quorum g) (holders (g .weights) (readyHeld s i) (readyValue s i) v (g .n)) t
-
   -- a READY rests on n − ts ECHOs or on ts + 1 READYs
   pub ready-rests : (v : ℕ) → readyDue g s i ≡ Value v → (quorum g ≤ holders (g .weights) (echoHeld s i) (echoValue s i) v (g .n)) ⊎ (repeat g ≤ holders (g .weights) (readyHeld s i) (readyValue s i) v (g .n))
   unfolding readyDue
@@ -174,7 +165,3 @@ module _ (g : Settings) (s : List ℕ) (held : ℕ) (values : List ℕ) (r : Rul
   -- its marks are the broadcasts that have output
   pub outputs-marks : (i : ℕ) → 1 ≤ i → i ≤ g .n → mark held i ≡ present (output g s i)
   outputs-marks i a b = sym (at-present held values i (omega arith)) ∙ ap present (outputs-each i a b)
-
-  -- and it says no others
-  pub outputs-beyond : (i : ℕ) → g .n < i → outputAt held values i ≡ Nothing
-  outputs-beyond i l = at-clear held values i (x .none i l)

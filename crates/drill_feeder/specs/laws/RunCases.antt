@@ -19,7 +19,7 @@ use Rattle.turn.specs.declared.Outcome.{Outcome}
 use Rattle.turn.specs.declared.Outcome.the-variants as outcome
 use Rattle.drill_feeder.specs.Parts.{placeAt, stateOf, withState, roomFor, withRoom, byteAt, messageAt, senderAt}
 use Rattle.drill_feeder.specs.Steps.{steps}
-use Rattle.drill_feeder.specs.Lines.{deliveredTo, messageDelivered, lied, Memory, memory, more, counted, outcomeAt, turned, goesOn, turnGoesOn, sweep, sweepIf, swept, offerTo, offer, offerNext, offered, anyLeft, ran}
+use Rattle.drill_feeder.specs.Lines.{deliveredTo, messageDelivered, lied, Memory, memory, more, counted, outcomeAt, turned, goesOn, turnGoesOn, sweep, sweepIf, swept, offerTo, offerNext, offered, anyLeft, ran}
 use Rattle.drill_feeder.specs.declared.Counts.{Counts}
 use Rattle.drill_feeder.specs.declared.Members.{Members}
 use Rattle.drill_feeder.specs.declared.Lie.{Lie}
@@ -139,19 +139,6 @@ module _ (honest p : ℕ) (t : Bool) (e : t ≡ mark honest p) where
   offer-liar w m k s = rw (← e, s)
 
 pub ruleset honest-cases = (sweep-honest, sweep-liar, offer-honest, offer-liar)
-
--- all of 1 to n
-pub swept-all : (g : Members) (x y : Memory) → y ≡ steps (sweepIf (g .honest)) (g .n) x → y ≡ swept g x
-unfolding swept
-swept-all g x y e = e
-
-pub offered-all : (g : Members) (m w x : List ℕ) (k : ℕ) → x ≡ steps (offerTo (g .honest) m k) (g .n) w → x ≡ offer g m k w
-unfolding offer
-offered-all g m w x k e = e
-
-pub offered-next : (g : Members) (m w x : List ℕ) (done j : ℕ) → x ≡ offer g m (done + j) w → x ≡ offerNext g m done j w
-unfolding offerNext
-offered-next g m w x done j e = e
 
 -- what is left to offer
 pub offered-left : (g : Members) (m w x : List ℕ) (c : Counts) (k : ℕ) → k ≡ c .sent - c .offered → x ≡ steps (offerNext g m (c .offered)) k w →

@@ -1,7 +1,7 @@
--- Laws of the definitions for whoever uses them.
+-- What is asked of a field of hexadecimal digits.
 use Prim.Native.Nat.{ℕ, suc, _+_, _*_, _^_, _≤_, _<_}
 use mathlib.Core.Bool.{Bool, true, false, _&&_, false≢true}
-use mathlib.Core.List.{List, [], _∷_, _++_}
+use mathlib.Core.List.{List, [], _∷_}
 use mathlib.Core.Path.{_≡_, refl}
 use native.Mathlib.Omega.{arith}
 use native.Mathlib.Nat.{pow-suc, pow-le-pow-right}
@@ -9,19 +9,6 @@ use lib.Dec.{eqb, ltb}
 use lib.ListN.{length}
 use borrow.Author.Tests.{lt-ltb, ne-eqb, ltb-true, eqb-true}
 use Rattle.text.specs.Numbers.{digitOf, baseOf, allDigits, valueFrom, valueOf, complete, right}
-use Rattle.drill_lines.specs.Automaton.{fed, fedAll}
-use Rattle.drill_lines.specs.declared.Reader.{Reader}
-
--- bytes after bytes
-pub fed-append : (r : Reader) (b c : List ℕ) → fedAll r (b ++ c) ≡ fedAll (fedAll r b) c
-unfolding fedAll
-fed-append r [] c = refl
-fed-append r (x ∷ b) c = fed-append (fed r x) b c
-
--- one byte after bytes
-pub fed-more : (r : Reader) (b : List ℕ) (x : ℕ) → fedAll r (b ++ (x ∷ [])) ≡ fed (fedAll r b) x
-unfolding fedAll
-fed-more r b x = fed-append r b (x ∷ [])
 
 both-left : (a b : Bool) → (a && b) ≡ true → a ≡ true
 both-left true b e = refl

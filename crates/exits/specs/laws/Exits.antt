@@ -1,33 +1,27 @@
 -- What the layers above use of the exits.
 use Prim.Native.Nat.{ℕ, _*_, _≤_}
 use mathlib.Core.Bool.{Bool, true, false, not, _&&_, _||_, cond, false≢true}
-use mathlib.Core.List.{List, [], _∷_}
+use mathlib.Core.List.{[], _∷_}
 use mathlib.Core.Logic.{_≢_}
 use mathlib.Core.Path.{_≡_, refl, ap}
 use native.Mathlib.Omega.{arith}
 use lib.Dec.{eqb, leb, ltb}
 use lib.ListN.{length}
-use borrow.Author.Tests.{leb-true, ne-eqb, eqb-false}
-use Rattle.quorum.specs.laws.Bools.{and-left}
-use Rattle.settings.specs.Settings.{quorum, voteQuorum}
+use borrow.Author.Tests.{eqb-false}
+use Rattle.settings.specs.Settings.{quorum}
 use Rattle.settings.specs.declared.Settings.{Settings}
-use Rattle.quorum.specs.Weights.{weightOf, weigh}
-use Rattle.quorum.specs.laws.Total.{Member, total-agree, total-member}
+use Rattle.quorum.specs.Weights.{weightOf}
+use Rattle.quorum.specs.laws.Total.{total-agree}
 use Rattle.quorum.specs.laws.Lowest.{lowest-agree, lowest-le}
 use Rattle.quorum.specs.Every.{every}
-use Rattle.quorum.specs.laws.Every.{every-each, every-agree}
+use Rattle.quorum.specs.laws.Every.{every-agree}
 use Rattle.broadcasts.specs.Leading.{present}
 use Rattle.broadcasts.specs.declared.Output.{Output}
 use Rattle.broadcasts.specs.declared.Output.the-variants.{Value, Nothing}
-use Rattle.exits.specs.Exits.{Exit, noExit, naming, hasValue, valueIn, everyBroadcast, withOutput, sizeS, exit1At, exit2At, exit3Full, exit3, exitOf, votesDone, outputsOfS}
+use Rattle.exits.specs.Exits.{Exit, noExit, naming, hasValue, valueIn, everyBroadcast, withOutput, sizeS, exit1At, exit2At, exit3Full, exit3, exitOf, votesDone}
 use Rattle.exits.specs.laws.Stated.{singleExit, outputsExit}
-use Rattle.exits.specs.laws.Rising.{Rising, outputs-rising, outputs-few, outputs-some, outputs-agree}
+use Rattle.exits.specs.laws.Rising.{Rising, outputs-rising, outputs-few, outputs-agree}
 use Rattle.exits.specs.laws.Ways.{Way, first, second, third, none, way}
-
--- a set of one value
-pub record Single (names : List ℕ) : Type 0 where
-  pub value : ℕ
-  pub same : names ≡ value ∷ []
 
 pub number-clash : (x y : Exit) → x ≡ y → (x .number ≡ y .number → ⊥) → ⊥
 number-clash x y e f = f (ap (λ (z : Exit). z .number) e)
@@ -41,32 +35,6 @@ given false x e t = absurd (false≢true t)
 module _ (g : Settings) (o : ℕ → Output) (as0 as1 : ℕ → Bool) where
   abbrev answer : Exit
   answer = exitOf g o as0 as1
-
-  -- the number is 1 exactly where Exit 1 holds
-  pub number-first : answer .number ≡ 1 → exit1At g o ≢ 0
-  unfolding singleExit outputsExit noExit
-  number-first n = go answer n (way g o as0 as1)
-    where
-      go : (x : Exit) → x .number ≡ 1 → Way g o as0 as1 x → exit1At g o ≢ 0
-      go x n (first v ne f e) = ne
-      go x n (second v a d s e) = absurd (number-clash x (singleExit 2 v) e (λ z. omega arith))
-      go x n (third a d z f e) = absurd (number-clash x (outputsExit g o as1) e (λ z. omega arith))
-      go x n (none a e) = absurd (number-clash x noExit e (λ z. omega arith))
-
-  pub first-number : exit1At g o ≢ 0 → answer .number ≡ 1
-  unfolding exitOf naming
-  first-number ne = rw (ne-eqb (exit1At g o) 0 ne)
-
-  -- Exits 1 and 2 name one value
-  pub single-names : 1 ≤ answer .number → answer .number ≤ 2 → Single (answer .names)
-  unfolding singleExit outputsExit noExit
-  single-names lo hi = go answer lo hi (way g o as0 as1)
-    where
-      go : (x : Exit) → 1 ≤ x .number → x .number ≤ 2 → Way g o as0 as1 x → Single (x .names)
-      go x lo hi (first v ne f e) = record { value = v; same = ap (λ (z : Exit). z .names) e }
-      go x lo hi (second v a d s e) = record { value = v; same = ap (λ (z : Exit). z .names) e }
-      go x lo hi (third a d z f e) = absurd (number-clash x (outputsExit g o as1) e (λ z. omega arith))
-      go x lo hi (none a e) = absurd (number-clash x noExit e (λ z. omega arith))
 
   -- every named set rises strictly
   pub names-rising : Rising (answer .names)
@@ -89,26 +57,6 @@ module _ (g : Settings) (o : ℕ → Output) (as0 as1 : ℕ → Bool) where
       go x (second v a d s e) = rw e (omega (arith, s .low, s .high))
       go x (third a d z f e) = rw e (outputs-few o as1 (g .n))
       go x (none a e) = rw e (omega arith)
-
-  -- and, where S cannot be empty, at least one
-  outputs-there : 1 ≤ voteQuorum g → votesDone g as0 as1 ≡ true → exit3Full g o as1 ≡ true → 1 ≤ length (outputsOfS o as1 (g .n))
-  unfolding votesDone sizeS exit3Full
-  outputs-there q d f = of (total-member (weightOf (g .weights)) as1 (g .n) (omega (arith, leb-true (voteQuorum g) (weigh (g .weights) as1 (g .n)) (and-left _ _ d))))
-    where
-      of : Member (g .n) as1 → 1 ≤ length (outputsOfS o as1 (g .n))
-      of m =
-          let full : not (as1 (m .at)) || present (o (m .at)) ≡ true = every-each (λ i. not (as1 i) || present (o i)) (g .n) f (m .at) (m .low) (m .high) in
-          outputs-some o as1 (g .n) (m .at) (valueIn (o (m .at))) (m .low) (m .high) (m .holds) (given (as1 (m .at)) (o (m .at)) full (m .holds))
-
-  pub names-some : 1 ≤ voteQuorum g → answer .number ≢ 0 → 1 ≤ length (answer .names)
-  unfolding singleExit outputsExit noExit
-  names-some q ne = go answer ne (way g o as0 as1)
-    where
-      go : (x : Exit) → x .number ≢ 0 → Way g o as0 as1 x → 1 ≤ length (x .names)
-      go x n (first v k f e) = rw e (omega arith)
-      go x n (second v a d s e) = rw e (omega arith)
-      go x n (third a d z f e) = rw e (outputs-there q d f)
-      go x n (none a e) = absurd (n (ap (λ (z : Exit). z .number) e))
 
 exit1-le : (g : Settings) (o : ℕ → Output) → exit1At g o ≤ g .n
 unfolding exit1At

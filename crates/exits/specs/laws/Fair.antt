@@ -1,8 +1,8 @@
 -- What a named set has to do with the outputs of good broadcasts, where all but ts are good, whatever the votes.
 use Prim.Native.Nat.{ℕ, _+_, _<_, _≤_}
 use mathlib.Core.Bool.{Bool, true, not, _&&_}
-use mathlib.Core.List.{List, [], _∷_, List·Memᴰ, List·Memᴰ·head}
-use mathlib.Core.Path.{_≡_, refl, sym, ap, _∙_}
+use mathlib.Core.List.{List, [], _∷_}
+use mathlib.Core.Path.{_≡_, sym, ap, _∙_}
 use native.Mathlib.Omega.{arith}
 use Rattle.quorum.specs.laws.Bools.{and-left, and-right, and-both}
 use Rattle.settings.specs.Rules.{Ruled}
@@ -12,10 +12,8 @@ use Rattle.quorum.specs.Weights.{weightOf, weigh}
 use Rattle.quorum.specs.Whole.{wholeOf}
 use Rattle.quorum.specs.laws.Total.{Member, total-member, total-meet, total-mono, total-not}
 use Rattle.broadcasts.specs.declared.Output.the-variants.{Value}
-use Rattle.exits.specs.Exits.{valueIn, outputsOfS}
-use Rattle.exits.specs.laws.Rising.{outputs-has}
 use Rattle.exits.specs.laws.Ways.{First, Second}
-use Rattle.exits.specs.Exits.{Standing, exitAt}
+use Rattle.exits.specs.Exits.{Standing, exitAt, valueIn}
 use Rattle.exits.specs.laws.Agree.{holding, both, Done, Full, Naming, by1, by2, by3, naming-of, has-value, value-has, first-many, second-more, done-size, full-given, no-majority}
 
 -- a good broadcast with output v
@@ -25,12 +23,6 @@ pub record Fair (g : Settings) (good : ℕ → Bool) (s : Standing) (v : ℕ) : 
   pub high : at ≤ g .n
   pub fair : good at ≡ true
   pub output : s .out at ≡ Value v
-
--- a good broadcast whose output stands in X
-pub record Witness (g : Settings) (good : ℕ → Bool) (s : Standing) (X : List ℕ) : Type 0 where
-  pub value : ℕ
-  pub source : Fair g good s value
-  pub holds : List·Memᴰ value X
 
 module _ (g : Settings) (r : Ruled g) (good : ℕ → Bool) (few : weigh (g .weights) (λ i. not (good i)) (g .n) ≤ g .ts) (s : Standing) where
   whole : weigh (g .weights) everyone (g .n) ≡ g .whole
@@ -59,36 +51,6 @@ module _ (g : Settings) (r : Ruled g) (good : ℕ → Bool) (few : weigh (g .wei
 
   fair2 : (v : ℕ) → Done g s → Second g (s .out) (s .as1) v → Fair g good s v
   fair2 v d x = fair-holder v (both s v) (λ i k. and-right (s .as1 i) (holding s v i) k) (omega (arith, r .margin, second-more g s v x, done-size g s d))
-
-  fair3 : Done g s → Full g s → Witness g good s (outputsOfS (s .out) (s .as1) (g .n))
-  fair3 d f =
-      at (total-member (weightOf (g .weights)) (λ i. s .as1 i && good i) (g .n) (omega (arith, r .margin, total-meet (weightOf (g .weights)) (s .as1) good (g .n), heavy, whole, done-size g s d)))
-    where
-      at : Member (g .n) (λ i. s .as1 i && good i) → Witness g good s (outputsOfS (s .out) (s .as1) (g .n))
-      at m =
-          let chosen : s .as1 (m .at) ≡ true = and-left (s .as1 (m .at)) (good (m .at)) (m .holds) in
-          let there : s .out (m .at) ≡ Value (valueIn (s .out (m .at))) = full-given g s f (m .at) (m .low) (m .high) chosen in
-          record {
-            value = valueIn (s .out (m .at));
-            source =
-                record {
-                  at = m .at;
-                  low = m .low;
-                  high = m .high;
-                  fair = and-right (s .as1 (m .at)) (good (m .at)) (m .holds);
-                  output = there;
-                };
-            holds = outputs-has (s .out) (s .as1) (g .n) (m .at) (valueIn (s .out (m .at))) (m .low) (m .high) chosen there;
-          }
-
-  naming-witness : (X : List ℕ) → Naming g s X → Witness g good s X
-  naming-witness X (by1 v x e) = rw e (record { value = v; source = fair1 v x; holds = List·Memᴰ·head refl })
-  naming-witness X (by2 v d x e) = rw e (record { value = v; source = fair2 v d x; holds = List·Memᴰ·head refl })
-  naming-witness X (by3 d z f e) = rw e (fair3 d f)
-
-  -- a named set holds the output of a good broadcast
-  pub named-witness : (exitAt g s .number ≡ 0 → ⊥) → Witness g good s (exitAt g s .names)
-  named-witness ne = naming-witness (exitAt g s .names) (naming-of g s ne)
 
   module _ (v : ℕ) (same : (i u : ℕ) → 1 ≤ i → i ≤ g .n → good i ≡ true → s .out i ≡ Value u → u ≡ v) where
     fair-same : (u : ℕ) → Fair g good s u → u ≡ v

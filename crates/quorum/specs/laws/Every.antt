@@ -1,12 +1,11 @@
 -- `every` tells that each number passes, and what the loops keep that ask it.
 use Prim.Native.Nat.{ℕ, zero, suc, _+_, _≤_, _<_}
 use mathlib.Core.Bool.{Bool, true, false, not, false≢true}
-use mathlib.Core.Path.{_≡_, refl, sym, ap, subst, _∙_}
+use mathlib.Core.Path.{_≡_, refl, sym, subst, _∙_}
 use native.Mathlib.Omega.{arith}
 use native.Mathlib.Decide.{decLe}
 use borrow.Author.Tests.{not-true, not-false}
 use Rattle.quorum.specs.laws.Bools.{and-left, and-right, and-both}
-use Rattle.quorum.specs.laws.Lowest.{Passed}
 use Rattle.quorum.specs.Every.{every}
 
 -- each p of 1 to k has f p
@@ -66,12 +65,5 @@ holding-fails f n k b i l e t = sym (every-fails f n (k + 1) (omega arith) (omeg
 
 pub holding-done : (f : ℕ → Bool) (n k : ℕ) → Holding f n k → n ≤ k → true ≡ every f n
 holding-done f n k i l = sym (each-every f n (λ p a b. i .each p a (omega arith)))
-
--- the same of a loop that tests the contrary, `if test(p) { return false; }`; `noneOf` says it so that a search finds its laws
-pub passed-fails : (f : ℕ → Bool) (n k : ℕ) (b : Bool) → Passed f n k → k < n → b ≡ f (k + 1) → b ≡ true → false ≡ every (λ p. not (f p)) n
-passed-fails f n k b i l e t = sym (every-fails (λ p. not (f p)) n (k + 1) (omega arith) (omega arith) (ap not (sym e ∙ t)))
-
-pub passed-done : (f : ℕ → Bool) (n k : ℕ) → Passed f n k → n ≤ k → true ≡ every (λ p. not (f p)) n
-passed-done f n k i l = sym (each-every (λ p. not (f p)) n (λ p a b. ap not (i .none p a (omega arith))))
 
 pub ruleset holding = (holding-start, holding-next, holding-fails, holding-done)

@@ -9,10 +9,6 @@ use lib.Dec.{eqb}
 use borrow.Author.Tests.{ne-eqb, eqb-true, eqb-false}
 use Rattle.quorum.specs.Lowest.{lowest}
 
--- whether no p of 1 to n has f p
-unfoldable pub noneOf : (ℕ → Bool) → ℕ → Bool
-noneOf f n = eqb (lowest f n) 0
-
 -- no p of 1 to k has f p
 abbrev pub None : (ℕ → Bool) → ℕ → Type 0
 None f k = (p : ℕ) → 1 ≤ p → p ≤ k → f p ≡ false
@@ -80,14 +76,6 @@ module _ (f : ℕ → Bool) where
           let was : Lowest f n p = r (x ∙ s) in
           record { low = was .low; high = omega arith; holds = was .holds; first = was .first }
 
-  pub each-none-of : (n : ℕ) → None f n → noneOf f n ≡ true
-  unfolding noneOf
-  each-none-of n h = rw (none-lowest n h)
-
-  pub none-of-each : (n : ℕ) → noneOf f n ≡ true → None f n
-  unfolding noneOf
-  none-of-each n e = lowest-none n (eqb-true (lowest f n) 0 e)
-
   pub lowest-le : (n : ℕ) → lowest f n ≤ n
   lowest-le n = go (eqb (lowest f n) 0) refl
     where
@@ -102,10 +90,6 @@ lowest-agree f g zero h = refl
 lowest-agree f g (suc n) h =
     let e : lowest f n ≡ lowest g n = lowest-agree f g n (λ p a b. h p a (omega arith)) in
     rw (e, h (suc n) (omega arith) (omega arith))
-
-pub none-of-agree : (f g : ℕ → Bool) (n : ℕ) → ((p : ℕ) → 1 ≤ p → p ≤ n → f p ≡ g p) → noneOf f n ≡ noneOf g n
-unfolding noneOf
-none-of-agree f g n h = rw (lowest-agree f g n h)
 
 -- a loop `p = 0; while p < n { p += 1; if test(p) { return .. } }` that has passed 1 to k
 pub record Passed (f : ℕ → Bool) (n k : ℕ) : Type 0 where
@@ -125,12 +109,4 @@ passed-found f n k b i l e t =
 pub passed-missing : (f : ℕ → Bool) (n k : ℕ) → Passed f n k → n ≤ k → 0 ≡ lowest f n
 passed-missing f n k i l = sym (none-lowest f n (λ p a b. i .none p a (omega arith)))
 
-pub passed-some : (f : ℕ → Bool) (n k : ℕ) (b : Bool) → Passed f n k → k < n → b ≡ f (k + 1) → b ≡ true → false ≡ noneOf f n
-unfolding noneOf
-passed-some f n k b i l e t = rw (← passed-found f n k b i l e t) (sym (ne-eqb (k + 1) 0 (λ z. omega arith)))
-
-pub passed-none : (f : ℕ → Bool) (n k : ℕ) → Passed f n k → n ≤ k → true ≡ noneOf f n
-unfolding noneOf
-passed-none f n k i l = rw (← passed-missing f n k i l)
-
-pub ruleset finding = (passed-start, passed-next, passed-found, passed-missing, passed-some, passed-none)
+pub ruleset finding = (passed-start, passed-next, passed-found, passed-missing)

@@ -187,10 +187,6 @@ module _ (w : ℕ → ℕ) (k : ℕ) where
               honest = m .right;
             }
 
-    -- two quorums: all but s and all but t, with liars of at most l
-    pub quorums-meet : (A B : ℕ → Bool) (s t l : ℕ) → total w everyone k ≤ total w A k + s → total w everyone k ≤ total w B k + t → total w (λ p. not (H p)) k ≤ l → s + t + l < total w everyone k → HonestCommon k A B H
-    quorums-meet A B s t l a b few room = honest-common A B (omega arith)
-
 -- everyone's count is k
 pub count-everyone : (k : ℕ) → count everyone k ≡ k
 unfolding total

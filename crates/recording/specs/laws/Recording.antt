@@ -131,7 +131,7 @@ module _ (s : List ℕ) (i r b : ℕ) (x : Recordable s i r b) where
   set : (m : ℕ) → bitMark r b ≡ m → mark (withMark w (bitMark r b)) m ≡ true
   set m e = ap (λ (k : ℕ). mark (withMark w (bitMark r b)) k) (sym e) ∙ mark-same w (bitMark r b) (mark-within .0) (mark-within .1)
 
-  -- the coin is known, and is the bit
+  -- the coin is the bit
   pub coin-here : coin t i r ≡ eqb b 1
   unfolding coin marked otherMark
   coin-here = ap (λ (k : ℕ). mark k r) here ∙ at (eqb b 1) refl
@@ -139,22 +139,6 @@ module _ (s : List ℕ) (i r b : ℕ) (x : Recordable s i r b) where
       at : (c : Bool) → eqb b 1 ≡ c → mark (withMark w (bitMark r b)) r ≡ c
       at true e = set r (one-mark e)
       at false e = mark-other w (bitMark r b) r (λ z. omega (arith, zero-mark e, z)) ∙ rw e at (x .free)
-
-  pub known-here : coinRecorded t i r ≡ true
-  unfolding coinRecorded coin marked
-  known-here = ap (λ (k : ℕ). mark k r || mark k (32 + r)) here ∙ at (eqb b 1) refl
-    where
-      left : (a c : Bool) → a ≡ true → (a || c) ≡ true
-      left true c e = refl
-      left false c e = absurd (false≢true e)
-
-      right : (a c : Bool) → c ≡ true → (a || c) ≡ true
-      right true c e = refl
-      right false c e = e
-
-      at : (c : Bool) → eqb b 1 ≡ c → (mark (withMark w (bitMark r b)) r || mark (withMark w (bitMark r b)) (32 + r)) ≡ true
-      at true e = left (mark (withMark w (bitMark r b)) r) (mark (withMark w (bitMark r b)) (32 + r)) (set r (one-mark e))
-      at false e = right (mark (withMark w (bitMark r b)) r) (mark (withMark w (bitMark r b)) (32 + r)) (set (32 + r) (zero-mark e))
 
   -- other coins stay as they are, known or not
   pub coin-elsewhere : (j q : ℕ) → 1 ≤ q → q ≤ 32 → (j ≢ i) ⊎ (q ≢ r) → (coin t j q ≡ coin s j q) × (coinRecorded t j q ≡ coinRecorded s j q)

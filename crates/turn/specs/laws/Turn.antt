@@ -1,19 +1,14 @@
 -- What the layers above use of a turn. The evidence of an act is in Told and DueLaws, what changes in Frame and Marks.
-use Prim.Native.Nat.{ℕ, _<_}
+use Prim.Native.Nat.{ℕ}
 use mathlib.Core.List.{List}
 use mathlib.Core.Path.{_≡_, refl}
-use native.Mathlib.Omega.{arith}
 use lib.ListN.{length}
-use Rattle.records.specs.Words.{word}
-use Rattle.acts.specs.declared.Act.{Act}
-use Rattle.session.specs.Session.{settingsOf, sessionWith, sessionOf}
 use Rattle.session.specs.declared.Session.{Session}
 use Rattle.turn.specs.Due.{due}
 use Rattle.turn.specs.Turn.{outcomeOf, applied, admits, bytesAfter, outcomeFor, wordsFor, bytesFor, turnOutcome, turnWords, turnBytes}
 use Rattle.turn.specs.laws.Told.{ActTold}
 use Rattle.turn.specs.laws.Due.{due-told}
 use Rattle.turn.specs.laws.Admitting.{Admitting, admitting, admitted-ruled}
-use Rattle.turn.specs.laws.Frame.{Placed, setting, beyond, applied-kept}
 use Rattle.turn.specs.declared.Admitted.{Admitted}
 use Rattle.turn.specs.declared.Admitted.the-variants as admitted
 use Rattle.turn.specs.declared.Outcome.the-variants as outcome
@@ -46,11 +41,3 @@ way s out = go (admits s (length out)) refl
     go (admitted.Open x) e =
         let h : Admitting s (length out) x = admitting s (length out) x e in
         taken x (record { admits = h; told = due-told (x .settings) s (admitted-ruled s (length out) x h); answer = rw e; words = rw e; bytes = rw e })
-
--- the settings, the own number and the session number stay
-pub applied-session : (s : List ℕ) (a : Act) → Placed a → sessionOf (applied s a) ≡ sessionOf s
-unfolding sessionOf sessionWith settingsOf
-applied-session s a p = rw (at 0 (omega arith), at 1 (omega arith), at 2 (omega arith), at 3 (omega arith), at 4 (omega arith), applied-kept s a p 141 (beyond (omega arith)))
-  where
-    at : (j : ℕ) → j < 6 → word (applied s a) j ≡ word s j
-    at j l = applied-kept s a p j (setting l)

@@ -11,7 +11,7 @@ use Rattle.quorum.specs.laws.Whole.{total-weights}
 use Rattle.quorum.specs.laws.Every.{each-every}
 use Rattle.settings.specs.Settings as weighted
 use Rattle.settings.specs.declared.Settings as weighted-settings
-use Rattle.unweighted.specs.Settings.{Settings, validSettings, namedTa, quorum, repeat, voteQuorum, relay, accept, turnBound}
+use Rattle.unweighted.specs.Settings.{Settings, validSettings, namedTa, quorum, repeat, voteQuorum, relay, accept}
 
 module _ (w n : ℕ) (each : (p : ℕ) → 1 ≤ p → p ≤ n → weightOf w p ≡ 1) where
   pub weigh-count : (M : ℕ → Bool) → weigh w M n ≡ count M n
@@ -70,7 +70,3 @@ module _ (g : weighted-settings.Settings) where
   pub accept-same : weighted.accept g ≡ accept (plain g)
   unfolding weighted.accept accept
   accept-same = refl
-
-  pub bound-same : weighted.turnBound g ≡ turnBound (plain g)
-  unfolding weighted.turnBound turnBound
-  bound-same = refl

@@ -3,12 +3,12 @@ use Prim.Native.Nat.{ℕ, _≤_}
 use mathlib.Core.Bool.{Bool, true, false, _&&_, _||_, false≢true}
 use mathlib.Core.List.{List}
 use mathlib.Core.Logic.{_⊎_, inl, inr}
-use mathlib.Core.Path.{_≡_, refl, sym, ap, _∙_}
+use mathlib.Core.Path.{_≡_, refl, sym, _∙_}
 use native.Mathlib.Omega.{arith}
 use lib.Dec.{ltb}
-use borrow.Author.Tests.{lt-ltb, ltb-true, leb-true, eqb-true}
+use borrow.Author.Tests.{lt-ltb, ltb-true}
 use Rattle.quorum.specs.laws.Bools.{and-left, and-right, and-both}
-use Rattle.settings.specs.Settings.{voteQuorum, accept}
+use Rattle.settings.specs.Settings.{voteQuorum}
 use Rattle.settings.specs.declared.Settings.{Settings}
 use Rattle.quorum.specs.Weights.{weightOf, weigh}
 use Rattle.quorum.specs.Whole.{weightsRight}
@@ -17,7 +17,7 @@ use Rattle.quorum.specs.laws.Total.{Member, total-mono, total-member, member-to
 use Rattle.records.specs.Records.{auxHeld}
 use Rattle.acts.specs.declared.View.{View}
 use Rattle.acts.specs.declared.View.the-variants.{Only, Both}
-use Rattle.votes.specs.Votes.{estCount, accepted, carries, carriers, auxCount, carried, viewOf, view, coinValue, estimate, decides}
+use Rattle.votes.specs.Votes.{accepted, carries, carriers, auxCount, carried, viewOf, view, estimate}
 use Rattle.votes.specs.laws.Told.{OnlyShown, Shown}
 
 either-of : (a b : Bool) → a || b ≡ true → (a ≡ true) ⊎ (b ≡ true)
@@ -93,12 +93,3 @@ module _ (g : Settings) (s : List ℕ) (i r : ℕ) (right : weightsRight (g .wei
   estimate-bit coin (Only b) x = x .bit
   estimate-bit true Both x = omega arith
   estimate-bit false Both x = omega arith
-
--- a move that decides shows the coin only
-pub decides-coin : (coin : Bool) (v : View) → decides coin v ≡ true → v ≡ Only (coinValue coin)
-decides-coin coin (Only b) e = ap (λ (x : ℕ). Only x) (eqb-true b (coinValue coin) e)
-decides-coin coin Both e = absurd (false≢true e)
-
-pub accepted-count : (g : Settings) (s : List ℕ) (i r b : ℕ) → accepted g s i r b ≡ true → accept g ≤ estCount g s i r b
-unfolding accepted
-accepted-count g s i r b e = leb-true (accept g) (estCount g s i r b) e
