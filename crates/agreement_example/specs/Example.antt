@@ -9,7 +9,7 @@ use Rattle.records.specs.Layout.{stateWords}
 use Rattle.agreement.specs.Evidence.{liars, Honest}
 use Rattle.agreement.specs.Moments.{Within}
 use Rattle.agreement.specs.Calls.{Call, opening, world, words, Opened, Conditions}
-use Rattle.agreement.specs.EngineCalls.{engine, Arguments, Agreed, ReportNames, ReportEnforces}
+use Rattle.agreement.specs.EngineCalls.{engine, OpeningGiven, Agreed, ReportNames, ReportEnforces}
 
 -- p is opened, Exit k names the set X, and X is in force
 pub record Shown (start : ℕ → List ℕ) (cs : List (Call engine)) (p k : ℕ) (X : List ℕ) : Type 0 where
@@ -22,7 +22,7 @@ pub record Shown (start : ℕ → List ℕ) (cs : List (Call engine)) (p k : ℕ
 pub record Supposed (start : ℕ → List ℕ) (S : Agreed) (H : ℕ → Bool) (v : ℕ → ℕ) (cs : List (Call engine)) : Type 0 where
   pub few-ts : liars (world engine S H) ≤ S .settings .ts
   pub conditions : Conditions engine start S H cs
-  pub put-in : (p : ℕ) (o : Arguments) (ds : List (Call engine)) → Within (opening p o ∷ ds) cs → o .own ≡ p → engine .opens (words engine start ds p) o ≡ true → o .input ≡ v p
+  pub put-in : (p : ℕ) (o : OpeningGiven) (ds : List (Call engine)) → Within (opening p o ∷ ds) cs → engine .own o ≡ p → engine .opens (words engine start ds p) o ≡ true → engine .input o ≡ v p
 
 -- with liars of up to ta, all honest ones end with the set X, which Exit k names
 pub record Example (start : ℕ → List ℕ) (S : Agreed) (H : ℕ → Bool) (v : ℕ → ℕ) (cs : List (Call engine)) (k : ℕ) (X : List ℕ) : Type 0 where

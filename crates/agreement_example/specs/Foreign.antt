@@ -9,15 +9,15 @@ use Rattle.wire.specs.Message.{encode}
 use Rattle.wire.specs.declared.Message.the-variants.{Send}
 use Rattle.agreement.specs.Moments.{Within}
 use Rattle.agreement.specs.Calls.{Call, opening, delivery, words, Sent}
-use Rattle.agreement.specs.EngineCalls.{engine, Arguments, Bytes}
+use Rattle.agreement.specs.EngineCalls.{engine, OpeningGiven, Bytes}
 use Rattle.agreement_example.specs.Example.{Example, FromAny}
 use Rattle.agreement_example.specs.Messages.{inputFive, bytesOf, openingWith, openingOf, turnOf}
 use Rattle.agreement_example.specs.Weighted.{session, firstTwo, weightedCalls}
 
-abbrev pub asFourth : Arguments
+abbrev pub asFourth : OpeningGiven
 asFourth = openingOf 4 1 1 4
 
-abbrev pub asSecond : Arguments
+abbrev pub asSecond : OpeningGiven
 asSecond = openingWith 3 1 1 (1 ∷ 0 ∷ 1 ∷ []) (4 ∷ 1 ∷ 1 ∷ []) 0 2 6
 
 abbrev pub unsent : Bytes
@@ -33,10 +33,10 @@ foreignCalls = weightedCalls ++ foreign
 
 -- an opening of p, under the number m, is accepted
 pub record OpenedAs (start : ℕ → List ℕ) (cs : List (Call engine)) (p m : ℕ) : Type 0 where
-  pub given : Arguments
+  pub given : OpeningGiven
   pub past : List (Call engine)
   pub within : Within (opening p given ∷ past) cs
-  pub numbered : given .own ≡ m
+  pub numbered : engine .own given ≡ m
   pub accepted : engine .opens (words engine start past p) given ≡ true
 
 -- p accepts a message from the link of m that m did not send

@@ -5,12 +5,13 @@ use native.Mathlib.Omega.{arith}
 use Rattle.records.specs.Words.{word}
 use Rattle.records.specs.Words.{blank}
 use Rattle.opening.specs.Given.{onesGiven}
+use Rattle.opening.specs.Arguments.{arguments}
 use Rattle.wire.specs.Message.{encode}
 use Rattle.wire.specs.declared.Message.{Message}
 use Rattle.wire_laws.specs.Proper.{AllBytes}
 use Rattle.journal.specs.Journal.{LINE-BYTES}
 use Rattle.agreement.specs.Calls.{Call, delivery, turn, recording}
-use Rattle.agreement.specs.EngineCalls.{engine, Arguments, Bytes}
+use Rattle.agreement.specs.EngineCalls.{engine, OpeningGiven, Bytes}
 
 -- each number by its low 8 bits
 unfoldable pub lowBytes : List ℕ → List ℕ
@@ -39,18 +40,10 @@ coins-below (x ∷ xs) zero = omega arith
 coins-below (x ∷ xs) (suc i) = coins-below xs i
 
 -- an opening under the number p, with the low 64 bits of v as input
-unfoldable pub openingWith : (n ta ts : ℕ) (coins weights : List ℕ) (boxed p v : ℕ) → Arguments
+unfoldable pub openingWith : (n ta ts : ℕ) (coins weights : List ℕ) (boxed p v : ℕ) → OpeningGiven
 openingWith n ta ts coins weights boxed p v =
     record {
-      n = n;
-      ta = ta;
-      ts = ts;
-      own = p;
-      session = 7;
-      input = v % 2 ^ 64;
-      coins = coinsOf coins;
-      weights = weights;
-      boxed = boxed;
+      given = arguments n ta ts p 7 (v % 2 ^ 64) (coinsOf coins) weights boxed;
       line = LINE-BYTES;
       session-fits = omega arith;
       input-fits = omega arith;
@@ -58,7 +51,7 @@ openingWith n ta ts coins weights boxed p v =
     }
 
 -- .. with printed coin words of 0, weights of 1 and the input 5
-unfoldable pub openingOf : (n ta ts p : ℕ) → Arguments
+unfoldable pub openingOf : (n ta ts p : ℕ) → OpeningGiven
 openingOf n ta ts p = openingWith n ta ts (blank n) (onesGiven n) 0 p 5
 
 -- everyone puts in 5

@@ -8,6 +8,7 @@ use mathlib.Core.Path.{_≡_}
 use lib.ListN.{length}
 use Rattle.records.specs.Layout.{stateWords}
 use Rattle.records.specs.Words.{blank}
+use Rattle.opening.specs.Arguments.{arguments}
 use Rattle.wire.specs.declared.Message.the-variants.{Send, Echo, Ready, Commit}
 use Rattle.journal.specs.Lines.{LETTER-D, LETTER-T, openingLine, turnLine}
 use Rattle.agreement.specs.Calls.{Call, opening, report, restore}
@@ -18,7 +19,7 @@ use Rattle.agreement_example.specs.One.{session, everyone}
 
 -- the line of the opening
 abbrev pub firstLine : List ℕ
-firstLine = openingLine 1 0 0 1 7 5 (0 ∷ []) (1 ∷ []) 0
+firstLine = openingLine (arguments 1 0 0 1 7 5 (0 ∷ []) (1 ∷ []) 0)
 
 -- a restore from these bytes, lent 140 bytes for a message
 unfoldable pub from : List ℕ → RestoreLent

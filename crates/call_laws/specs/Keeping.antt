@@ -5,6 +5,7 @@ use mathlib.Core.List.{List}
 use mathlib.Core.Path.{_≡_}
 use lib.ListN.{length}
 use Rattle.opening.specs.Given.{weightsWord}
+use Rattle.opening.specs.Arguments.{Arguments}
 use Rattle.coin_box.specs.Box.{boxOpenAnswer, boxOpened, requestReply, requestWords}
 use Rattle.turn.specs.Turn.{turnOutcome, turnWords}
 use Rattle.journal.specs.Journal.{openEntry, openedWords, openedBytes, deliverEntry, deliveredWords, deliveredBytes, recordEntry, recordWords, recordBytes, turnRoom, turnedMessage, turnedLine}
@@ -15,10 +16,8 @@ use Rattle.call_laws.specs.Parts.{Refused}
 
 abbrev pub OpeningKeeps : Type 0
 OpeningKeeps =
-    (s : List ℕ) (n ta ts own session input : ℕ) (coins weights : List ℕ) (boxed : ℕ) (line : List ℕ) →
-    Refused (entryNumber (openEntry (length s) n ta ts own session input coins weights boxed (length line))) →
-    (openedWords s n ta ts own session input coins weights boxed (length line) ≡ s)
-    × (openedBytes (length s) n ta ts own session input coins weights boxed line ≡ line)
+    (s : List ℕ) (o : Arguments) (line : List ℕ) → Refused (entryNumber (openEntry (length s) o (length line))) →
+    (openedWords s o (length line) ≡ s) × (openedBytes (length s) o line ≡ line)
 
 abbrev pub DeliveryKeeps : Type 0
 DeliveryKeeps =

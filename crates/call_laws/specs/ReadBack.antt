@@ -7,6 +7,7 @@ use lib.Dec.{ltb}
 use lib.ListN.{length}
 use Rattle.settings.specs.Refusals.{JOURNAL}
 use Rattle.opening.specs.Given.{weightsWord}
+use Rattle.opening.specs.Arguments.{Arguments}
 use Rattle.wire.specs.Message as wire
 use Rattle.turn.specs.Turn.{turnOutcome}
 use Rattle.turn.specs.declared.Outcome.{Outcome}
@@ -121,7 +122,7 @@ NumberBack k = (refusalOf k ≡ k) × (k / 2 ^ 8 ≡ 0)
 
 -- every answer that a call can give
 pub record AnswersReadBack : Type 0 where
-  pub opening : (words n ta ts own session input : ℕ) (coins weights : List ℕ) (boxed room : ℕ) → EntryBack (openEntry words n ta ts own session input coins weights boxed room)
+  pub opening : (words : ℕ) (o : Arguments) (room : ℕ) → EntryBack (openEntry words o room)
   pub delivery : (s : List ℕ) (link : ℕ) (message : List ℕ) (room : ℕ) → EntryBack (deliverEntry s link message room)
   pub recording : (s : List ℕ) (vote round bit room : ℕ) → EntryBack (recordEntry s vote round bit room)
   pub turn : (s : List ℕ) (room : ℕ) → OutcomeBack (turnOutcome s room)

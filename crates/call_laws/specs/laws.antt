@@ -6,3 +6,4 @@ pub mod Journals
 pub mod ReadBack
 pub mod Recorded
 pub mod Places
+pub mod SettingsKept

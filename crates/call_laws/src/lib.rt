@@ -2,6 +2,7 @@
 ghost use Rattle.call_laws.specs.Keeping.{RefusalsKeep};
 ghost use Rattle.call_laws.specs.Places.{HeldAgain, HeldOnce};
 ghost use Rattle.call_laws.specs.ReadBack.{AnswersReadBack};
+ghost use Rattle.call_laws.specs.SettingsKept.{SettingsKept};
 
 // A message that was accepted is refused as held when it comes again.
 pub fn held_again()
@@ -16,6 +17,11 @@ pub fn held_once()
 // A refused call leaves all lent words and bytes as they were.
 pub fn refusals_keep()
     ensures { λ _. ⌜ RefusalsKeep ⌝ }
+{}
+
+// No delivery, turn or recording changes a word of the settings.
+pub fn settings_kept()
+    ensures { λ _. ⌜ SettingsKept ⌝ }
 {}
 
 // What C reads of the number of an answer is that answer.

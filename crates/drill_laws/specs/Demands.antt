@@ -1,11 +1,11 @@
 -- The laws of the drill, each for every input.
-use Prim.Native.Nat.{ℕ, _≤_}
+use Prim.Native.Nat.{ℕ, _-_, _≤_}
 use mathlib.Core.Bool.{true}
 use mathlib.Core.List.{List}
 use mathlib.Core.Path.{_≡_}
-use lib.ListN.{length, take}
+use lib.ListN.{length}
+use Rattle.records.specs.Words.{word}
 use Rattle.wire.specs.declared.Message.{Message}
-use Rattle.opening.specs.Given.{weightsWord, onesGiven}
 use Rattle.opening.specs.Opening.{openAnswer}
 use Rattle.turn.specs.Turn.{turnOutcome}
 use Rattle.drill_feeder.specs.Parts.{stateOf}
@@ -13,6 +13,7 @@ use Rattle.drill_feeder.specs.Lines.{Memory, memory, ran}
 use Rattle.drill_feeder.specs.declared.Counts.{Counts}
 use Rattle.drill_feeder.specs.declared.Members.{Members}
 use Rattle.drill_core.specs.Judging.{afterSettings}
+use Rattle.drill_core.specs.Preparing.{argumentsWith}
 use Rattle.drill_core.specs.Acting.{begun}
 use Rattle.drill_core.specs.Feeding.{Drilling, drilling, fedBytes, startDrilling}
 use Rattle.drill_laws.specs.Sound.{allTurns}
@@ -47,12 +48,11 @@ RoundsEnd = (input : List ℕ) (t k : ℕ) → 401 ≤ t → 1601 ≤ k →
     ranWith t (membersOf (fedBytes startDrilling input)) k (callMemory (fedBytes startDrilling input))
     ≡ ran (membersOf (fedBytes startDrilling input)) 1601 (callMemory (fedBytes startDrilling input))
 
--- the opening of any of 1 to n with what the N and C lines gave, printed and with weights of 1, is accepted
+-- the opening of any of 1 to n with what the N, C and P lines gave is accepted
 abbrev pub OpensAll : Drilling → Type 0
 OpensAll (drilling w m d) =
     afterSettings (d .state .phase) ≡ true → (p : ℕ) → 1 ≤ p → p ≤ d .state .given .members .n →
-    openAnswer (length (stateOf w p)) (d .state .given .members .n) (d .state .given .ta) (d .state .given .ts)
-    (weightsWord (d .state .given .members .n) (onesGiven (d .state .given .members .n))) p (take (d .state .given .members .n) (d .state .given .coins)) 0 ≡ 0
+    openAnswer (length (stateOf w p)) (argumentsWith (d .state .given) p (word (d .state .given .inputs) (p - 1)) (d .state .given .coins)) ≡ 0
 
 unfoldable pub OpeningsAccepted : Type 0
 OpeningsAccepted = (input : List ℕ) → OpensAll (fedBytes startDrilling input)

@@ -1,5 +1,4 @@
 -- The lists that an opening is given: coin words, and weights (request N11), which are kept as one word.
--- Weights of 1.
 use Prim.Native.Nat.{ℕ, _-_}
 use mathlib.Core.Bool.{Bool, _&&_, _||_, cond}
 use mathlib.Core.List.{List}

@@ -1,3 +1,4 @@
 pub mod Given
+pub mod Arguments
 pub mod Opening
 pub mod laws

@@ -1,3 +1,4 @@
+pub mod WeightsWord
 pub mod Given
 pub mod Opening
 pub mod GivenCases

@@ -5,9 +5,8 @@ use mathlib.Core.List.{List, [], _∷_}
 use mathlib.Core.Path.{_≡_}
 use lib.Dec.{eqb}
 use lib.ListN.{length}
-use Rattle.settings.specs.Settings.{settingsNamed}
 use Rattle.settings.specs.declared.Settings.{Settings}
-use Rattle.opening.specs.Given.{weightsWord}
+use Rattle.opening.specs.Arguments.{Arguments, settingsBy}
 use Rattle.opening.specs.Opening.{openAnswer, opened}
 use Rattle.delivery.specs.Delivery.{delivered}
 use Rattle.recording.specs.Recording.{recordedWords}
@@ -15,34 +14,6 @@ use Rattle.turn.specs.Turn.{turnWords}
 use Rattle.report.specs.Report.{reportAnswer}
 use Rattle.report.specs.declared.Figures.{Figures}
 use Rattle.report.specs.declared.Answer.the-variants.{Given}
-
--- the arguments of an opening
-pub record Arguments : Type 0 where
-  pub n : ℕ
-  pub ta : ℕ
-  pub ts : ℕ
-  pub own : ℕ
-  pub session : ℕ
-  pub input : ℕ
-  pub coins : List ℕ
-  pub weights : List ℕ
-  -- "Opening says whether coins are printed or boxed" (request N12): 0 or 1
-  pub boxed : ℕ
-
--- the weights as one word
-abbrev pub weightsBy : Arguments → ℕ
-weightsBy o = weightsWord (o .n) (o .weights)
-
--- the answer of an opening of the words s: 0 is accepted
-abbrev pub answer : List ℕ → Arguments → ℕ
-answer s o = openAnswer (length s) (o .n) (o .ta) (o .ts) (weightsBy o) (o .own) (o .coins) (o .boxed)
-
--- the words after it
-abbrev pub openedBy : List ℕ → Arguments → List ℕ
-openedBy s o = opened s (o .n) (o .ta) (o .ts) (weightsBy o) (o .own) (o .session) (o .input) (o .coins) (o .boxed)
-
-abbrev pub settingsBy : Arguments → Settings
-settingsBy o = settingsNamed (o .n) (o .ta) (o .ts) (weightsBy o)
 
 -- a call: an opening, a delivery of any bytes from any link, a turn lent any bytes, a report, or "the host has recorded that round's bit in the
 -- state" (request N12): a recording of any vote, round and bit
@@ -56,7 +27,7 @@ pub data Step : Type 0 where
 -- the words after a list of calls, newest first, on the words s; a report writes none of them
 unfoldable pub after : List ℕ → List Step → List ℕ
 after s [] = s
-after s (opening o ∷ cs) = openedBy (after s cs) o
+after s (opening o ∷ cs) = opened (after s cs) o
 after s (delivery link b ∷ cs) = delivered (after s cs) link b
 after s (turn out ∷ cs) = turnWords (after s cs) (length out)
 after s (report ∷ cs) = after s cs
@@ -65,7 +36,7 @@ after s (recording i r b ∷ cs) = recordedWords (after s cs) i r b
 -- the settings of the last accepted opening, g before any
 unfoldable pub current : Settings → List ℕ → List Step → Settings
 current g s [] = g
-current g s (opening o ∷ cs) = cond (eqb (answer (after s cs) o) 0) (settingsBy o) (current g s cs)
+current g s (opening o ∷ cs) = cond (eqb (openAnswer (length (after s cs)) o) 0) (settingsBy o) (current g s cs)
 current g s (delivery link b ∷ cs) = current g s cs
 current g s (turn out ∷ cs) = current g s cs
 current g s (report ∷ cs) = current g s cs

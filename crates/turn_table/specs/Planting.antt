@@ -11,6 +11,7 @@ use Rattle.acts.specs.declared.Act.the-variants as act
 use Rattle.wire.specs.Bytes.{valueBytes}
 use Rattle.wire.specs.declared.Message.{Message}
 use Rattle.wire.specs.declared.Message.the-variants.{Ready, Commit}
+use Rattle.opening.specs.Arguments.{arguments}
 use Rattle.opening.specs.Opening.{openWords}
 use Rattle.delivery.specs.Delivery.{recorded}
 use Rattle.turn.specs.Due.{due}
@@ -20,7 +21,7 @@ abbrev pub four : ℕ → Settings
 four ta = record { n = 4; ta = ta; ts = 1; whole = 4; weights = 15 }
 
 unfoldable pub openedState : ℕ → List ℕ
-openedState ta = openWords 4 ta 1 15 1 7 5 (0 ∷ (2 ^ 32 - 1) ∷ 2 ∷ 0 ∷ []) 0
+openedState ta = openWords (arguments 4 ta 1 1 7 5 (0 ∷ (2 ^ 32 - 1) ∷ 2 ∷ 0 ∷ []) (1 ∷ 1 ∷ 1 ∷ 1 ∷ []) 0)
 
 -- senders of messages
 abbrev pub two : List ℕ

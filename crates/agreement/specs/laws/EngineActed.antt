@@ -31,7 +31,7 @@ use Rattle.held.specs.laws.Held.{Numbered}
 use Rattle.held.specs.laws.Keeping.{kept-holding, held-back}
 use Rattle.agreement.specs.laws.Runs.{Decides, Changed, Kept, Acted, CoinsAre}
 use Rattle.agreement.specs.Calls.{worldWith}
-use Rattle.agreement.specs.EngineCalls.{Arguments, agreed, engine}
+use Rattle.agreement.specs.EngineCalls.{OpeningGiven, agreed, engine}
 use Rattle.agreement.specs.laws.EngineSeen.{engineSeen}
 use Rattle.agreement.specs.laws.EngineReading.{Belongs, shownAct}
 
@@ -46,12 +46,12 @@ coin-is true false e = refl
 coin-is false true e = refl
 coin-is false false e = absurd (false≢true (sym e))
 
-module _ (o : Arguments) (H : ℕ → Bool) (κ : ℕ → ℕ → Bool) (w : List ℕ) (x : Belongs o w) (coins : CoinsAre (worldWith engine (agreed o) H κ) engineSeen w) where
+module _ (o : OpeningGiven) (H : ℕ → Bool) (κ : ℕ → ℕ → Bool) (w : List ℕ) (x : Belongs o w) (coins : CoinsAre (worldWith engine (agreed (o .given)) H κ) engineSeen w) where
   abbrev W : World
-  W = worldWith engine (agreed o) H κ
+  W = worldWith engine (agreed (o .given)) H κ
 
   -- the coin that a move reads is the world's
-  pub coin-same : (g : Settings) (i r : ℕ) (v : View) → 1 ≤ i → i ≤ o .n → MoveTold g w i r v → records.coin w i r ≡ W .coin i r
+  pub coin-same : (g : Settings) (i r : ℕ) (v : View) → 1 ≤ i → i ≤ o .given .n → MoveTold g w i r v → records.coin w i r ≡ W .coin i r
   coin-same g i r v low high t = coins i r (records.coin w i r) (record { low = low; high = omega (arith, high, x .is-n); first = t .low; last = t .high; known = t .known; same = refl })
 
   -- the value that vote i is decided: 0 for true
@@ -62,7 +62,7 @@ module _ (o : Arguments) (H : ℕ → Bool) (κ : ℕ → ℕ → Bool) (w : Lis
   abbrev SameMove : Settings → acts.Act → Act → ℕ → Type 0
   SameMove g a b i = (r : ℕ) (v : View) → a ≡ act.Move i r v → (b ≡ move i r v) × MoveTold g w i r v
 
-  decided-by : (g : Settings) (a : acts.Act) (b : Act) (i : ℕ) (z : Bool) → 1 ≤ i → i ≤ o .n → SameMove g a b i → DecidedBy w a i z → Decides W b i (valueOf z)
+  decided-by : (g : Settings) (a : acts.Act) (b : Act) (i : ℕ) (z : Bool) → 1 ≤ i → i ≤ o .given .n → SameMove g a b i → DecidedBy w a i z → Decides W b i (valueOf z)
   unfolding newDecision
   decided-by g a b i z low high same d = of (decides-only k (d .view) (and-right (not (decided w i)) (decides k (d .view)) (d .new)))
     where
@@ -83,7 +83,8 @@ module _ (o : Arguments) (H : ℕ → Bool) (κ : ℕ → ℕ → Bool) (w : Lis
     abbrev t : List ℕ
     t = applied w a
 
-    decs-came : (decision : ℕ → ℕ → Type 0) → ((i : ℕ) (z : Bool) → 1 ≤ i → i ≤ o .n → DecidedBy w a i z → decision i (valueOf z)) → (i b : ℕ) → 1 ≤ i → i ≤ o .n → Decision (engineSeen .standing t) i b → Decision (engineSeen .standing w) i b ⊎ decision i b
+    decs-came : (decision : ℕ → ℕ → Type 0) → ((i : ℕ) (z : Bool) → 1 ≤ i → i ≤ o .given .n → DecidedBy w a i z → decision i (valueOf z)) → (i b : ℕ) → 1 ≤ i → i ≤ o .given .n →
+        Decision (engineSeen .standing t) i b → Decision (engineSeen .standing w) i b ⊎ decision i b
     decs-came decision by i b low high (zero e) = of (decided-zero-came w (x .size) a i p e)
       where
         of : (decidedZero w i ≡ true) ⊎ DecidedBy w a i true → Decision (engineSeen .standing w) i 0 ⊎ decision i 0
@@ -103,7 +104,7 @@ module _ (o : Arguments) (H : ℕ → Bool) (κ : ℕ → ℕ → Bool) (w : Lis
     unfolding auxSent marked
     auxes-stay i r e = keeps-applied (55 + i) (record { not-turns = λ q. omega arith; not-round = λ j lo hi q. omega arith }) w a p r e
 
-    pub changed : (decision : ℕ → ℕ → Type 0) → ((i : ℕ) (z : Bool) → 1 ≤ i → i ≤ o .n → DecidedBy w a i z → decision i (valueOf z)) → Changed W engineSeen w t (λ m y. ⊥) decision
+    pub changed : (decision : ℕ → ℕ → Type 0) → ((i : ℕ) (z : Bool) → 1 ≤ i → i ≤ o .given .n → DecidedBy w a i z → decision i (valueOf z)) → Changed W engineSeen w t (λ m y. ⊥) decision
     changed decision by =
         record {
           held = λ m y low high h. inl (held-back w t (x .size) (length-applied w a) (kept-holding w t (applied-kept w a p)) m y low (omega (arith, x .ruled .few)) h);

@@ -37,7 +37,7 @@ use Rattle.agreement.specs.History.{Decision, zero, one}
 use Rattle.held.specs.laws.Held.{Message, meaning}
 use Rattle.held.specs.laws.Recording.{held-recorded}
 use Rattle.agreement.specs.laws.Runs.{Delivered, CoinsStay}
-use Rattle.agreement.specs.EngineCalls.{Arguments, Agreed, Bytes, engine}
+use Rattle.agreement.specs.EngineCalls.{OpeningGiven, Agreed, Bytes, engine}
 use Rattle.agreement.specs.laws.Machine.{at, Delivery}
 use Rattle.agreement.specs.laws.EngineSeen.{engineSeen, coins-stay}
 use Rattle.agreement.specs.laws.EngineReading.{Belongs, Sets, Belonging, Says, engineReading}
@@ -53,7 +53,7 @@ value-fits (wire.Commit k) xs v f all = all
 
 -- ---- a message recorded in words of a session
 
-module _ (o : Arguments) (w : List ℕ) (B : Belongs o w) (v : List ℕ) (p : ℕ) (m : wire-message.Message) (h : InLayout p m) where
+module _ (o : OpeningGiven) (w : List ℕ) (B : Belongs o w) (v : List ℕ) (p : ℕ) (m : wire-message.Message) (h : InLayout p m) where
   same : (a : ℕ) → Untouched a → word (recorded w p m v) a ≡ word w a
   same a u = word-untouched w v p m a h u
 
@@ -83,9 +83,9 @@ module _ (o : Arguments) (w : List ℕ) (B : Belongs o w) (v : List ℕ) (p : �
 
   -- a set as messages have it
   abbrev Right : List ℕ → Type 0
-  Right X = (rises X ≡ true) × (length X ≤ o .n)
+  Right X = (rises X ≡ true) × (length X ≤ o .given .n)
 
-  recorded-sets : Sets o w → rises (values (countOf m) v) ≡ true → Layout (o .n) p m → Sets o (recorded w p m v)
+  recorded-sets : Sets o w → rises (values (countOf m) v) ≡ true → Layout (o .given .n) p m → Sets o (recorded w p m v)
   recorded-sets S rising layout =
       record {
         rising = λ k lo hi. right k lo hi .0;
@@ -93,21 +93,21 @@ module _ (o : Arguments) (w : List ℕ) (B : Belongs o w) (v : List ℕ) (p : �
             omega (arith, right k lo hi .1, set-length (recorded w p m v) k (length-recorded w v p m ∙ B .size) (small k hi));
       }
     where
-      small : (k : ℕ) → k ≤ o .n → k ≤ 16
+      small : (k : ℕ) → k ≤ o .given .n → k ≤ 16
       small k hi = omega (arith, B .ruled .few)
 
       given : (c : ℕ) → m ≡ wire.Commit c → Right (values c v)
       given c q =
-          let l : Layout (o .n) p (wire.Commit c) = subst (Layout (o .n) p) q layout in
+          let l : Layout (o .given .n) p (wire.Commit c) = subst (Layout (o .given .n) p) q layout in
           (subst (λ (y : wire-message.Message). rises (values (countOf y) v) ≡ true) q rising, omega (arith, l .1, length-values c v))
 
-      of : (k : ℕ) → 1 ≤ k → k ≤ o .n → SetAfter w v p m k → Right (commitSet (recorded w p m v) k)
+      of : (k : ℕ) → 1 ≤ k → k ≤ o .given .n → SetAfter w v p m k → Right (commitSet (recorded w p m v) k)
       of k lo hi (before e f) =
           subst Right (sym f)
           (S .rising k lo hi, omega (arith, S .few k lo hi, set-length w k (B .size) (small k hi)))
       of k lo hi (now c e q f) = subst Right (sym f) (given c q)
 
-      right : (k : ℕ) → 1 ≤ k → k ≤ o .n → Right (commitSet (recorded w p m v) k)
+      right : (k : ℕ) → 1 ≤ k → k ≤ o .given .n → Right (commitSet (recorded w p m v) k)
       right k lo hi = of k lo hi (set-after w v p m k (B .size) h lo (small k hi))
 
   -- marks of what was sent and decided stay
@@ -132,32 +132,32 @@ module _ (o : Arguments) (w : List ℕ) (B : Belongs o w) (v : List ℕ) (p : �
 
 -- ---- an accepted delivery
 
-module _ (o : Arguments) (w : List ℕ) (B : Belongs o w) (S : Sets o w) (p : ℕ) (b : Bytes) where
+module _ (o : OpeningGiven) (w : List ℕ) (B : Belongs o w) (S : Sets o w) (p : ℕ) (b : Bytes) where
   -- the message is taken in the session of the opening
-  session-taken : (m : wire-message.Message) → Accepting w p (b .list) m → readMessage (o .n) (o .session) p (b .list) ≡ Taken m
+  session-taken : (m : wire-message.Message) → Accepting w p (b .list) m → readMessage (o .given .n) (o .given .session) p (b .list) ≡ Taken m
   unfolding sessionOf sessionWith settingsOf
   session-taken m a =
-      let number : word w sessionAt % 2 ^ 32 ≡ o .session = ap (λ (x : ℕ). x % 2 ^ 32) (B .is-session) ∙ mod-eq-of-lt (o .session-fits) in
+      let number : word w sessionAt % 2 ^ 32 ≡ o .given .session = ap (λ (x : ℕ). x % 2 ^ 32) (B .is-session) ∙ mod-eq-of-lt (o .session-fits) in
       sym
       (ap (λ (x : ℕ). readMessage x (word w sessionAt % 2 ^ 32) p (b .list)) (B .is-n)
-      ∙ ap (λ (x : ℕ). readMessage (o .n) x p (b .list)) number)
+      ∙ ap (λ (x : ℕ). readMessage (o .given .n) x p (b .list)) number)
       ∙ a .taken
 
   module _ (H : ℕ → Bool) (κ : ℕ → ℕ → Bool) (t : Taking w p (b .list)) where
     message-accepting : Accepting w p (b .list) (t .message)
     message-accepting = accepting w p (b .list) (t .message) (t .accepted)
 
-    read : readMessage (o .n) (o .session) p (b .list) ≡ Taken (t .message)
+    read : readMessage (o .given .n) (o .given .session) p (b .list) ≡ Taken (t .message)
     read = session-taken (t .message) message-accepting
 
-    form : Form (o .n) (o .session) p (b .list) (t .message)
-    form = taken-form (o .n) (o .session) p (b .list) (t .message) read
+    form : Form (o .given .n) (o .given .session) p (b .list) (t .message)
+    form = taken-form (o .given .n) (o .given .session) p (b .list) (t .message) read
 
-    encoded : Encoded (o .n) (o .session) p (b .list) (t .message)
-    encoded = only-encodings (o .n) (o .session) p (b .list) (t .message) (b .each) read
+    encoded : Encoded (o .given .n) (o .given .session) p (b .list) (t .message)
+    encoded = only-encodings (o .given .n) (o .given .session) p (b .list) (t .message) (b .each) read
 
     layout : InLayout p (t .message)
-    layout = in-layout (o .n) p (t .message) (B .ruled .few) (form .link-low) (form .link-high) (form .layout)
+    layout = in-layout (o .given .n) p (t .message) (B .ruled .few) (form .link-low) (form .link-high) (form .layout)
 
     fits : ValueFits (t .message) (drop 12 (b .list))
     fits = value-fits (t .message) _ (drop 12 (b .list)) (encoded .proper .fits) (value-below (drop 12 (b .list)) (all-drop (b .list) 12 (b .each)))
@@ -195,7 +195,8 @@ pub deliver-refused : (w : List ℕ) (m : ℕ) (b : Bytes) → engine .accepts w
 unfolding deliverNumber deliveredWords
 deliver-refused w m b e = line-stays _ (b .line) w _ e (λ f. answer-refused w m (b .list) (eqb-false (deliverAnswer w m (b .list)) 0 f))
 
-pub deliver-accepted : (H : ℕ → Bool) (κ : ℕ → ℕ → Bool) (o : Arguments) (w : List ℕ) → Belonging o w → (m : ℕ) (b : Bytes) → engine .accepts w m b ≡ true → Delivery engine engineReading H κ o w m b
+pub deliver-accepted : (H : ℕ → Bool) (κ : ℕ → ℕ → Bool) (o : OpeningGiven) (w : List ℕ) → Belonging o w → (m : ℕ) (b : Bytes) → engine .accepts w m b ≡ true →
+    Delivery engine engineReading H κ o w m b
 deliver-accepted H κ o w B m b e = taking-delivery o w (B .words) (B .sets) m b H κ (answer-accepted w m (b .list) (without-line w m b e .0)) (without-line w m b e .1)
 
 same-taken : (a b : wire-message.Message) → Taken a ≡ Taken b → a ≡ b

@@ -18,7 +18,7 @@ use Rattle.restore.specs.Restoring.{Point, firstLine, nextLine, Replay, wrong, 
 use Rattle.restore.specs.laws.Written.{Without, AllWithout, lines-joined, joined-more, all-more, free-part, replay-one, replay-more}
 use Rattle.restore.specs.laws.WrittenLines.{EachByte, opening-without, delivery-without, turn-without, recording-without, first-reads, delivery-reads, turn-reads, recording-reads}
 use Rattle.agreement.specs.Calls.{Call, opening, delivery, turn, report, restore, recording, line}
-use Rattle.agreement.specs.EngineCalls.{Arguments, weightsOf, Bytes, TurnLent, RestoreLent, BitGiven, engine}
+use Rattle.agreement.specs.EngineCalls.{OpeningGiven, Bytes, TurnLent, RestoreLent, BitGiven, engine}
 use Rattle.agreement.specs.laws.Machine.{Ran, by-opening, by-delivery, by-turn, by-recording, Torn, nothing, part}
 use Rattle.agreement.specs.laws.EngineOpening.{without-line, told, opened-first}
 use Rattle.agreement.specs.EngineRestores.{Last}
@@ -34,13 +34,10 @@ wordsBefore (some x) = some (x .0)
 abbrev pub point : List ℕ → Last → Point
 point w last = record { words = w; turned = wordsBefore last }
 
-abbrev openingBody : Arguments → List ℕ
-openingBody o = openingText (o .n) (o .ta) (o .ts) (o .own) (o .session) (o .input) (o .coins) (o .weights) (o .boxed)
-
-open-again : (w : List ℕ) (o : Arguments) → engine .opens w o ≡ true → firstLine (openingBody o) ≡ some (point (engine .opened w o) none)
+open-again : (w : List ℕ) (o : OpeningGiven) → engine .opens w o ≡ true → firstLine (openingText (o .given)) ≡ some (point (engine .opened w o) none)
 open-again w o e =
-    let taken = ap (λ (k : ℕ). openAnswer k (o .n) (o .ta) (o .ts) (weightsOf o) (o .own) (o .coins) (o .boxed)) (sym (told w o e .size)) ∙ without-line w o e .0 in
-    rw (opened-first w o e) (first-reads (o .n) (o .ta) (o .ts) (o .own) (o .session) (o .input) (o .coins) (o .weights) (o .boxed) taken (o .session-fits) (o .input-fits) (o .coins-fit))
+    let taken = ap (λ (k : ℕ). openAnswer k (o .given)) (sym (told w o e .size)) ∙ without-line w o e .0 in
+    rw (opened-first w o e) (first-reads (o .given) taken (o .session-fits) (o .input-fits) (o .coins-fit))
 
 each-byte : (b : List ℕ) → AllBytes b → EachByte b
 each-byte [] h = tt
@@ -81,11 +78,11 @@ ran-lines : (t w : List ℕ) (last : Last) → Ran engine t w last → Lines t (
 unfolding appliedOr withEnd
 ran-lines _ _ _ (by-opening w o e) =
     record {
-      oldest = openingBody o;
+      oldest = openingText (o .given);
       others = [];
-      free = (opening-without (o .n) (o .ta) (o .ts) (o .own) (o .session) (o .input) (o .coins) (o .weights) (o .boxed), tt);
+      free = (opening-without (o .given), tt);
       text = refl;
-      replays = replay-one (openingBody o) ∙ ap (appliedOr 1) (open-again w o e);
+      replays = replay-one (openingText (o .given)) ∙ ap (appliedOr 1) (open-again w o e);
     }
 ran-lines _ _ _ (by-delivery t w last m b r e) = more t (point w last) (point (engine .delivered w m b) none) (deliveryText m (b .list)) (engine .delivery-line m b) (ran-lines t w last r) refl (delivery-without m (b .list)) (deliver-again w m b e)
 ran-lines _ _ _ (by-turn t w last l r e) = more t (point w last) (point (engine .turned w l) (some (w, l))) turnText (engine .turn-line) (ran-lines t w last r) refl turn-without (turn-again w l e)
@@ -101,7 +98,7 @@ torn-free rest (part c more e ne) = at c e
     none-left (x ∷ xs) f = absurd (let z : _≡_ {A = ℕ} 0 1 = cc in omega arith)
 
     at : (c : Call engine) → rest ++ more ≡ line engine c → Without LF rest
-    at (opening p o) f = free-part rest more (openingBody o) f ne (opening-without (o .n) (o .ta) (o .ts) (o .own) (o .session) (o .input) (o .coins) (o .weights) (o .boxed))
+    at (opening p o) f = free-part rest more (openingText (o .given)) f ne (opening-without (o .given))
     at (delivery p m b) f = free-part rest more (deliveryText m (b .list)) f ne (delivery-without m (b .list))
     at (turn p l) f = free-part rest more turnText f ne turn-without
     at (report p r) f = none-left rest f

@@ -21,7 +21,7 @@ use Rattle.turn.specs.Turn.{withTurnCounted, entered, decidedAs, newDecision, m
 use Rattle.turn.specs.Turn as turn
 use Rattle.turn.specs.laws.Told.{ActTold}
 use Rattle.turn.specs.laws.Frame.{Placed, told-placed, setting, coins, beyond, length-applied, applied-kept}
-use Rattle.agreement.specs.EngineCalls.{Arguments}
+use Rattle.agreement.specs.EngineCalls.{OpeningGiven}
 use Rattle.agreement.specs.laws.Runs.{CoinsStay}
 use Rattle.agreement.specs.laws.EngineSeen.{engineSeen, coins-stay}
 use Rattle.agreement.specs.laws.EngineReading.{Belongs}
@@ -91,7 +91,7 @@ fit-applied s a e few f = go (isDue a)
     go true = fit-done (put s turnsAt (word s turnsAt + 1)) a e (fit-put s turnsAt (word s turnsAt + 1) f (omega arith))
     go false = f
 
-pub belongs-applied : (o : Arguments) (g : Settings) (w : List ℕ) → Belongs o w → Ruled g → (a : acts.Act) → ActTold g w a → word w turnsAt ≤ 65535 → Belongs o (applied w a)
+pub belongs-applied : (o : OpeningGiven) (g : Settings) (w : List ℕ) → Belongs o w → Ruled g → (a : acts.Act) → ActTold g w a → word w turnsAt ≤ 65535 → Belongs o (applied w a)
 belongs-applied o g w x ruled a told few = of (told-placed g w ruled a told)
   where
     of : Placed a → Belongs o (applied w a)
@@ -113,7 +113,7 @@ belongs-applied o g w x ruled a told few = of (told-placed g w ruled a told)
           fits = fit-applied w a (told-ended g w a told) few (x .fits);
         }
 
-pub coins-applied : (o : Arguments) (w : List ℕ) → Belongs o w → (a : acts.Act) → Placed a → CoinsStay engineSeen w (applied w a)
+pub coins-applied : (o : OpeningGiven) (w : List ℕ) → Belongs o w → (a : acts.Act) → Placed a → CoinsStay engineSeen w (applied w a)
 coins-applied o w x a p =
     coins-stay w (applied w a) (omega (arith, x .is-n, x .ruled .few)) (applied-kept w a p 0 (setting (omega arith))) (applied-kept w a p 142 (beyond (omega arith)))
     (λ i low high. applied-kept w a p (7 + i) (coins (omega arith) (omega arith)))

@@ -6,7 +6,6 @@ use mathlib.Core.Option.{Option, none, some}
 use mathlib.Core.Path.{_≡_}
 use lib.ListN.{length, drop}
 use Rattle.settings.specs.Rules.{Ruled}
-use Rattle.settings.specs.Settings.{namedTa}
 use Rattle.settings.specs.declared.Settings.{Settings}
 use Rattle.records.specs.Layout.{nAt, taAt, tsAt, ownAt, sessionAt, inputAt, weightsAt, boxedAt}
 use Rattle.records.specs.Words.{word}
@@ -18,40 +17,41 @@ use Rattle.wire.specs.Message.{countOf}
 use Rattle.wire.specs.Reading.{readMessage}
 use Rattle.wire.specs.declared.Message as wire
 use Rattle.wire.specs.declared.Parsed.the-variants.{Taken}
+use Rattle.opening.specs.Arguments.{weightsBy, taBy, settingsBy}
 use Rattle.turn.specs.Due.{due, commitDue}
 use Rattle.turn.specs.Turn.{admits}
 use Rattle.turn.specs.declared.Admitted.{Admitted}
 use Rattle.turn.specs.declared.Admitted.the-variants as admitted
 use Rattle.held.specs.laws.Held.{Message, meaning}
 use Rattle.agreement.specs.History.{Act, send, echo, ready, start, relay, aux, move, commit}
-use Rattle.agreement.specs.EngineCalls.{Arguments, weightsOf, Agreed, agreed, Bytes, TurnLent, engine}
+use Rattle.agreement.specs.EngineCalls.{OpeningGiven, Agreed, Bytes, TurnLent, engine}
 use Rattle.agreement.specs.laws.Machine.{Reading}
 use Rattle.agreement.specs.laws.EngineSeen.{engineSeen}
 use Rattle.agreement.specs.laws.EngineLent.{forMessage}
 
 -- the words hold the session of an accepted opening
-pub record Belongs (o : Arguments) (w : List ℕ) : Type 0 where
-  pub ruled : Ruled (agreed o .settings)
-  pub own-low : 1 ≤ o .own
-  pub own-high : o .own ≤ o .n
-  pub kind : o .boxed ≤ 1
+pub record Belongs (o : OpeningGiven) (w : List ℕ) : Type 0 where
+  pub ruled : Ruled (settingsBy (o .given))
+  pub own-low : 1 ≤ o .given .own
+  pub own-high : o .given .own ≤ o .given .n
+  pub kind : o .given .boxed ≤ 1
   pub size : length w ≡ 2048
-  pub is-n : word w nAt ≡ o .n
-  pub is-ta : word w taAt ≡ namedTa (o .n) (o .ta) (o .ts) (weightsOf o)
-  pub is-ts : word w tsAt ≡ o .ts
-  pub is-weights : word w weightsAt ≡ weightsOf o
-  pub is-boxed : word w boxedAt ≡ o .boxed
-  pub is-own : word w ownAt ≡ o .own
-  pub is-session : word w sessionAt ≡ o .session
-  pub is-input : word w inputAt ≡ o .input
+  pub is-n : word w nAt ≡ o .given .n
+  pub is-ta : word w taAt ≡ taBy (o .given)
+  pub is-ts : word w tsAt ≡ o .given .ts
+  pub is-weights : word w weightsAt ≡ weightsBy (o .given)
+  pub is-boxed : word w boxedAt ≡ o .given .boxed
+  pub is-own : word w ownAt ≡ o .given .own
+  pub is-session : word w sessionAt ≡ o .given .session
+  pub is-input : word w inputAt ≡ o .given .input
   pub fits : (j : ℕ) → word w j < 2 ^ 64
 
 -- the COMMITs that are held are as messages have them
-pub record Sets (o : Arguments) (w : List ℕ) : Type 0 where
-  pub rising : (p : ℕ) → 1 ≤ p → p ≤ o .n → rises (commitSet w p) ≡ true
-  pub few : (p : ℕ) → 1 ≤ p → p ≤ o .n → commitCount w p ≤ o .n
+pub record Sets (o : OpeningGiven) (w : List ℕ) : Type 0 where
+  pub rising : (p : ℕ) → 1 ≤ p → p ≤ o .given .n → rises (commitSet w p) ≡ true
+  pub few : (p : ℕ) → 1 ≤ p → p ≤ o .given .n → commitCount w p ≤ o .given .n
 
-pub record Belonging (o : Arguments) (w : List ℕ) : Type 0 where
+pub record Belonging (o : OpeningGiven) (w : List ℕ) : Type 0 where
   pub words : Belongs o w
   pub sets : Sets o w
 

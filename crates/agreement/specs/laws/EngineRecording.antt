@@ -24,7 +24,7 @@ use Rattle.journal.specs.laws.Journal.{line-taken, line-words, line-stays}
 use Rattle.agreement.specs.Evidence.{World}
 use Rattle.agreement.specs.History.{Decision, zero, one}
 use Rattle.agreement.specs.laws.Runs.{Kept}
-use Rattle.agreement.specs.EngineCalls.{Arguments, BitGiven, agreed, engine}
+use Rattle.agreement.specs.EngineCalls.{OpeningGiven, BitGiven, agreed, engine}
 use Rattle.agreement.specs.laws.Machine.{at, BitRecorded}
 use Rattle.agreement.specs.laws.Coins.{bit-value}
 use Rattle.agreement.specs.laws.EngineSeen.{CoinShown, engineSeen}
@@ -77,7 +77,7 @@ module _ (w : List ℕ) (b : BitGiven) where
 
 -- ---- a bit recorded in words of a session
 
-module _ (o : Arguments) (w : List ℕ) (B : Belongs o w) (b : BitGiven) (k : Recordable w (b .vote) (b .round) (b .bit)) where
+module _ (o : OpeningGiven) (w : List ℕ) (B : Belongs o w) (b : BitGiven) (k : Recordable w (b .vote) (b .round) (b .bit)) where
   abbrev t : List ℕ
   t = withBit w (b .vote) (b .round) (b .bit)
 
@@ -160,7 +160,7 @@ record-refused w b e = line-stays _ (b .line) w _ e (λ f. refused-same w (b .vo
 pub record-binary : (w : List ℕ) (b : BitGiven) → engine .records w b ≡ true → b .bit ≤ 1
 record-binary w b e = recordable w b e .bit
 
-pub record-printed : (o : Arguments) (w : List ℕ) → Belongs o w → engine .boxed (agreed o) ≡ false → (b : BitGiven) → engine .records w b ≡ false
+pub record-printed : (o : OpeningGiven) (w : List ℕ) → Belongs o w → engine .boxed (agreed (o .given)) ≡ false → (b : BitGiven) → engine .records w b ≡ false
 unfolding printed
 record-printed o w B e b = at (engine .records w b) refl
   where
@@ -168,13 +168,13 @@ record-printed o w B e b = at (engine .records w b) refl
     at false f = refl
     at true f =
         let some : word w boxedAt ≢ 0 = eqb-false (word w boxedAt) 0 (recordable w b f .boxed) in
-        let one : o .boxed ≡ 1 = kind (o .boxed) (B .kind) (λ z. some (B .is-boxed ∙ z)) in
-        absurd (false≢true (sym e ∙ eq-eqb (o .boxed) 1 one))
+        let one : o .given .boxed ≡ 1 = kind (o .given .boxed) (B .kind) (λ z. some (B .is-boxed ∙ z)) in
+        absurd (false≢true (sym e ∙ eq-eqb (o .given .boxed) 1 one))
       where
         kind : (x : ℕ) → x ≤ 1 → x ≢ 0 → x ≡ 1
         kind x l ne = omega (arith, l, ne)
 
-pub record-accepted : (H : ℕ → Bool) (κ : ℕ → ℕ → Bool) (o : Arguments) (w : List ℕ) → Belonging o w → (b : BitGiven) → engine .records w b ≡ true → BitRecorded engine engineReading H κ o w b
+pub record-accepted : (H : ℕ → Bool) (κ : ℕ → ℕ → Bool) (o : OpeningGiven) (w : List ℕ) → Belonging o w → (b : BitGiven) → engine .records w b ≡ true → BitRecorded engine engineReading H κ o w b
 record-accepted H κ o w x b e =
     let k = recordable w b e in
     let m = sym (marks-bit w b e) in

@@ -19,6 +19,7 @@ use Rattle.commits.specs.Commits.{setLeader, setOf, leadingSet}
 use Rattle.session.specs.Session.{settingsOf, isState}
 use Rattle.session.specs.laws.Session.{State, state-is}
 use Rattle.exits.specs.Exits.{exitNow}
+use Rattle.opening.specs.Arguments.{settingsBy}
 use Rattle.turn.specs.laws.Due.{leader-holds}
 use Rattle.turn.specs.laws.Admitting.{admitting}
 use Rattle.turn.specs.Turn.{admits}
@@ -32,7 +33,7 @@ use Rattle.agreement.specs.History.{Act, Names}
 use Rattle.held.specs.laws.Held.{COMMIT}
 use Rattle.agreement.specs.laws.Runs.{HeldFrom, OutputsHeld}
 use Rattle.agreement.specs.Calls.{worldWith}
-use Rattle.agreement.specs.EngineCalls.{Arguments, agreed, TurnLent, ReportNames, ReportEnforces, engine}
+use Rattle.agreement.specs.EngineCalls.{OpeningGiven, agreed, TurnLent, ReportNames, ReportEnforces, engine}
 use Rattle.agreement.specs.laws.EngineSeen.{engineSeen}
 use Rattle.agreement.specs.laws.EngineLent.{forMessage}
 use Rattle.agreement.specs.laws.EngineReading.{Belongs, admittedAct, actOf}
@@ -44,12 +45,12 @@ use Rattle.wire.specs.Message.{atFront}
 read-set : (k : ℕ) (xs old all X : List ℕ) → X ≡ take k all → all ≡ atFront xs old → k ≡ length xs → X ≡ xs
 read-set k xs old all X e f h = e ∙ ap (take k) f ∙ ap (λ (n : ℕ). take n (atFront xs old)) h ∙ front-read xs old
 
-module _ (o : Arguments) (H : ℕ → Bool) (κ : ℕ → ℕ → Bool) (w : List ℕ) (x : Belongs o w) where
+module _ (o : OpeningGiven) (H : ℕ → Bool) (κ : ℕ → ℕ → Bool) (w : List ℕ) (x : Belongs o w) where
   abbrev W : World
-  W = worldWith engine (agreed o) H κ
+  W = worldWith engine (agreed (o .given)) H κ
 
   -- what holds with the stored settings holds with those of the opening
-  with-settings : (P : Settings → Type 0) → P (settingsOf w) → P (agreed o .settings)
+  with-settings : (P : Settings → Type 0) → P (settingsOf w) → P (settingsBy (o .given))
   with-settings P h = subst P (settings-same o w x) h
 
   ruled : Ruled (settingsOf w)

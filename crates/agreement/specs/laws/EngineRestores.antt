@@ -13,7 +13,7 @@ use Rattle.journal.specs.laws.Journal.{acts-outcome}
 use Rattle.restore.specs.Restoring.{MESSAGE-BYTES, lengthAgain, bytesAgain, replayAnswer, replayWords, replayBytes, lentAnswer, restoreAnswer, restoredWords, restoredBytes}
 use Rattle.agreement.specs.Moments.{Within, now}
 use Rattle.agreement.specs.Calls.{Moment, Journal, words, bytes, journal, lastTurn}
-use Rattle.agreement.specs.EngineCalls.{engine, Arguments, Bytes, TurnLent}
+use Rattle.agreement.specs.EngineCalls.{engine, OpeningGiven, Bytes, TurnLent}
 use Rattle.agreement.specs.laws.Openings.{opened-known}
 use Rattle.agreement.specs.laws.Coins.{coinsOf, agreeing-coined}
 use Rattle.agreement.specs.laws.Journals.{cut-at, complete-within}
@@ -35,7 +35,7 @@ lent-enough words room e l = rw (e, le-ltb room MESSAGE-BYTES l)
 
 -- the words after lines belong to the session of their opening
 record Ours (w : List ℕ) : Type 0 where
-  by-opening : Arguments
+  by-opening : OpeningGiven
   belongs : Belonging by-opening w
 
 ran-ours : (t w : List ℕ) (last : Last) → Ran engine t w last → Ours w

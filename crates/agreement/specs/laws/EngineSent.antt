@@ -45,6 +45,7 @@ use Rattle.wire_laws.specs.Proper.{Fitting, Layout, Proper}
 use Rattle.wire_laws.specs.RoundTrip.{ReadBack}
 use Rattle.wire_laws.proofs.RoundTrip.{round-trip}
 use Rattle.session.specs.declared.Session.{Session}
+use Rattle.opening.specs.Arguments.{settingsBy}
 use Rattle.turn.specs.Due.{due, commitDue}
 use Rattle.turn.specs.Turn.{moveOutcome, outcomeOf, bytesAfter, turnOutcome, turnBytes}
 use Rattle.turn.specs.laws.Told.{ActTold, Rests, on-exit, on-copies}
@@ -56,7 +57,7 @@ use Rattle.agreement.specs.History.{Act, commit, move}
 use Rattle.held.specs.laws.Held.{Message, EST, meaning}
 use Rattle.agreement.specs.laws.Runs as runs
 use Rattle.agreement.specs.Calls.{worldWith}
-use Rattle.agreement.specs.EngineCalls.{Arguments, agreed, Bytes, engine}
+use Rattle.agreement.specs.EngineCalls.{OpeningGiven, agreed, Bytes, engine}
 use Rattle.agreement.specs.laws.EngineSeen.{engineSeen}
 use Rattle.agreement.specs.laws.EngineLent.{SendsPlain}
 use Rattle.agreement.specs.laws.EngineReading.{Belongs, Sets, shownAct, Says}
@@ -100,12 +101,12 @@ module _ (g : Settings) (s : List ℕ) (fit : Fit s) where
 
 -- ---- messages that may be sent
 
-module _ (o : Arguments) (H : ℕ → Bool) (κ : ℕ → ℕ → Bool) (w : List ℕ) (x : Belongs o w) (coins : runs.CoinsAre (worldWith engine (agreed o) H κ) engineSeen w) (sets : Sets o w) where
+module _ (o : OpeningGiven) (H : ℕ → Bool) (κ : ℕ → ℕ → Bool) (w : List ℕ) (x : Belongs o w) (coins : runs.CoinsAre (worldWith engine (agreed (o .given)) H κ) engineSeen w) (sets : Sets o w) where
   abbrev g : Settings
-  g = agreed o .settings
+  g = settingsBy (o .given)
 
   abbrev W : World
-  W = worldWith engine (agreed o) H κ
+  W = worldWith engine (agreed (o .given)) H κ
 
   abbrev xs : List ℕ
   xs = commitDue g w
@@ -113,7 +114,7 @@ module _ (o : Arguments) (H : ℕ → Bool) (κ : ℕ → ℕ → Bool) (w : Lis
   record Good (X : List ℕ) : Type 0 where
     fits : Fitting X
     rising : rises X ≡ true
-    few : length X ≤ o .n
+    few : length X ≤ o .given .n
 
   exit-good : Good (exitNow g w .names)
   unfolding exitNow
@@ -124,7 +125,7 @@ module _ (o : Arguments) (H : ℕ → Bool) (κ : ℕ → ℕ → Bool) (w : Lis
         few = names-few g (output g w) (decidedZero w) (decidedOne w);
       }
 
-  held-good : (p : ℕ) → 1 ≤ p → p ≤ o .n → Good (commitSet w p)
+  held-good : (p : ℕ) → 1 ≤ p → p ≤ o .given .n → Good (commitSet w p)
   unfolding commitValue
   held-good p low high =
       let small : p ≤ 16 = omega (arith, x .ruled .few) in
@@ -139,7 +140,7 @@ module _ (o : Arguments) (H : ℕ → Bool) (κ : ℕ → ℕ → Bool) (w : Lis
   rests-good (on-copies p h same) = rw same (held-good p (h .low) (h .high))
 
   -- one value beside the header
-  single : (m : wire.Message) (v : ℕ) → Layout (o .n) (o .own) m → besides m ≡ 0 → valuesOf m xs ≡ v ∷ [] → v < 2 ^ 64 → Proper (o .n) (o .own) m xs
+  single : (m : wire.Message) (v : ℕ) → Layout (o .given .n) (o .given .own) m → besides m ≡ 0 → valuesOf m xs ≡ v ∷ [] → v < 2 ^ 64 → Proper (o .given .n) (o .given .own) m xs
   unfolding rises risesFrom
   single m v l b e f = record { layout = l; held = omega arith; fits = rw e (f, tt); rising = rw e }
 
@@ -171,14 +172,14 @@ module _ (o : Arguments) (H : ℕ → Bool) (κ : ℕ → ℕ → Bool) (w : Lis
   ShownMessage (some a) y = runs.message W a ≡ y
 
   record Sending (a : Option Act) (m : wire.Message) : Type 0 where
-    proper : Proper (o .n) (o .own) m xs
+    proper : Proper (o .given .n) (o .given .own) m xs
     shows : ShownMessage a (meaning m (valuesOf m xs))
 
   -- the outcome of an act, where it is that m0 is sent
   sending : (a : Option Act) (m0 m : wire.Message) → outcome.Sent m0 ≡ outcome.Sent m → Sending a m0 → Sending a m
   sending a m0 m e s = let same : m0 ≡ m = cc in subst (Sending a) same s
 
-  est-sending : (a : Act) (i r b : ℕ) → 1 ≤ i → i ≤ o .n → 1 ≤ r → r ≤ 32 → b ≤ 1 → runs.message W a ≡ EST i r b → Sending (some a) (message.Est i r b)
+  est-sending : (a : Act) (i r b : ℕ) → 1 ≤ i → i ≤ o .given .n → 1 ≤ r → r ≤ 32 → b ≤ 1 → runs.message W a ≡ EST i r b → Sending (some a) (message.Est i r b)
   est-sending a i r b lo hi begun ended bit e = record { proper = single (message.Est i r b) b (lo, hi, begun, ended, bit) refl refl (omega arith); shows = e }
 
   commit-sending : (k : ℕ) → 1 ≤ k → length xs ≡ k → Good xs → Sending (some (commit xs)) (message.Commit k)
@@ -189,7 +190,8 @@ module _ (o : Arguments) (H : ℕ → Bool) (κ : ℕ → ℕ → Bool) (w : Lis
         shows = rw all;
       }
 
-  move-sending : (i r : ℕ) (v : View) (m : wire.Message) → 1 ≤ i → i ≤ o .n → MoveTold g w i r v → estimate (records.coin w i r) v ≤ 1 → moveOutcome w i r v ≡ outcome.Sent m → Sending (some (move i r v)) m
+  move-sending : (i r : ℕ) (v : View) (m : wire.Message) → 1 ≤ i → i ≤ o .given .n → MoveTold g w i r v → estimate (records.coin w i r) v ≤ 1 → moveOutcome w i r v ≡ outcome.Sent m →
+      Sending (some (move i r v)) m
   unfolding moveOutcome
   move-sending i r v m lo hi told bit e = go (ltb r 32) refl e
     where
@@ -199,13 +201,13 @@ module _ (o : Arguments) (H : ℕ → Bool) (κ : ℕ → ℕ → Bool) (w : Lis
           (est-sending _ i (r + 1) (estimate (records.coin w i r) v) lo hi (omega arith) (omega (arith, ltb-true r 32 l)) bit (rw (coin-same o H κ w x coins g i r v lo hi told) (ap (λ (q : ℕ). EST i q (estimate (W .coin i r) v)) (next r))))
       go false l f = absurd (let z : _≡_ {A = ℕ} 0 1 = cc in omega arith)
 
-  act-sending : (a : acts.Act) → ActTold g w a → (m : wire.Message) → outcomeOf (o .own) w a ≡ outcome.Sent m → Sending (shownAct g w a) m
+  act-sending : (a : acts.Act) → ActTold g w a → (m : wire.Message) → outcomeOf (o .given .own) w a ≡ outcome.Sent m → Sending (shownAct g w a) m
   unfolding outcomeOf sendValue
   act-sending act.Idle t m e = absurd (let z : _≡_ {A = ℕ} 0 1 = cc in omega arith)
   act-sending act.InForce t m e = absurd (let z : _≡_ {A = ℕ} 0 1 = cc in omega arith)
   act-sending (act.Commit k) t m e = sending _ (message.Commit k) m e (commit-sending k (t .some) (t .sized) (rests-good (t .rests)))
   act-sending (act.Send v) t m e =
-      sending _ (message.Send (o .own) v) m e (record { proper = single (message.Send (o .own) v) v refl refl refl (rw (t .own) (x .fits 5)); shows = refl })
+      sending _ (message.Send (o .given .own) v) m e (record { proper = single (message.Send (o .given .own) v) v refl refl refl (rw (t .own) (x .fits 5)); shows = refl })
   act-sending (act.Echo i v) t m e =
       sending _ (message.Echo i v) m e (record { proper = single (message.Echo i v) v (t .among .low, t .among .high) refl refl (rw (t .same) (x .fits (71 + i))); shows = refl })
   act-sending (act.Ready i v) t m e =
@@ -221,13 +223,15 @@ module _ (o : Arguments) (H : ℕ → Bool) (κ : ℕ → ℕ → Bool) (w : Lis
   -- ---- the bytes of a turn that sends
 
   abbrev session : Session
-  session = record { settings = g; own = o .own; number = o .session }
+  session = record { settings = g; own = o .given .own; number = o .given .session }
 
-  sent-bytes : (lent : List ℕ) → Taken w lent session → (m : wire.Message) → besides m ≤ length xs → outcomeOf (o .own) w (due g w) ≡ outcome.Sent m → take (lengthOf m) (turnBytes w lent) ≡ encode m (o .own) (o .session) xs
+  sent-bytes : (lent : List ℕ) → Taken w lent session → (m : wire.Message) → besides m ≤ length xs → outcomeOf (o .given .own) w (due g w) ≡ outcome.Sent m →
+      take (lengthOf m) (turnBytes w lent) ≡ encode m (o .given .own) (o .given .session) xs
   unfolding bytesAfter atFront
   sent-bytes lent t m b e =
       ap (take (lengthOf m)) (t .bytes ∙ ap (λ (y : Outcome). bytesAfter session w y lent) e)
-      ∙ take-at (encode m (o .own) (o .session) xs) (drop (length (encode m (o .own) (o .session) xs)) lent) (lengthOf m) (length-encode m (o .own) (o .session) xs b)
+      ∙ take-at (encode m (o .given .own) (o .given .session) xs) (drop (length (encode m (o .given .own) (o .given .session) xs)) lent) (lengthOf m)
+      (length-encode m (o .given .own) (o .given .session) xs b)
 
   -- the bytes of a message do not depend on what was lent
   pub same-bytes : (lent other : List ℕ) → Taken w lent session → Taken w other session → (m : wire.Message) → turnOutcome w (length lent) ≡ outcome.Sent m → take (lengthOf m) (turnBytes w lent) ≡ take (lengthOf m) (turnBytes w other)
@@ -236,20 +240,22 @@ module _ (o : Arguments) (H : ℕ → Bool) (κ : ℕ → ℕ → Bool) (w : Lis
       let b = act-sending (due g w) (t .told) m f .proper .held in
       sent-bytes lent t m b f ∙ sym (sent-bytes other u m b f)
 
-  encoded-says : (m : wire.Message) → Proper (o .n) (o .own) m xs → (b : Bytes) → b .list ≡ encode m (o .own) (o .session) xs → Says (agreed o) (o .own) b (meaning m (valuesOf m xs))
+  encoded-says : (m : wire.Message) → Proper (o .given .n) (o .given .own) m xs → (b : Bytes) → b .list ≡ encode m (o .given .own) (o .given .session) xs →
+      Says (agreed (o .given)) (o .given .own) b (meaning m (valuesOf m xs))
   encoded-says m p b e =
-      let back : ReadBack (o .n) (o .session) (o .own) m xs = round-trip (o .n) (o .session) (o .own) m xs (o .session-fits) (x .own-low) (x .own-high) p in
+      let back : ReadBack (o .given .n) (o .given .session) (o .given .own) m xs = round-trip (o .given .n) (o .given .session) (o .given .own) m xs (o .session-fits) (x .own-low) (x .own-high) p in
       record {
         message = m;
         taken = rw e (back .message);
         means = ap (meaning m) (rw e (sym (back .all-values)));
       }
 
-  pub shown-says : (lent : List ℕ) → Taken w lent session → (b : Bytes) → SendsPlain w lent b → (a : Act) → shownAct g w (due g w) ≡ some a → Says (agreed o) (o .own) b (runs.message W a)
+  pub shown-says : (lent : List ℕ) → Taken w lent session → (b : Bytes) → SendsPlain w lent b → (a : Act) → shownAct g w (due g w) ≡ some a →
+      Says (agreed (o .given)) (o .given .own) b (runs.message W a)
   shown-says lent t b h a e =
       of (act-sending (due g w) (t .told) (h .message) (sym (t .answer) ∙ h .outcome))
     where
-      of : Sending (shownAct g w (due g w)) (h .message) → Says (agreed o) (o .own) b (runs.message W a)
+      of : Sending (shownAct g w (due g w)) (h .message) → Says (agreed (o .given)) (o .given .own) b (runs.message W a)
       of s =
           let is : runs.message W a ≡ meaning (h .message) (valuesOf (h .message) xs) = rw e at s .shows in
           rw is (encoded-says (h .message) (s .proper) b (h .bytes ∙ sent-bytes lent t (h .message) (s .proper .held) (sym (t .answer) ∙ h .outcome)))

@@ -20,6 +20,7 @@ use Rattle.acts.specs.declared.View.{View}
 use Rattle.wire.specs.declared.Message as wire
 use Rattle.session.specs.Session.{settingsOf, sessionWith, sessionOf}
 use Rattle.session.specs.declared.Session.{Session}
+use Rattle.opening.specs.Arguments.{settingsBy}
 use Rattle.turn.specs.Due.{due}
 use Rattle.turn.specs.laws.Due.{due-told}
 use Rattle.turn.specs.Turn.{applied, moveOutcome, outcomeOf, admits, outcomeFor, wordsFor, bytesFor, sentLength, turnOutcome, turnWords, turnBytes}
@@ -39,7 +40,7 @@ use Rattle.agreement.specs.Evidence.{World}
 use Rattle.agreement.specs.History.{Act, send}
 use Rattle.held.specs.laws.Keeping.{kept-holding, count-back, set-back}
 use Rattle.agreement.specs.Calls.{worldWith}
-use Rattle.agreement.specs.EngineCalls.{Arguments, agreed, Bytes, TurnLent, SendsBytes, engine}
+use Rattle.agreement.specs.EngineCalls.{OpeningGiven, agreed, Bytes, TurnLent, SendsBytes, engine}
 use Rattle.agreement.specs.laws.Runs.{CoinsAre, CoinsStay}
 use Rattle.agreement.specs.laws.Machine.{Turned}
 use Rattle.agreement.specs.laws.EngineSeen.{engineSeen}
@@ -50,17 +51,17 @@ use Rattle.agreement.specs.laws.EngineDue.{ShownDue, shown-due}
 use Rattle.agreement.specs.laws.EngineActed.{unchanged, kept-by, ShownActed, shown-acted}
 use Rattle.agreement.specs.laws.EngineSent.{silent, shown-says, same-bytes}
 
-module _ (o : Arguments) (w : List ℕ) (x : Belongs o w) where
+module _ (o : OpeningGiven) (w : List ℕ) (x : Belongs o w) where
   abbrev pub session : Session
-  session = record { settings = agreed o .settings; own = o .own; number = o .session }
+  session = record { settings = settingsBy (o .given); own = o .given .own; number = o .given .session }
 
-  pub settings-same : settingsOf w ≡ agreed o .settings
+  pub settings-same : settingsOf w ≡ settingsBy (o .given)
   unfolding settingsOf
   settings-same = rw (x .is-n, x .is-ta, x .is-ts, x .is-weights)
 
   session-same : sessionOf w ≡ session
   unfolding sessionOf sessionWith
-  session-same = rw (settings-same, x .is-own, x .is-session, short (o .session) (o .session-fits))
+  session-same = rw (settings-same, x .is-own, x .is-session, short (o .given .session) (o .session-fits))
     where
       short : (k : ℕ) → k < 2 ^ 32 → k % 2 ^ 32 ≡ k
       short k h = omega arith
@@ -93,12 +94,12 @@ module _ (o : Arguments) (w : List ℕ) (x : Belongs o w) where
         of : (m : wire.Message) → outcome.Refused k ≡ outcome.Sent m → ⊥
         of m f = let z : _≡_ {A = ℕ} 0 1 = cc in omega arith
 
-module _ (o : Arguments) (w : List ℕ) (x : Belonging o w) (l : TurnLent) where
+module _ (o : OpeningGiven) (w : List ℕ) (x : Belonging o w) (l : TurnLent) where
   abbrev lent : List ℕ
   lent = forMessage l
 
   abbrev g : Settings
-  g = agreed o .settings
+  g = settingsBy (o .given)
 
   sets-applied : (a : acts.Act) → ActTold g w a → Sets o (applied w a)
   sets-applied a told =
@@ -132,16 +133,16 @@ module _ (o : Arguments) (w : List ℕ) (x : Belonging o w) (l : TurnLent) where
 
   -- ---- what a turn tells
 
-  module _ (H : ℕ → Bool) (κ : ℕ → ℕ → Bool) (coins : CoinsAre (worldWith engine (agreed o) H κ) engineSeen w) where
+  module _ (H : ℕ → Bool) (κ : ℕ → ℕ → Bool) (coins : CoinsAre (worldWith engine (agreed (o .given)) H κ) engineSeen w) where
     abbrev W : World
-    W = worldWith engine (agreed o) H κ
+    W = worldWith engine (agreed (o .given)) H κ
 
     due-shown : (a : acts.Act) → ActTold g w a → ShownDue W w (shownAct g w a)
     due-shown =
         subst (λ (y : Settings). Ruled y → (a : acts.Act) → ActTold y w a → ShownDue (record { settings = y; honest = H; coin = W .coin }) w (shownAct y w a))
         (settings-same o w (x .words)) (λ ruled. shown-due w ruled (x .words .size) H (W .coin)) (x .words .ruled)
 
-    input-shown : (a : acts.Act) → ActTold g w a → (v : ℕ) → shownAct g w a ≡ some (send v) → v ≡ o .input
+    input-shown : (a : acts.Act) → ActTold g w a → (v : ℕ) → shownAct g w a ≡ some (send v) → v ≡ o .given .input
     input-shown act.Idle t v e = absurd (let z : _≡_ {A = ℕ} 0 1 = cc in omega arith)
     input-shown act.InForce t v e = absurd (let z : _≡_ {A = ℕ} 0 1 = cc in omega arith)
     input-shown (act.Commit k) t v e = absurd (let z : _≡_ {A = ℕ} 0 1 = cc in omega arith)
@@ -219,7 +220,7 @@ turn-idle w l e = go (admits w (turnRoom (length (l .message)) (l .line))) e
 
 -- ---- a message that was sent, again
 
-module _ (o : Arguments) (w : List ℕ) (x : Belonging o w) (l : TurnLent) (b : Bytes) (h : SendsBytes w l b) (lent : List ℕ) (room : 140 ≤ length lent) where
+module _ (o : OpeningGiven) (w : List ℕ) (x : Belonging o w) (l : TurnLent) (b : Bytes) (h : SendsBytes w l b) (lent : List ℕ) (room : 140 ≤ length lent) where
   plain : SendsPlain w (forMessage l) b
   plain = sends-plain w l b h
 

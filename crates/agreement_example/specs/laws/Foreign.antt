@@ -6,13 +6,13 @@ use mathlib.Core.Path.{_≡_, refl, ap, _∙_}
 use lib.ListN.{length}
 use Rattle.records.specs.Layout.{stateWords}
 use Rattle.records.specs.Words.{blank}
+use Rattle.opening.specs.Opening.{openWords}
 use Rattle.journal.specs.Journal.{LINE-BYTES}
 use Rattle.turn_bound.specs.laws.Computing.{calls}
 use Rattle.agreement.specs.Moments.{Within, now, after}
 use Rattle.agreement.specs.laws.Moments.{within-none}
 use Rattle.agreement.specs.Calls.{Call, opening, turn, words, journal, Sent}
 use Rattle.agreement.specs.EngineCalls.{engine, TurnLent}
-use Rattle.agreement.specs.EngineCalls.{first}
 use Rattle.agreement_example.specs.Checking.{opens, listed}
 use Rattle.agreement_example.specs.laws.Computing.{checks}
 use Rattle.agreement_example.specs.Example.{Sized}
@@ -59,7 +59,7 @@ opens-second = refl
 abbrev lent : TurnLent
 lent = record { message = blank 140; line = LINE-BYTES }
 
-taken : engine .accepts (engine .turned (first asSecond) lent) 2 unsent ≡ true
+taken : engine .accepts (engine .turned (openWords (asSecond .given)) lent) 2 unsent ≡ true
 unfolding calls checks
 taken = refl
 
@@ -94,13 +94,13 @@ module _ (start : ℕ → List ℕ) (room : Sized start session firstTwo) where
       }
 
   -- the words of 1 as 2, before and after its turn
-  words-second : words engine start untilSecond 1 ≡ first asSecond
+  words-second : words engine start untilSecond 1 ≡ openWords (asSecond .given)
   words-second =
       words-here start (opening 1 asSecond) untilFourth
       ∙ opened-sized start (words engine start untilFourth 1) asSecond size-fourth
-      ∙ ap (λ (b : Bool). cond b (first asSecond) (words engine start untilFourth 1)) opens-second
+      ∙ ap (λ (b : Bool). cond b (openWords (asSecond .given)) (words engine start untilFourth 1)) opens-second
 
-  words-turned : words engine start untilTurn 1 ≡ engine .turned (first asSecond) lent
+  words-turned : words engine start untilTurn 1 ≡ engine .turned (openWords (asSecond .given)) lent
   unfolding turnOf
   words-turned = words-here start (turn 1 lent) untilSecond ∙ ap (λ (w : List ℕ). engine .turned w lent) words-second
 

@@ -8,9 +8,9 @@ use lib.ListN.{length, drop}
 use Rattle.records.specs.Layout.{stateWords, coinAt}
 use Rattle.records.specs.Words.{word, put, setMark}
 use Rattle.records.specs.laws.Words.{length-put}
-use Rattle.records.specs.laws.Fill.{length-blank, length-storeOf}
-use Rattle.opening.specs.Opening.{openAnswer, openWords, opened, withSettings, withCoins}
-use Rattle.opening.specs.Given.{item}
+use Rattle.opening.specs.Arguments.{Arguments}
+use Rattle.opening.specs.Opening.{openAnswer, openWords, opened}
+use Rattle.opening.specs.laws.Opening.{length-first}
 use Rattle.delivery.specs.Delivery.{verdict, wordsAfter, delivered}
 use Rattle.delivery.specs.laws.Frame.{length-recorded}
 use Rattle.delivery.specs.declared.Verdict.{Verdict}
@@ -25,19 +25,14 @@ use Rattle.turn.specs.declared.Admitted.the-variants as admitted
 use Rattle.journal.specs.Journal.{LINE-BYTES, lineWords, openedWords, deliveredWords, recordWords, turnRoom}
 use Rattle.agreement.specs.Plain.{NoRestore}
 use Rattle.agreement.specs.Calls.{Call, opening, delivery, turn, report, restore, recording, left}
-use Rattle.agreement.specs.EngineCalls.{engine, weightsOf}
+use Rattle.agreement.specs.EngineCalls.{engine}
 
-length-openWords : (n ta ts w own session input : ℕ) (coins : List ℕ) (boxed : ℕ) → length (openWords n ta ts w own session input coins boxed) ≡ stateWords
-unfolding openWords withCoins withSettings
-length-openWords n ta ts w own session input coins boxed =
-    length-storeOf (item coins) (coinAt 0) _ n ∙ simp (length-put, length-blank)
-
-length-opened : (s : List ℕ) (n ta ts w own session input : ℕ) (coins : List ℕ) (boxed : ℕ) → length s ≡ stateWords → length (opened s n ta ts w own session input coins boxed) ≡ stateWords
+length-opened : (s : List ℕ) (o : Arguments) → length s ≡ stateWords → length (opened s o) ≡ stateWords
 unfolding opened
-length-opened s n ta ts w own session input coins boxed e = go (eqb (openAnswer (length s) n ta ts w own coins boxed) 0)
+length-opened s o e = go (eqb (openAnswer (length s) o) 0)
   where
-    go : (b : Bool) → length (cond b (openWords n ta ts w own session input coins boxed) s) ≡ stateWords
-    go true = length-openWords n ta ts w own session input coins boxed
+    go : (b : Bool) → length (cond b (openWords o) s) ≡ stateWords
+    go true = length-first o
     go false = e
 
 length-delivered : (s : List ℕ) (link : ℕ) (b : List ℕ) → length (delivered s link b) ≡ length s
@@ -75,7 +70,7 @@ length-line room before after e f = go (ltb room LINE-BYTES)
 -- the words that a call leaves of 2,048 words are as many
 pub length-left : (c : Call engine) → NoRestore engine c → (w : List ℕ) → length w ≡ stateWords → length (left engine c w) ≡ stateWords
 unfolding openedWords deliveredWords recordWords
-length-left (opening p o) n w e = length-line (o .line) w _ e (length-opened w (o .n) (o .ta) (o .ts) (weightsOf o) (o .own) (o .session) (o .input) (o .coins) (o .boxed) e)
+length-left (opening p o) n w e = length-line (o .line) w _ e (length-opened w (o .given) e)
 length-left (delivery p m b) n w e = length-line (b .line) w _ e (length-delivered w m (b .list) ∙ e)
 length-left (turn p l) n w e = length-turned w (turnRoom (length (l .message)) (l .line)) ∙ e
 length-left (report p r) n w e = e

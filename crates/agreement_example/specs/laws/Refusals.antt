@@ -22,7 +22,7 @@ refusalOf outcome.InForce = 0
 
 -- the number that a call is refused with, 0 for none; a call at one that is not opened is passed over, and the test takes no restore that is refused
 unfoldable pub refusal : Call engine → List Entry → ℕ
-refusal (opening p o) xs = openNumber stateWords (o .n) (o .ta) (o .ts) (o .own) (o .coins) (o .weights) (o .boxed) (o .line)
+refusal (opening p o) xs = openNumber stateWords (o .given) (o .line)
 refusal (delivery p m b) xs = cond (isOpened xs p) (deliverNumber (wordsOf xs p) m (b .list) (b .line)) 0
 refusal (turn p l) xs = cond (isOpened xs p) (refusalOf (turnedOutcome (wordsOf xs p) (length (l .message)) (l .line))) 0
 refusal (report p r) xs = 0

@@ -13,7 +13,6 @@ use Rattle.restore.specs.Restoring.{MESSAGE-BYTES, accepted}
 use Rattle.agreement.specs.Evidence.{Honest}
 use Rattle.agreement.specs.Calls.{Call, restore, world, Moment, Journal, bytes, complete, words, journal, FallsBack}
 use Rattle.agreement.specs.EngineCalls.{engine, Agreed, RestoreLent}
-use Rattle.agreement.specs.EngineCalls.{first}
 use Rattle.agreement.specs.EngineRestores.{Gives, RestoreGives}
 use Rattle.agreement.specs.laws.EngineRestores.{restore-gives}
 use Rattle.agreement_example.specs.laws.Lists.{departed-before, conditions-met}

@@ -10,6 +10,7 @@ use lib.Dec.{eqb}
 use lib.ListN.{length, take}
 use Rattle.quorum.specs.laws.Bools.{and-left, and-right}
 use Rattle.records.specs.Layout.{stateWords}
+use Rattle.opening.specs.Opening.{openWords}
 use Rattle.wire.specs.Message.{lengthOf}
 use Rattle.wire.specs.declared.Message.{Message}
 use Rattle.turn.specs.declared.Outcome.{Outcome}
@@ -19,8 +20,7 @@ use Rattle.restore.specs.Restoring.{accepted}
 use Rattle.agreement.specs.Evidence.{Honest}
 use Rattle.agreement.specs.Moments.{now}
 use Rattle.agreement.specs.Calls.{Call, opening, delivery, turn, report, restore, recording, world, bytes, words, journal, Opened, Sent, Departed}
-use Rattle.agreement.specs.EngineCalls.{engine, Arguments, Agreed, Bytes, TurnLent, BitGiven, agreed, SendsBytes}
-use Rattle.agreement.specs.EngineCalls.{first}
+use Rattle.agreement.specs.EngineCalls.{engine, OpeningGiven, Agreed, Bytes, TurnLent, BitGiven, agreed, SendsBytes}
 use Rattle.agreement_example.specs.Bits.{boxBit}
 use Rattle.agreement_example.specs.laws.Lists.{not-opened, not-departed, opened-later, opened-cases, Leaves, departed-before, departed-cases, DeliveryMeets, RecordingMeets}
 use Rattle.agreement_example.specs.Checking.{Line, Entry, Gone, isOpened, wordsOf, linesOf, sameList, among, wasSent, some, sentIn, sentBy, sameSession, opens, firstLines, deliveryLines, turnLines, recordingLines, statesAfter, goneAfter, restoreRight, listed, openingRight, deliveryRight, recordingRight, callRight, step, run}
@@ -181,13 +181,13 @@ module _ (start : ℕ → List ℕ) (S : Agreed) (H : ℕ → Bool) (v : ℕ →
 
   -- ---- opening
 
-  module _ (p : ℕ) (o : Arguments) (honest : Honest (world engine S H) p) where
+  module _ (p : ℕ) (o : OpeningGiven) (honest : Honest (world engine S H) p) where
     -- whether the opening is accepted depends on its arguments alone
     answered : engine .opens (words engine start cs p) o ≡ opens o
     answered = opens-sized start (words engine start cs p) o (x .size p honest)
 
     -- the words of p after it
-    leaves : words engine start (opening p o ∷ cs) p ≡ cond (opens o) (first o) (words engine start cs p)
+    leaves : words engine start (opening p o ∷ cs) p ≡ cond (opens o) (openWords (o .given)) (words engine start cs p)
     leaves = words-here start (opening p o) cs ∙ opened-sized start (words engine start cs p) o (x .size p honest)
 
     -- its journal
@@ -210,12 +210,12 @@ module _ (start : ℕ → List ℕ) (S : Agreed) (H : ℕ → Bool) (v : ℕ →
         no-opening : engine .opens (words engine start cs p) o ≡ true → ⊥
         no-opening t = false≢true (sym f ∙ sym answered ∙ t)
 
-        not-new : (q : ℕ) → isOpened xs q ≡ false → ((q ≡ p) × (o .own ≡ p) × (engine .opens (words engine start cs p) o ≡ true)) ⊎ Opened engine start cs q → ⊥
+        not-new : (q : ℕ) → isOpened xs q ≡ false → ((q ≡ p) × (o .given .own ≡ p) × (engine .opens (words engine start cs p) o ≡ true)) ⊎ Opened engine start cs q → ⊥
         not-new q k (inl u) = no-opening (u .2)
         not-new q k (inr u) = x .none q k u
 
         same : (q : ℕ) (b : Bool) → eqb q p ≡ b → words engine start (opening p o ∷ cs) q ≡ words engine start cs q
-        same q true e = rw (eqb-true q p e) (leaves ∙ ap (λ (t : Bool). cond t (first o) (words engine start cs p)) f)
+        same q true e = rw (eqb-true q p e) (leaves ∙ ap (λ (t : Bool). cond t (openWords (o .given)) (words engine start cs p)) f)
         same q false e = words-else start (opening p o) cs q e
 
         same-lines : (q : ℕ) (b : Bool) → eqb q p ≡ b → journal engine start (opening p o ∷ cs) q ≡ journal engine start cs q
@@ -223,7 +223,7 @@ module _ (start : ℕ → List ℕ) (S : Agreed) (H : ℕ → Bool) (v : ℕ →
         same-lines q false e = journal-else start (opening p o) cs q e
 
     -- under another number, before the own one: what it leaves there counts for nothing
-    foreign-next : isOpened xs p ≡ false → (o .own ≡ p → ⊥) → Tracks start S H v (opening p o ∷ cs) xs gs
+    foreign-next : isOpened xs p ≡ false → (o .given .own ≡ p → ⊥) → Tracks start S H v (opening p o ∷ cs) xs gs
     foreign-next none foreign =
         record {
           size = λ q h. size-next start (opening p o) cs tt q (x .size q h);
@@ -235,7 +235,7 @@ module _ (start : ℕ → List ℕ) (S : Agreed) (H : ℕ → Bool) (v : ℕ →
           meet = (honest, record { agree = λ e t. absurd (foreign e); once = λ u. absurd (x .none p none u); put-in = λ e t. absurd (foreign e) }, x .meet);
         }
       where
-        not-new : (q : ℕ) → isOpened xs q ≡ false → ((q ≡ p) × (o .own ≡ p) × (engine .opens (words engine start cs p) o ≡ true)) ⊎ Opened engine start cs q → ⊥
+        not-new : (q : ℕ) → isOpened xs q ≡ false → ((q ≡ p) × (o .given .own ≡ p) × (engine .opens (words engine start cs p) o ≡ true)) ⊎ Opened engine start cs q → ⊥
         not-new q k (inl u) = foreign (u .1)
         not-new q k (inr u) = x .none q k u
 
@@ -244,7 +244,8 @@ module _ (start : ℕ → List ℕ) (S : Agreed) (H : ℕ → Bool) (v : ℕ →
         elsewhere q k false e = e
 
     -- the first one there under the own number
-    first-next : opens o ≡ true → isOpened xs p ≡ false → o .own ≡ p → agreed o ≡ S → o .input ≡ v p → Tracks start S H v (opening p o ∷ cs) (record { who = p; list = first o; lines = firstLines o } ∷ xs) gs
+    first-next : opens o ≡ true → isOpened xs p ≡ false → o .given .own ≡ p → agreed (o .given) ≡ S → o .given .input ≡ v p →
+        Tracks start S H v (opening p o ∷ cs) (record { who = p; list = openWords (o .given); lines = firstLines o } ∷ xs) gs
     unfolding isOpened wordsOf linesOf firstLines among
     first-next f none own agree put-in =
         record {
@@ -257,7 +258,8 @@ module _ (start : ℕ → List ℕ) (S : Agreed) (H : ℕ → Bool) (v : ℕ →
           meet = (honest, record { agree = λ e t. agree; once = λ u. absurd (x .none p none u); put-in = λ e t. put-in }, x .meet);
         }
       where
-        not-other : (q : ℕ) (b : Bool) → eqb q p ≡ b → cond b true (isOpened xs q) ≡ false → ((q ≡ p) × (o .own ≡ p) × (engine .opens (words engine start cs p) o ≡ true)) ⊎ Opened engine start cs q → ⊥
+        not-other : (q : ℕ) (b : Bool) → eqb q p ≡ b → cond b true (isOpened xs q) ≡ false →
+            ((q ≡ p) × (o .given .own ≡ p) × (engine .opens (words engine start cs p) o ≡ true)) ⊎ Opened engine start cs q → ⊥
         not-other q true e k u = false≢true (sym k)
         not-other q false e k (inl u) = eqb-false q p e (u .0)
         not-other q false e k (inr u) = x .none q k u
@@ -269,40 +271,42 @@ module _ (start : ℕ → List ℕ) (S : Agreed) (H : ℕ → Bool) (v : ℕ →
         opened-there q true e k = rw (eqb-true q p e) here
         opened-there q false e k = opened-later engine start (opening p o) (x .some q k)
 
-        first-words : words engine start (opening p o ∷ cs) p ≡ first o
-        first-words = leaves ∙ ap (λ (t : Bool). cond t (first o) (words engine start cs p)) f
+        first-words : words engine start (opening p o ∷ cs) p ≡ openWords (o .given)
+        first-words = leaves ∙ ap (λ (t : Bool). cond t (openWords (o .given)) (words engine start cs p)) f
 
         first-journal : journal engine start (opening p o ∷ cs) p ≡ (opening p o ∷ cs) ∷ []
         first-journal = written ∙ ap (λ (t : Bool). cond t ((opening p o ∷ cs) ∷ []) (journal engine start cs p)) f
 
-        first-matches : AllMatch start p (record { text = engine .opening-line o; after = first o; sent = [] } ∷ []) ((opening p o ∷ cs) ∷ [])
+        first-matches : AllMatch start p (record { text = engine .opening-line o; after = openWords (o .given); sent = [] } ∷ []) ((opening p o ∷ cs) ∷ [])
         first-matches = (record { text = refl; leaves = first-words; size = size-next start (opening p o) cs tt p (x .size p honest); sent = λ b e. absurd (false≢true e) }, tt)
 
-        words-there : (q : ℕ) (b : Bool) → eqb q p ≡ b → cond b true (isOpened xs q) ≡ true → words engine start (opening p o ∷ cs) q ≡ cond b (first o) (wordsOf xs q)
+        words-there : (q : ℕ) (b : Bool) → eqb q p ≡ b → cond b true (isOpened xs q) ≡ true → words engine start (opening p o ∷ cs) q ≡ cond b (openWords (o .given)) (wordsOf xs q)
         words-there q true e k = rw (eqb-true q p e) first-words
         words-there q false e k = words-else start (opening p o) cs q e ∙ x .equal q k
 
-        lines-there : (q : ℕ) (b : Bool) → eqb q p ≡ b → cond b true (isOpened xs q) ≡ true → AllMatch start q (cond b (record { text = engine .opening-line o; after = first o; sent = [] } ∷ []) (linesOf xs q)) (journal engine start (opening p o ∷ cs) q)
+        lines-there : (q : ℕ) (b : Bool) → eqb q p ≡ b → cond b true (isOpened xs q) ≡ true →
+            AllMatch start q (cond b (record { text = engine .opening-line o; after = openWords (o .given); sent = [] } ∷ []) (linesOf xs q)) (journal engine start (opening p o ∷ cs) q)
         lines-there q true e k = rw (eqb-true q p e, first-journal) first-matches
         lines-there q false e k = rw (journal-else start (opening p o) cs q e) (x .lines q k)
 
     opening-next : openingRight S H v p o xs ≡ true → Tracks start S H v (opening p o ∷ cs) (statesAfter (opening p o) xs) gs
     unfolding openingRight statesAfter
-    opening-next e = go (opens o) (eqb (o .own) p) refl refl e
+    opening-next e = go (opens o) (eqb (o .given .own) p) refl refl e
       where
         own : Bool → Bool → Bool
-        own b d = not b || not (isOpened xs p) && (not d || sameSession (agreed o) S && eqb (o .input) (v p))
+        own b d = not b || not (isOpened xs p) && (not d || sameSession (agreed (o .given)) S && eqb (o .given .input) (v p))
 
-        go : (b d : Bool) → opens o ≡ b → eqb (o .own) p ≡ d → own b d ≡ true → Tracks start S H v (opening p o ∷ cs) (cond (b && d) (record { who = p; list = first o; lines = firstLines o } ∷ xs) xs) gs
+        go : (b d : Bool) → opens o ≡ b → eqb (o .given .own) p ≡ d → own b d ≡ true →
+            Tracks start S H v (opening p o ∷ cs) (cond (b && d) (record { who = p; list = openWords (o .given); lines = firstLines o } ∷ xs) xs) gs
         go false d f k e = refused-next f
-        go true false f k e = foreign-next (not-true (isOpened xs p) (and-left (not (isOpened xs p)) _ e)) (eqb-false (o .own) p k)
+        go true false f k e = foreign-next (not-true (isOpened xs p) (and-left (not (isOpened xs p)) _ e)) (eqb-false (o .given .own) p k)
         go true true f k e =
             let e1 = and-right (not (isOpened xs p)) _ e in
             first-next f
             (not-true (isOpened xs p) (and-left (not (isOpened xs p)) _ e))
-            (eqb-true (o .own) p k)
-            (same-session (agreed o) S (and-left (sameSession (agreed o) S) _ e1))
-            (eqb-true (o .input) (v p) (and-right (sameSession (agreed o) S) _ e1))
+            (eqb-true (o .given .own) p k)
+            (same-session (agreed (o .given)) S (and-left (sameSession (agreed (o .given)) S) _ e1))
+            (eqb-true (o .given .input) (v p) (and-right (sameSession (agreed (o .given)) S) _ e1))
 
   -- ---- a call
 

@@ -8,11 +8,11 @@ use lib.Dec.{eqb, leb}
 use lib.ListN.{length}
 use Rattle.quorum.specs.laws.Bools.{and-left, and-right}
 use Rattle.records.specs.Layout.{stateWords}
+use Rattle.opening.specs.Opening.{openWords}
 use Rattle.agreement.specs.Evidence.{Honest}
 use Rattle.agreement.specs.Plain.{NoRestore}
 use Rattle.agreement.specs.Calls.{Call, world, place, left, Moment, Journal, wrote, words, journal, Opened, Departed}
-use Rattle.agreement.specs.EngineCalls.{engine, Arguments, Agreed, Bytes}
-use Rattle.agreement.specs.EngineCalls.{first}
+use Rattle.agreement.specs.EngineCalls.{engine, OpeningGiven, Agreed, Bytes}
 use Rattle.agreement.specs.laws.EngineOpening.{opened-first, open-refused}
 use Rattle.agreement_example.specs.laws.Lists.{opened-later, opened-before, NoOpening, AllMeet}
 use Rattle.agreement_example.specs.Checking.{Line, Entry, Gone, isOpened, wordsOf, linesOf, withEntry, some, opens, listed}
@@ -50,14 +50,14 @@ module _ (start : ℕ → List ℕ) where
         go false = h
 
   -- an opening of 2,048 words
-  pub opens-sized : (s : List ℕ) (o : Arguments) → length s ≡ stateWords → engine .opens s o ≡ opens o
+  pub opens-sized : (s : List ℕ) (o : OpeningGiven) → length s ≡ stateWords → engine .opens s o ≡ opens o
   unfolding opens
   opens-sized s o e = rw e
 
-  pub opened-sized : (s : List ℕ) (o : Arguments) → length s ≡ stateWords → engine .opened s o ≡ cond (opens o) (first o) s
+  pub opened-sized : (s : List ℕ) (o : OpeningGiven) → length s ≡ stateWords → engine .opened s o ≡ cond (opens o) (openWords (o .given)) s
   opened-sized s o e = go (opens o) (opens-sized s o e)
     where
-      go : (b : Bool) → engine .opens s o ≡ b → engine .opened s o ≡ cond b (first o) s
+      go : (b : Bool) → engine .opens s o ≡ b → engine .opened s o ≡ cond b (openWords (o .given)) s
       go true f = opened-first s o f
       go false f = open-refused s o f
 

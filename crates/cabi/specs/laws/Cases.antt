@@ -32,6 +32,7 @@ use Rattle.report.specs.laws.Report.{reported, turns-few}
 use Rattle.report.specs.declared.Figures.{Figures}
 use Rattle.report.specs.declared.Answer.{Answer}
 use Rattle.report.specs.declared.Answer.the-variants as report
+use Rattle.opening.specs.Arguments.{Arguments}
 use Rattle.journal.specs.laws.Journal.{line-taken}
 use Rattle.journal.specs.Journal.{lineEntry, openNumber, openEntry, deliverNumber, deliverEntry, recordNumber, recordEntry}
 use Rattle.journal.specs.laws.Fitting.{opening-fits, delivery-fits, recording-fits}
@@ -123,12 +124,12 @@ entry-few k line h = go (eqb k 0) refl
     go true f = h (eqb-true k 0 f)
     go false f = omega arith
 
-module _ (words n ta ts own session input : ℕ) (coins weights : List ℕ) (boxed room : ℕ) (e : Entry) (f : e ≡ openEntry words n ta ts own session input coins weights boxed room) where
+module _ (words : ℕ) (o : Arguments) (room : ℕ) (e : Entry) (f : e ≡ openEntry words o room) where
   pub open-few : lineLength e ≤ 512
   unfolding openEntry openNumber
-  open-few = rw f (entry-few _ _ (λ z. opening-fits words n ta ts own session input coins weights boxed (line-taken _ room z .0)))
+  open-few = rw f (entry-few _ _ (λ z. opening-fits words o (line-taken _ room z .0)))
 
-  pub open-number : (r : ℕ) → r ≡ entryNumber e → r ≡ entryNumber (openEntry words n ta ts own session input coins weights boxed room)
+  pub open-number : (r : ℕ) → r ≡ entryNumber e → r ≡ entryNumber (openEntry words o room)
   open-number r g = g ∙ ap entryNumber f
 
 module _ (s : List ℕ) (link : ℕ) (b : List ℕ) (room : ℕ) (e : Entry) (f : e ≡ deliverEntry s link b room) where

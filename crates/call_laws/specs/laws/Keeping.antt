@@ -57,9 +57,9 @@ if-refused k after before e = rw e
 
 opening-keeps : OpeningKeeps
 unfolding openEntry openedWords openedBytes openNumber opened
-opening-keeps s n ta ts own session input coins weights boxed line h =
+opening-keeps s o line h =
     let r = line-refused _ _ line h in
-    (line-stays _ (length line) s _ (r .0) (if-refused (openAnswer (length s) n ta ts (weightsWord n weights) own coins boxed) _ s), r .1)
+    (line-stays _ (length line) s _ (r .0) (if-refused (openAnswer (length s) o) _ s), r .1)
 
 -- a delivery that is refused leaves the words
 deliver-stays : (s : List ℕ) (link : ℕ) (b : List ℕ) → eqb (deliverAnswer s link b) 0 ≡ false → delivered s link b ≡ s

@@ -12,6 +12,7 @@ use Rattle.settings.specs.Refusals.{SHORT, NO-STATE, CLOSED, COIN}
 use Rattle.records.specs.Records.{closed, coin}
 use Rattle.session.specs.Session.{isState, sessionOf, settingsOf}
 use Rattle.opening.specs.Given.{weightsWord}
+use Rattle.opening.specs.Arguments.{Arguments}
 use Rattle.coin_box.specs.Box.{boxOpenAnswer, asks, unsealed, requestWords, requestReply}
 use Rattle.coin_box.specs.declared.Reply.the-variants as box
 use Rattle.turn.specs.Due.{due}
@@ -57,11 +58,9 @@ entry-back k line f = go (eqb k 0) refl
     go true e few = record { accepted = omega arith; length = omega arith }
     go false e few = refusal-back k (some-number k e) f
 
-opening-back : (words n ta ts own session input : ℕ) (coins weights : List ℕ) (boxed room : ℕ) → EntryBack (openEntry words n ta ts own session input coins weights boxed room)
+opening-back : (words : ℕ) (o : Arguments) (room : ℕ) → EntryBack (openEntry words o room)
 unfolding openEntry openNumber
-opening-back words n ta ts own session input coins weights boxed room =
-    entry-back _ _ (line-fits _ room (open-fits words n ta ts (weightsWord n weights) own coins boxed))
-    (open-few words n ta ts own session input coins weights boxed room _ refl)
+opening-back words o room = entry-back _ _ (line-fits _ room (open-fits words o)) (open-few words o room _ refl)
 
 delivery-back : (s : List ℕ) (link : ℕ) (message : List ℕ) (room : ℕ) → EntryBack (deliverEntry s link message room)
 unfolding deliverEntry deliverNumber

@@ -18,6 +18,7 @@ use Rattle.wire.specs.declared.Message.{Message}
 use Rattle.wire.specs.declared.Parsed.{Parsed}
 use Rattle.wire.specs.declared.Parsed.the-variants as parsed
 use Rattle.opening.specs.Given.{coinsGiven}
+use Rattle.opening.specs.Arguments.{Arguments, weightsBy, taBy}
 use Rattle.opening.specs.Opening.{openAnswer}
 use Rattle.coin_box.specs.Box.{boxWords, boxOpenAnswer}
 use Rattle.recording.specs.Recording.{recordable, recordAnswer}
@@ -35,13 +36,13 @@ either : (t : Bool) (x y : ℕ) → Fits x → Fits y → Fits (cond t x y)
 either true x y a b = a
 either false x y a b = b
 
-pub open-fits : (words n ta ts w own : ℕ) (coins : List ℕ) (boxed : ℕ) → Fits (openAnswer words n ta ts w own coins boxed)
+pub open-fits : (words : ℕ) (o : Arguments) → Fits (openAnswer words o)
 unfolding openAnswer
-open-fits words n ta ts w own coins boxed =
+open-fits words o =
     either (not (eqb words stateWords)) NO-STATE _ (omega arith)
-    (either (not (validSettings n (namedTa n ta ts w) ts w)) SETTINGS _ (omega arith)
-    (either (not (numbered n own)) SETTINGS _ (omega arith)
-    (either (not (coinsGiven n coins boxed)) SETTINGS 0 (omega arith) (omega arith))))
+    (either (not (validSettings (o .n) (taBy o) (o .ts) (weightsBy o))) SETTINGS _ (omega arith)
+    (either (not (numbered (o .n) (o .own))) SETTINGS _ (omega arith)
+    (either (not (coinsGiven (o .n) (o .coins) (o .boxed))) SETTINGS 0 (omega arith) (omega arith))))
 
 pub box-fits : (words n ta ts w coins : ℕ) → Fits (boxOpenAnswer words n ta ts w coins)
 unfolding boxOpenAnswer

@@ -31,7 +31,7 @@ use Rattle.opening.specs.Opening.{openAnswer, openWords, opened}
 use Rattle.opening.specs.laws.Opening.{first-zero, first-session, first-flags, first-boxed}
 use Rattle.turn.specs.Due.{inForceRule, due}
 use Rattle.turn.specs.Turn.{applied, turnWords}
-use Rattle.turn_bound.specs.TurnBound.{answer, openedBy, Step, after}
+use Rattle.turn_bound.specs.TurnBound.{Step, after}
 use Rattle.turn_bound.specs.laws.TurnBound.{acting, TurnCount}
 use Rattle.turn_bound.specs.laws.Opened.{opened-sound}
 use Rattle.turn_bound.specs.laws.Sound.{sound-bound}
@@ -55,10 +55,11 @@ length-coins zero = refl
 length-coins (suc n) = ap suc (length-coins n)
 
 module _ (n : ℕ) (two : 2 ≤ n) (low : 1 ≤ n) (few : n ≤ 16) (s : List ℕ) (size : length s ≡ 2048) where
-  accepted-word : openAnswer (length s) n 0 0 (2 ^ n - 1) 1 (coinWords n) 0 ≡ 0
-  unfolding openAnswer coinsGiven namedTa numbered
-  accepted-word =
+  accepted : openAnswer (length s) (opens n) ≡ 0
+  unfolding opens openAnswer coinsGiven namedTa numbered
+  accepted =
       rw (
+        ones-word n low few,
         size,
         rules-valid n 0 0 (2 ^ n - 1) (ruled n 1 low few),
         le-leb 1 n low,
@@ -67,23 +68,16 @@ module _ (n : ℕ) (two : 2 ≤ n) (low : 1 ≤ n) (few : n ≤ 16) (s : List �
         eq-eqb n n refl,
       )
 
-  accepted : answer s (opens n) ≡ 0
-  unfolding opens
-  accepted = rw (ones-word n low few) accepted-word
-
   abbrev first : List ℕ
-  first = openedBy s (opens n)
+  first = opened s (opens n)
 
-  first-opened : first ≡ opened s n 0 0 (2 ^ n - 1) 1 7 5 (coinWords n) 0
-  unfolding opens
-  first-opened = ap (λ (w : ℕ). opened s n 0 0 w 1 7 5 (coinWords n) 0) (ones-word n low few)
-
-  first-is : first ≡ openWords n 0 0 (2 ^ n - 1) 1 7 5 (coinWords n) 0
+  first-is : first ≡ openWords (opens n)
   unfolding opened
-  first-is = first-opened ∙ rw (eq-eqb (openAnswer (length s) n 0 0 (2 ^ n - 1) 1 (coinWords n) 0) 0 accepted-word)
+  first-is = rw (eq-eqb (openAnswer (length s) (opens n)) 0 accepted)
 
   zero-at : (k : ℕ) → 24 ≤ k → (k ≤ 142 → k < 141) → word first k ≡ 0
-  zero-at k l ne = rw first-is (first-zero n 0 0 (2 ^ n - 1) 1 7 5 (coinWords n) 0 few k l ne)
+  unfolding opens
+  zero-at k l ne = rw first-is (first-zero (opens n) few k l ne)
 
   no-mark : (k q : ℕ) → 24 ≤ k → (k ≤ 142 → k < 141) → marked first k q ≡ true → ⊥
   unfolding marked
@@ -103,13 +97,13 @@ module _ (n : ℕ) (two : 2 ≤ n) (low : 1 ≤ n) (few : n ≤ 16) (s : List �
   none-held k (COMMIT X) hi h = no-set k hi (h .there)
 
   first-good : Good n 1 first
-  unfolding closed marked namedTa
+  unfolding closed marked namedTa opens
   first-good =
       record {
-        sound = rw first-opened (opened-sound s (coinWords n) n 0 0 (2 ^ n - 1) 1 7 5 0 accepted-word);
-        session = rw first-is (first-session n 0 0 (2 ^ n - 1) 1 7 5 (coinWords n) 0);
-        printed = rw first-is (first-boxed n 0 0 (2 ^ n - 1) 1 7 5 (coinWords n) 0 few);
-        unclosed = rw first-is (ap (λ (w : ℕ). mark w 1) (first-flags n 0 0 (2 ^ n - 1) 1 7 5 (coinWords n) 0) ∙ mark-zero 1);
+        sound = rw (ones-word n low few) at (opened-sound s (opens n) accepted);
+        session = rw first-is (first-session (opens n));
+        printed = rw first-is (first-boxed (opens n) few);
+        unclosed = rw first-is (ap (λ (w : ℕ). mark w 1) (first-flags (opens n)) ∙ mark-zero 1);
         allowed = λ k y num h. absurd (none-held k y (num .high) h);
       }
 

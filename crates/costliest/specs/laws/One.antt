@@ -34,7 +34,8 @@ use Rattle.votes.specs.Votes.{votesDecidedOne, voteAct, startAct, relayAct, rou
 use Rattle.exits.specs.Exits.{exitOf, exit1At, naming, withOutput}
 use Rattle.exits.specs.Exits.{exitNow}
 use Rattle.commits.specs.Commits.{setLeader}
-use Rattle.opening.specs.Opening.{opened}
+use Rattle.opening.specs.Arguments.{Arguments, settingsBy}
+use Rattle.opening.specs.Opening.{openAnswer, opened}
 use Rattle.opening.specs.laws.Opening.{first-zero}
 use Rattle.turn.specs.Due.{inForceRule, commitDue, commitOf, commitRule, sendRule, votesRule, due}
 use Rattle.turn.specs.Turn.{applied, turnWords}
@@ -43,7 +44,7 @@ use Rattle.turn.specs.laws.Admitting.{admitted-settings}
 use Rattle.turn.specs.laws.Turn.{Way, refused, taken, way}
 use Rattle.delivery.specs.Delivery.{delivered}
 use Rattle.recording.specs.Recording.{recordedWords}
-use Rattle.turn_bound.specs.TurnBound.{weightsBy, Arguments, answer, openedBy, settingsBy, Step, opening, delivery, turn, report, recording, after, current}
+use Rattle.turn_bound.specs.TurnBound.{Step, opening, delivery, turn, report, recording, after, current}
 use Rattle.turn_bound.specs.laws.TurnBound.{acting}
 use Rattle.turn_bound.specs.laws.Sums.{share-few, zero-count}
 use Rattle.turn_bound.specs.laws.Potential.{instancePart, potential}
@@ -210,17 +211,17 @@ module _ (g : Settings) (ruled : Ruled g) (s : List ℕ) (h : Sound g s) (one : 
       let is : word s turnsAt ≡ potential 1 s = rw one at (h .turns) in
       omega (arith, is, quiet-potential s q)
 
-opening-quiet : (w : List ℕ) (o : Arguments) → answer w o ≡ 0 → Quiet (openedBy w o)
+opening-quiet : (w : List ℕ) (o : Arguments) → openAnswer (length w) o ≡ 0 → Quiet (opened w o)
 unfolding opened
 opening-quiet w o e =
-    let few = opened-ruled w (o .coins) (o .n) (o .ta) (o .ts) (weightsBy o) (o .own) (o .session) (o .input) (o .boxed) e .few in
-    let z = first-zero (o .n) (o .ta) (o .ts) (weightsBy o) (o .own) (o .session) (o .input) (o .coins) (o .boxed) few in
-    rw (eq-eqb (answer w o) 0 e)
+    let few = opened-ruled w o e .few in
+    let z = first-zero o few in
+    rw (eq-eqb (openAnswer (length w) o) 0 e)
     (record { round = z 24 (omega arith) (λ e. omega arith); ests = z 40 (omega arith) (λ e. omega arith); auxs = z 56 (omega arith) (λ e. omega arith); ones = z 139 (omega arith) (λ e. omega arith) })
 
-module _ (s : List ℕ) (o : Arguments) (e : answer s o ≡ 0) where
+module _ (s : List ℕ) (o : Arguments) (e : openAnswer (length s) o ≡ 0) where
   abbrev first : List ℕ
-  first = openedBy s o
+  first = opened s o
 
   abbrev now : List Step → Settings
   now cs = current (settingsBy o) first cs
@@ -228,10 +229,11 @@ module _ (s : List ℕ) (o : Arguments) (e : answer s o ≡ 0) where
   quiet : (cs : List Step) → now cs .n ≡ 1 → now cs .weights ≡ 1 → Quiet (after first cs)
   unfolding current after
   quiet [] one lit = opening-quiet s o e
-  quiet (opening p ∷ cs) one lit = at (eqb (answer (after first cs) p) 0) refl one lit (λ d k. quiet cs d k)
+  quiet (opening p ∷ cs) one lit = at (eqb (openAnswer (length (after first cs)) p) 0) refl one lit (λ d k. quiet cs d k)
     where
-      at : (b : Bool) → eqb (answer (after first cs) p) 0 ≡ b → cond b (settingsBy p) (now cs) .n ≡ 1 → cond b (settingsBy p) (now cs) .weights ≡ 1 → (now cs .n ≡ 1 → now cs .weights ≡ 1 → Quiet (after first cs)) → Quiet (openedBy (after first cs) p)
-      at true d f k x = opening-quiet (after first cs) p (eqb-true (answer (after first cs) p) 0 d)
+      at : (b : Bool) → eqb (openAnswer (length (after first cs)) p) 0 ≡ b → cond b (settingsBy p) (now cs) .n ≡ 1 → cond b (settingsBy p) (now cs) .weights ≡ 1 →
+          (now cs .n ≡ 1 → now cs .weights ≡ 1 → Quiet (after first cs)) → Quiet (opened (after first cs) p)
+      at true d f k x = opening-quiet (after first cs) p (eqb-true (openAnswer (length (after first cs)) p) 0 d)
       at false d f k x = rw (refused-words (after first cs) p d) (x f k)
   quiet (delivery link b ∷ cs) one lit =
       let y = going (settingsBy o) first (opening-going s o e) cs in
@@ -253,6 +255,6 @@ pub at-most-five : AtMostFive
 unfolding AtMostFive
 at-most-five s cs e one lit =
     let x = calls-stepped s cs e in
-    let n : current (settingsBy (x .arguments)) (openedBy (x .first) (x .arguments)) (x .steps) .n ≡ 1 = ap (λ (g : Settings). g .n) (x .settings) ∙ one in
-    let w : current (settingsBy (x .arguments)) (openedBy (x .first) (x .arguments)) (x .steps) .weights ≡ 1 = ap (λ (g : Settings). g .weights) (x .settings) ∙ lit in
+    let n : current (settingsBy (x .arguments)) (opened (x .first) (x .arguments)) (x .steps) .n ≡ 1 = ap (λ (g : Settings). g .n) (x .settings) ∙ one in
+    let w : current (settingsBy (x .arguments)) (opened (x .first) (x .arguments)) (x .steps) .weights ≡ 1 = ap (λ (g : Settings). g .weights) (x .settings) ∙ lit in
     rw (x .count) at (few-turns (x .first) (x .arguments) (x .opens) (x .steps) n w)

@@ -26,6 +26,8 @@ use Rattle.records.specs.Records.{decidedZero, decidedOne}
 use Rattle.acts.specs.Acts.{isDue}
 use Rattle.acts.specs.declared.Act.{Act}
 use Rattle.acts.specs.declared.Act.the-variants.{Idle, InForce, Commit, Send, Echo, Ready, Start, Relay, Aux, Move}
+use Rattle.opening.specs.Arguments.{Arguments, settingsBy}
+use Rattle.opening.specs.Opening.{openAnswer, opened}
 use Rattle.turn.specs.laws.Told.{ActTold, CommitTold, Rests, on-exit, on-copies}
 use Rattle.turn.specs.Due.{due}
 use Rattle.turn.specs.Turn.{outcomeOf, moveOutcome, sentLength, applied, turnOutcome, turnWords}
@@ -40,7 +42,7 @@ use Rattle.wire.specs.declared.Message.the-variants as message
 use Rattle.acts.specs.declared.View.{View}
 use Rattle.delivery.specs.Delivery.{delivered}
 use Rattle.recording.specs.Recording.{recordedWords}
-use Rattle.turn_bound.specs.TurnBound.{Arguments, answer, openedBy, settingsBy, Step, opening, delivery, turn, report, recording, after, current}
+use Rattle.turn_bound.specs.TurnBound.{Step, opening, delivery, turn, report, recording, after, current}
 use Rattle.turn_bound.specs.laws.TurnBound.{acting}
 use Rattle.turn_bound.specs.laws.Sums.{share-few, sum-grows, sum-one}
 use Rattle.turn_bound.specs.laws.Potential.{instancePart, potential}
@@ -301,15 +303,15 @@ module _ (g : Settings) (ruled : Ruled g) (s : List ℕ) (h : Sound g s) (m b : 
       of : Recorded g s (recordedWords s i r bit) → SentWithin (g .n) (recordedWords s i r bit) m b
       of y = within-same (g .n) (ruled .few) s (recordedWords s i r bit) m b (y .same flagsAt (λ z. omega arith)) (y .count) (λ j lo hi. y .same (roundAt j) (λ z. omega arith)) x
 
-opening-within : (w : List ℕ) (o : Arguments) → answer w o ≡ 0 → SentWithin (o .n) (openedBy w o) 0 0
+opening-within : (w : List ℕ) (o : Arguments) → openAnswer (length w) o ≡ 0 → SentWithin (o .n) (opened w o) 0 0
 opening-within w o e =
     let y = opening-going w o e in
-    let few = without-potential (openedBy w o) (o .n) in
+    let few = without-potential (opened w o) (o .n) in
     record { messages = omega (arith, y .sound .turns, few); bytes = omega (arith, y .sound .turns, few) }
 
-module _ (s : List ℕ) (o : Arguments) (e : answer s o ≡ 0) where
+module _ (s : List ℕ) (o : Arguments) (e : openAnswer (length s) o ≡ 0) where
   abbrev first : List ℕ
-  first = openedBy s o
+  first = opened s o
 
   abbrev now : List Step → Settings
   now cs = current (settingsBy o) first cs
@@ -320,10 +322,11 @@ module _ (s : List ℕ) (o : Arguments) (e : answer s o ≡ 0) where
   sent-within : (cs : List Step) → SentWithin (now cs .n) (after first cs) (summed sentOne first cs) (summed sentLength first cs)
   unfolding current after summed
   sent-within [] = opening-within s o e
-  sent-within (opening p ∷ cs) = at (eqb (answer (after first cs) p) 0) refl (sent-within cs)
+  sent-within (opening p ∷ cs) = at (eqb (openAnswer (length (after first cs)) p) 0) refl (sent-within cs)
     where
-      at : (b : Bool) → eqb (answer (after first cs) p) 0 ≡ b → SentWithin (now cs .n) (after first cs) (summed sentOne first cs) (summed sentLength first cs) → SentWithin (cond b (settingsBy p) (now cs) .n) (openedBy (after first cs) p) (cond b 0 (summed sentOne first cs)) (cond b 0 (summed sentLength first cs))
-      at true d x = opening-within (after first cs) p (eqb-true (answer (after first cs) p) 0 d)
+      at : (b : Bool) → eqb (openAnswer (length (after first cs)) p) 0 ≡ b → SentWithin (now cs .n) (after first cs) (summed sentOne first cs) (summed sentLength first cs) →
+          SentWithin (cond b (settingsBy p) (now cs) .n) (opened (after first cs) p) (cond b 0 (summed sentOne first cs)) (cond b 0 (summed sentLength first cs))
+      at true d x = opening-within (after first cs) p (eqb-true (openAnswer (length (after first cs)) p) 0 d)
       at false d x = rw (refused-words (after first cs) p d) x
   sent-within (delivery link b ∷ cs) = let y = all-going cs in delivery-within (now cs) (y .ruled) (after first cs) (y .sound) _ _ (sent-within cs) link b
   sent-within (turn lent ∷ cs) = let y = all-going cs in turn-within (now cs) (y .ruled) (after first cs) (y .sound) _ _ (sent-within cs) lent

@@ -28,7 +28,9 @@ use Rattle.opening.specs.Given.{coinsGiven, weightsGiven, weightsWord}
 use Rattle.opening.specs.laws.GivenCases.{weights-many}
 use Rattle.opening.specs.Given.{onesGiven}
 use Rattle.opening.specs.laws.Ones.{ones-word}
+use Rattle.opening.specs.Arguments.{Arguments, weightsBy, taBy}
 use Rattle.opening.specs.Opening.{openAnswer}
+use Rattle.drill_feeder.specs.Lines.{drillArguments}
 use Rattle.drill_feeder.specs.declared.Members.{Members}
 use Rattle.drill_lines.specs.declared.Line.{Line}
 use Rattle.drill_lines.specs.declared.Line.the-variants as line
@@ -53,23 +55,27 @@ ones-many n h = rw (← weights-many n (onesGiven n) h)
 pub ruleset ones-cases = (power-some, ones-few, ones-many)
 
 -- settings within the rules are taken by opening, and no others
-opens : (n ta ts w : ℕ) → validSettings n (namedTa n ta ts w) ts w ≡ true → openAnswer 2048 n ta ts w 1 (blank n) 0 ≡ 0
-unfolding numbered coinsGiven
-opens n ta ts w e =
-    let k = valid-rules n (namedTa n ta ts w) ts w e in
-    let low : leb 1 n ≡ true = le-leb 1 n (k .some) in
-    let few : leb n 16 ≡ true = le-leb n 16 (k .few) in
-    let size : eqb (length (blank n)) n ≡ true = eq-eqb (length (blank n)) n (length-blank n) in
-    accepted-answer 2048 n ta ts w 1 (blank n) 0 (record { size = refl; valid = e; own-number = rw low; given = rw (few, size) })
+module _ (n ta ts : ℕ) where
+  abbrev given : Arguments
+  given = drillArguments n ta ts 1 0 0 (blank n)
 
-module _ (n ta ts w : ℕ) (c : Checked) (o : w ≡ weightsWord n (onesGiven n)) (e : c ≡ checkSettings n (namedTa n ta ts w) ts w) where
-  pub valid-opens : (g : Settings) → c ≡ Valid g → true ≡ settingsOpen n ta ts
-  unfolding settingsOpen
-  valid-opens g f = rw (← o, opens n ta ts w (check-taken n (namedTa n ta ts w) ts w g (sym e ∙ f) .valid))
+  opens : validSettings n (taBy given) ts (weightsBy given) ≡ true → openAnswer 2048 given ≡ 0
+  unfolding numbered coinsGiven
+  opens e =
+      let k = valid-rules n (taBy given) ts (weightsBy given) e in
+      let low : leb 1 n ≡ true = le-leb 1 n (k .some) in
+      let few : leb n 16 ≡ true = le-leb n 16 (k .few) in
+      let size : eqb (length (blank n)) n ≡ true = eq-eqb (length (blank n)) n (length-blank n) in
+      accepted-answer 2048 given (record { size = refl; valid = e; own-number = rw low; given = rw (few, size) })
 
-  pub invalid-refused : c ≡ Invalid → false ≡ settingsOpen n ta ts
-  unfolding settingsOpen openAnswer
-  invalid-refused f = rw (← o, check-refused n (namedTa n ta ts w) ts w (sym e ∙ f))
+  module _ (w : ℕ) (c : Checked) (o : w ≡ weightsWord n (onesGiven n)) (e : c ≡ checkSettings n (namedTa n ta ts w) ts w) where
+    pub valid-opens : (g : Settings) → c ≡ Valid g → true ≡ settingsOpen n ta ts
+    unfolding settingsOpen
+    valid-opens g f = rw (opens (rw o at (check-taken n (namedTa n ta ts w) ts w g (sym e ∙ f) .valid)))
+
+    pub invalid-refused : c ≡ Invalid → false ≡ settingsOpen n ta ts
+    unfolding settingsOpen openAnswer
+    invalid-refused f = rw (← o, check-refused n (namedTa n ta ts w) ts w (sym e ∙ f))
 
 pub ruleset open-cases = (valid-opens, invalid-refused)
 

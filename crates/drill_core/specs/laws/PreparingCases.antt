@@ -10,7 +10,7 @@ use lib.Seq.{take-all, length-take-le}
 use borrow.Author.Tests.{lt-ltb, le-ltb}
 use Rattle.quorum.specs.Marks.{mark, withMark}
 use Rattle.records.specs.Words.{word, put}
-use Rattle.drill_feeder.specs.Lines.{openedAt}
+use Rattle.drill_feeder.specs.Lines.{drillArguments, openedAt}
 use Rattle.drill_core.specs.Preparing.{coinGiven, inputGiven, openedWith, openIf}
 use Rattle.drill_core.specs.laws.Preparing.{fewer}
 use Rattle.drill_core.specs.declared.Given.{Given}
@@ -42,7 +42,7 @@ take-fewer n l = elim (decLe (length l) n) [
 ]
 
 pub opened-with : (g : Given) (p input r : ℕ) (coins w x : List ℕ) → r ≡ fewer (g .members .n) (length coins) →
-    x ≡ openedAt w p (g .members .n) (g .ta) (g .ts) (g .session) input (take r coins) → x ≡ openedWith g p input coins w
+    x ≡ openedAt w (drillArguments (g .members .n) (g .ta) (g .ts) p (g .session) input (take r coins)) → x ≡ openedWith g p input coins w
 unfolding openedWith
 opened-with g p input r coins w x e f = f ∙ rw (e, take-fewer)
 

@@ -12,7 +12,9 @@ use Rattle.records.specs.Records.{closed}
 use Rattle.opening.specs.Given.{weightsWord}
 use Rattle.opening.specs.laws.GivenCases.{weights-many}
 use Rattle.opening.specs.Given.{onesGiven}
+use Rattle.opening.specs.Arguments.{arguments}
 use Rattle.opening.specs.Opening.{opened}
+use Rattle.opening.specs.laws.WeightsWord.{openedWith, opened-with}
 use Rattle.delivery.specs.Delivery.{delivered}
 use Rattle.turn.specs.Turn.{turnOutcome, turnWords, turnBytes}
 use Rattle.turn.specs.declared.Outcome.{Outcome}
@@ -21,7 +23,7 @@ use Rattle.report.specs.declared.Answer.{Answer}
 use Rattle.drill_feeder.specs.Parts.{part, stateAt, placeAt, stateOf, withState, roomFor, withRoom, byteAt, messageAt}
 use Rattle.drill_feeder.specs.laws.Parts.{PartOf}
 use Rattle.drill_feeder.specs.laws.Parts.{part-lent, part-back}
-use Rattle.drill_feeder.specs.Lines.{openedAt, deliveredTo}
+use Rattle.drill_feeder.specs.Lines.{drillArguments, openedAt, deliveredTo}
 use Rattle.drill_feeder.specs.declared.parts.Part.{Part}
 
 -- the elements that a part lends
@@ -56,6 +58,14 @@ ones-lent n b h = elim (decLe n 16) [
   | no l ↦ none-right n (lent sixteen b) (omega arith) ∙ sym (none-right n (onesGiven n) (omega arith))
 ]
 
+-- an opening by any weights of the same word is that by weights of 1
+with-ones : (s : List ℕ) (n ta ts p session input : ℕ) (coins weights : List ℕ) → weightsWord n weights ≡ weightsWord n (onesGiven n) →
+    opened s (arguments n ta ts p session input coins weights 0) ≡ opened s (drillArguments n ta ts p session input coins)
+with-ones s n ta ts p session input coins weights e =
+    sym (opened-with (arguments n ta ts p session input coins weights 0) s)
+    ∙ ap (λ (w : ℕ). openedWith s n ta ts w p session input coins 0) e
+    ∙ opened-with (drillArguments n ta ts p session input coins) s
+
 -- a state, and the words that come back for it
 module _ (w : List ℕ) (p at : ℕ) (a : Part) (e : at ≡ stateAt p) (h : PartOf (length w) at 2048 a) where
   state-lent : lent w a ≡ stateOf w p
@@ -67,10 +77,11 @@ module _ (w : List ℕ) (p at : ℕ) (a : Part) (e : at ≡ stateAt p) (h : Part
   state-back ys k = part-back w at 2048 a h ys k ∙ rw e
 
   pub open-back : (ys : List ℕ) (n ta ts session input : ℕ) (coins : List ℕ) (b : Part) → PartOf 16 0 n b → length ys ≡ length (lent w a) →
-      ys ≡ opened (lent w a) n ta ts (weightsWord n (lent sixteen b)) p session input coins 0 →
-      putMid (a .start) (a .end - a .start) w ys ≡ openedAt w p n ta ts session input coins
+      ys ≡ opened (lent w a) (arguments n ta ts p session input coins (lent sixteen b) 0) →
+      putMid (a .start) (a .end - a .start) w ys ≡ openedAt w (drillArguments n ta ts p session input coins)
   unfolding openedAt
-  open-back ys n ta ts session input coins b g k q = state-back ys k ∙ ap (withState w p) (q ∙ rw (state-lent, ones-lent n b g))
+  open-back ys n ta ts session input coins b g k q =
+      state-back ys k ∙ ap (withState w p) (q ∙ rw state-lent (with-ones (stateOf w p) n ta ts p session input coins (lent sixteen b) (ones-lent n b g)))
 
   pub deliver-back : (ys : List ℕ) (link : ℕ) (b : List ℕ) → length ys ≡ length (lent w a) →
       ys ≡ delivered (lent w a) link b → putMid (a .start) (a .end - a .start) w ys ≡ deliveredTo w p link b

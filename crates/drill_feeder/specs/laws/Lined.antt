@@ -2,7 +2,7 @@
 use Prim.Native.Nat.{ℕ, _≤_}
 use mathlib.Core.List.{List}
 use mathlib.Core.Path.{_≡_, ap, _∙_}
-use Rattle.opening.specs.Given.{weightsWord}
+use Rattle.opening.specs.Arguments.{Arguments}
 use Rattle.opening.specs.Opening.{opened}
 use Rattle.delivery.specs.Delivery.{delivered}
 use Rattle.turn.specs.Turn.{turnOutcome, turnWords, turnBytes}
@@ -24,9 +24,8 @@ module _ (line : ℕ) (h : LINE-BYTES ≤ line) (s : List ℕ) where
   unfolding deliveredWords
   deliver-state link b t e = e ∙ line-words line s (delivered s link b) h
 
-  pub open-state : (n ta ts own session input : ℕ) (coins weights : List ℕ) (boxed : ℕ) (t : List ℕ) →
-      t ≡ openedWords s n ta ts own session input coins weights boxed line → t ≡ opened s n ta ts (weightsWord n weights) own session input coins boxed
+  pub open-state : (o : Arguments) (t : List ℕ) → t ≡ openedWords s o line → t ≡ opened s o
   unfolding openedWords
-  open-state n ta ts own session input coins weights boxed t e = e ∙ line-words line s (opened s n ta ts (weightsWord n weights) own session input coins boxed) h
+  open-state o t e = e ∙ line-words line s (opened s o) h
 
 pub ruleset lined-cases = (turn-answer, turn-state, turn-message, deliver-state, open-state)

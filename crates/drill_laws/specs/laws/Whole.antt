@@ -5,7 +5,7 @@ use mathlib.Core.List.{List, [], _∷_}
 use mathlib.Core.Path.{_≡_, refl, sym, _∙_}
 use native.Mathlib.Omega.{arith}
 use native.Mathlib.Decide.{ℕ-discrete}
-use lib.ListN.{length, take, drop}
+use lib.ListN.{length, drop}
 use lib.Seq.{getD-take, getD-drop, length-take-le}
 use lib.Dec.{eqb, leb, ltb}
 use borrow.Author.Tests.{le-leb, leb-true, eq-eqb, eqb-true}
@@ -17,8 +17,8 @@ use Rattle.records.specs.laws.Words.{length-put}
 use Rattle.records.specs.Words.{blank}
 use Rattle.records.specs.laws.Fill.{length-blank, word-blank}
 use Rattle.session.specs.Session.{numbered}
-use Rattle.opening.specs.Given.{coinsGiven, weightsWord}
-use Rattle.opening.specs.Given.{onesGiven}
+use Rattle.opening.specs.Given.{coinsGiven}
+use Rattle.opening.specs.Arguments.{Arguments}
 use Rattle.opening.specs.Opening.{openAnswer, openWords, opened}
 use Rattle.opening.specs.laws.Cases.{accepted}
 use Rattle.opening.specs.laws.Opening.{length-first, first-n, first-turns}
@@ -26,11 +26,11 @@ use Rattle.drill_lines.specs.Automaton as lines
 use Rattle.drill_lines.specs.declared.Line.{Line}
 use Rattle.drill_lines.specs.declared.Line.the-variants as line
 use Rattle.drill_feeder.specs.Parts.{part, stateAt, stateOf, withState, messageAt, senderAt}
-use Rattle.drill_feeder.specs.Lines.{openedAt, messageDelivered, lied, Memory, memory}
+use Rattle.drill_feeder.specs.Lines.{drillArguments, openedAt, messageDelivered, lied, Memory, memory}
 use Rattle.drill_feeder.specs.declared.Counts.{Counts}
 use Rattle.drill_feeder.specs.declared.Members.{Members}
 use Rattle.drill_core.specs.Judging.{isFirst, isSetup, afterSettings, isBad, isHonest, isLiar, settingsOpen, settingsTaken, judgedN, judgedC, judgedP, judgedT, judgedD, bytesFit, judgedL, judgedR, judged}
-use Rattle.drill_core.specs.Preparing.{settingsGiven, noneGiven, coinGiven, inputGiven, openedWith, openIf, openedAll}
+use Rattle.drill_core.specs.Preparing.{settingsGiven, noneGiven, coinGiven, inputGiven, argumentsWith, openedWith, openIf, openedAll}
 use Rattle.drill_core.specs.Acting.{begun, called, World, world, setupState, badState, running, acted, taken}
 use Rattle.drill_core.specs.Feeding.{startDrill, nextLine, withByte, Drilling, drilling, settled, ended, fedByte, fedBytes, lastLine, allOpen, atEnd, startDrilling}
 use Rattle.drill_core.specs.declared.Phase.{Phase}
@@ -68,25 +68,19 @@ reset w m c p lo hi h z s size n turns =
       offered = h .offered;
     }
 
-open-sound : (w m coins : List ℕ) (c : Counts) (p n ta ts session input : ℕ) → 1 ≤ p → p ≤ 4 → n ≤ 4 → Sound w m c → c .sent ≡ 0 →
-    Sound (openedAt w p n ta ts session input coins) m c
+open-sound : (w m : List ℕ) (c : Counts) (o : Arguments) → 1 ≤ o .own → o .own ≤ 4 → o .n ≤ 4 → Sound w m c → c .sent ≡ 0 → Sound (openedAt w o) m c
 unfolding openedAt opened turnsOf
-open-sound w m coins c p n ta ts session input lo hi few h z = go (eqb (openAnswer (length (stateOf w p)) n ta ts ones p coins 0) 0)
+open-sound w m c o lo hi few h z = go (eqb (openAnswer (length (stateOf w (o .own))) o) 0)
   where
-    ones : ℕ
-    ones = weightsWord n (onesGiven n)
-
-    go : (b : Bool) → Sound (withState w p (cond b (openWords n ta ts ones p session input coins 0) (stateOf w p))) m c
-    go true =
-        reset w m c p lo hi h z (openWords n ta ts ones p session input coins 0) (length-first n ta ts ones p session input coins 0)
-        (rw first-n few) (rw first-turns (omega arith))
-    go false = reset w m c p lo hi h z (stateOf w p) (length-stateOf w p (h .words) lo hi) (h .few p lo hi) (h .bound p lo hi)
+    go : (b : Bool) → Sound (withState w (o .own) (cond b (openWords o) (stateOf w (o .own)))) m c
+    go true = reset w m c (o .own) lo hi h z (openWords o) (length-first o) (rw first-n few) (rw first-turns (omega arith))
+    go false = reset w m c (o .own) lo hi h z (stateOf w (o .own)) (length-stateOf w (o .own) (h .words) lo hi) (h .few (o .own) lo hi) (h .bound (o .own) lo hi)
 
 opened-sound : (w m : List ℕ) (c : Counts) (g : Given) → g .members .n ≤ 4 → Sound w m c → c .sent ≡ 0 → Sound (openedAll g w) m c
 unfolding openedAll openIf openedWith
 opened-sound w m c g few h z =
     steps-keep (λ (v : List ℕ). Sound v m c) (openIf g) (g .members .n)
-    (λ p lo hi v e. if-keep (λ (u : List ℕ). Sound u m c) (mark (g .members .honest) p) _ v (open-sound v m _ c p (g .members .n) (g .ta) (g .ts) (g .session) _ lo (omega arith) few e z) e)
+    (λ p lo hi v e. if-keep (λ (u : List ℕ). Sound u m c) (mark (g .members .honest) p) _ v (open-sound v m c (argumentsWith g p _ _) lo (omega arith) few e z) e)
     w h
 
 -- a call may have been made
@@ -321,10 +315,10 @@ input-sound input = all-fed-sound startDrilling input start-sound
 
 -- the openings of the honest ones are accepted
 pub opening-accepted : (w : List ℕ) (g : Given) (p : ℕ) → length w ≡ 8192 → g .members .n ≤ 4 → Openable g → 1 ≤ p → p ≤ g .members .n →
-    openAnswer (length (stateOf w p)) (g .members .n) (g .ta) (g .ts) (weightsWord (g .members .n) (onesGiven (g .members .n))) p (take (g .members .n) (g .coins)) 0 ≡ 0
+    openAnswer (length (stateOf w p)) (argumentsWith g p (word (g .inputs) (p - 1)) (g .coins)) ≡ 0
 unfolding settingsOpen openAnswer coinsGiven numbered
 opening-accepted w g p size few o lo hi =
     let n : ℕ = g .members .n in
-    let ones : ℕ = weightsWord n (onesGiven n) in
-    let v = accepted 2048 n (g .ta) (g .ts) ones 1 (blank n) 0 (eqb-true (openAnswer 2048 n (g .ta) (g .ts) ones 1 (blank n) 0) 0 (o .settings)) .valid in
+    let first : Arguments = drillArguments n (g .ta) (g .ts) 1 0 0 (blank n) in
+    let v = accepted 2048 first (eqb-true (openAnswer 2048 first) 0 (o .settings)) .valid in
     rw (length-stateOf w p size lo (omega arith), v, le-leb 1 p lo, le-leb p n hi, le-leb n 16 (omega arith), length-take-le n (g .coins) (omega (arith, o .coins)), eq-eqb n n refl)

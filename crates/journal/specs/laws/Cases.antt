@@ -10,8 +10,9 @@ use lib.Seq.{length-take-le, take-length, drop-length}
 use borrow.Author.Tests.{lt-ltb, eq-eqb, ne-eqb, ltb-false}
 use Rattle.text.specs.Paste.{Wrote}
 use Rattle.text.specs.laws.Paste.{wrote-front}
-use Rattle.opening.specs.Given.{weightsWord}
+use Rattle.opening.specs.Arguments.{Arguments}
 use Rattle.opening.specs.Opening.{openAnswer, opened}
+use Rattle.opening.specs.laws.Cases.{judged, judged-answer}
 use Rattle.recording.specs.Recording.{recordAnswer, recordedWords}
 use Rattle.delivery.specs.Delivery.{deliverAnswer, delivered, verdict, answerOf}
 use Rattle.delivery.specs.declared.Verdict.{Verdict}
@@ -87,42 +88,42 @@ module _ (k room : ℕ) (h : 512 ≤ room) where
   line-bytes e line lent after f = rw (enough, eq-eqb k 0 e) f
 
 -- opening
-module _ (words n ta ts own session input : ℕ) (coins weights : List ℕ) (boxed room k : ℕ) (e : k ≡ openAnswer words n ta ts (weightsWord n weights) own coins boxed) where
-  pub open-short : (j : ℕ) → j ≡ lineAnswer k 0 → room < 512 → entry.Refused j ≡ openEntry words n ta ts own session input coins weights boxed room
+module _ (words : ℕ) (o : Arguments) where
+  pub open-short : (room k j : ℕ) → k ≡ openAnswer words (judged o) → j ≡ lineAnswer k 0 → room < 512 → entry.Refused j ≡ openEntry words o room
   unfolding openEntry openNumber
-  open-short j f h = rw (f, e) (short-entry _ room h _)
+  open-short room k j e f h = rw (f, e, judged-answer words o) (short-entry _ room h _)
 
-  pub open-refused : 512 ≤ room → (k ≡ 0 → ⊥) → entry.Refused k ≡ openEntry words n ta ts own session input coins weights boxed room
-  unfolding openEntry openNumber
-  open-refused h z = rw (← e) (refused-entry k room h z _)
-
-module _ (words n ta ts own session input : ℕ) (coins weights lent : List ℕ) (boxed k : ℕ) (e : k ≡ openAnswer words n ta ts (weightsWord n weights) own coins boxed) where
-  pub open-short-bytes : length lent < 512 → lent ≡ openedBytes words n ta ts own session input coins weights boxed lent
+  pub open-short-bytes : (lent : List ℕ) → length lent < 512 → lent ≡ openedBytes words o lent
   unfolding openedBytes openNumber
-  open-short-bytes h = short-bytes _ (length lent) h _ lent
+  open-short-bytes lent h = short-bytes _ (length lent) h _ lent
 
-  pub open-refused-bytes : 512 ≤ length lent → (k ≡ 0 → ⊥) → lent ≡ openedBytes words n ta ts own session input coins weights boxed lent
+  pub open-refused : (room k : ℕ) → k ≡ openAnswer words o → 512 ≤ room → (k ≡ 0 → ⊥) → entry.Refused k ≡ openEntry words o room
+  unfolding openEntry openNumber
+  open-refused room k e h z = rw (← e) (refused-entry k room h z _)
+
+module _ (words : ℕ) (o : Arguments) (lent : List ℕ) (k : ℕ) (e : k ≡ openAnswer words o) where
+  pub open-refused-bytes : 512 ≤ length lent → (k ≡ 0 → ⊥) → lent ≡ openedBytes words o lent
   unfolding openedBytes openNumber
   open-refused-bytes h z = rw (← e) (refused-bytes k (length lent) h z _ lent)
 
-  module _ (r : ℕ) (after : List ℕ) (w : Wrote (openingLine n ta ts own session input coins weights boxed) lent 0 r after) (h : 512 ≤ length lent) (z : k ≡ 0) where
-    front : (r ≡ length (openingLine n ta ts own session input coins weights boxed)) × (after ≡ openingLine n ta ts own session input coins weights boxed ++ drop (length (openingLine n ta ts own session input coins weights boxed)) lent)
-    front = wrote-front _ lent after r w (let f = opening-fits words n ta ts own session input coins weights boxed (sym e ∙ z) in omega arith)
+  module _ (r : ℕ) (after : List ℕ) (w : Wrote (openingLine o) lent 0 r after) (h : 512 ≤ length lent) (z : k ≡ 0) where
+    front : (r ≡ length (openingLine o)) × (after ≡ openingLine o ++ drop (length (openingLine o)) lent)
+    front = wrote-front _ lent after r w (let f = opening-fits words o (sym e ∙ z) in omega arith)
 
-    pub open-line : entry.Line r ≡ openEntry words n ta ts own session input coins weights boxed (length lent)
+    pub open-line : entry.Line r ≡ openEntry words o (length lent)
     unfolding openEntry openNumber
     open-line = rw (← e) (line-entry k (length lent) h z _ r (front .0))
 
-    pub open-bytes : after ≡ openedBytes words n ta ts own session input coins weights boxed lent
+    pub open-bytes : after ≡ openedBytes words o lent
     unfolding openedBytes openNumber
     open-bytes = rw (← e) (line-bytes k (length lent) h z _ lent after (front .1))
 
-module _ (s : List ℕ) (n ta ts own session input : ℕ) (coins weights : List ℕ) (boxed room : ℕ) where
-  pub open-short-words : room < 512 → s ≡ openedWords s n ta ts own session input coins weights boxed room
+module _ (s : List ℕ) (o : Arguments) (room : ℕ) where
+  pub open-short-words : room < 512 → s ≡ openedWords s o room
   unfolding openedWords
   open-short-words h = short-words 0 room h s _
 
-  pub open-words : (t : List ℕ) → 512 ≤ room → t ≡ opened s n ta ts (weightsWord n weights) own session input coins boxed → t ≡ openedWords s n ta ts own session input coins weights boxed room
+  pub open-words : (t : List ℕ) → 512 ≤ room → t ≡ opened s o → t ≡ openedWords s o room
   unfolding openedWords
   open-words t h f = f ∙ sym (line-words room s _ h)
 

@@ -6,7 +6,8 @@ use native.Mathlib.Omega.{arith}
 use lib.ListN.{length, length-append}
 use borrow.Author.Tests.{ne-eqb}
 use Rattle.records.specs.Words.{word}
-use Rattle.opening.specs.Given.{item, weightsWord}
+use Rattle.opening.specs.Given.{item}
+use Rattle.opening.specs.Arguments.{Arguments}
 use Rattle.opening.specs.laws.Given.{WeightsGiven, are-given, accepted-given, coins-given}
 use Rattle.opening.specs.Opening.{openAnswer}
 use Rattle.opening.specs.laws.Cases.{accepted}
@@ -56,14 +57,14 @@ item-after xs k = let e : k + 1 - 1 ≡ k = omega arith in rw (ne-eqb (k + 1) 0 
 one-digit : (n : ℕ) (weights : List ℕ) → WeightsGiven n weights → (k : ℕ) → k < length weights → word weights k < 10
 one-digit n weights w k l = omega (arith, w .high (k + 1) (omega arith) (omega (arith, w .number)), item-after weights k)
 
-pub opening-fits : (words n ta ts own session input : ℕ) (coins weights : List ℕ) (boxed : ℕ) → openAnswer words n ta ts (weightsWord n weights) own coins boxed ≡ 0 → length (openingLine n ta ts own session input coins weights boxed) ≤ 512
-opening-fits words n ta ts own session input coins weights boxed e =
-    let w = are-given n weights (accepted-given words n ta ts own coins weights boxed e) in
-    let c = coins-given n coins boxed (accepted words n ta ts (weightsWord n weights) own coins boxed e .given) .size in
-    let f = figures-length weights (one-digit n weights w) in
-    let l = lists-length coins weights boxed f (omega (arith, w .few, c)) (omega (arith, w .few, w .number)) in
-    rw (← opening-parts n ta ts own session input coins weights boxed, length-append, length-append)
-    (omega (arith, settings-length n ta ts, input-length own session input, l))
+pub opening-fits : (words : ℕ) (o : Arguments) → openAnswer words o ≡ 0 → length (openingLine o) ≤ 512
+opening-fits words o e =
+    let w = are-given (o .n) (o .weights) (accepted-given words o e) in
+    let c = coins-given (o .n) (o .coins) (o .boxed) (accepted words o e .given) .size in
+    let f = figures-length (o .weights) (one-digit (o .n) (o .weights) w) in
+    let l = lists-length (o .coins) (o .weights) (o .boxed) f (omega (arith, w .few, c)) (omega (arith, w .few, w .number)) in
+    rw (← opening-parts o, length-append, length-append)
+    (omega (arith, settings-length (o .n) (o .ta) (o .ts), input-length (o .own) (o .session) (o .input), l))
 
 pub delivery-fits : (s : List ℕ) (link : ℕ) (b : List ℕ) → deliverAnswer s link b ≡ 0 → length (deliveryLine link b) ≤ 512
 delivery-fits s link b e =

@@ -11,7 +11,8 @@ use Rattle.text.specs.Paste.{Wrote}
 use Rattle.text.specs.laws.Paste.{wrote-both}
 use Rattle.text.specs.Fields.{eachText}
 use Rattle.text.specs.laws.Each.{each-append}
-use Rattle.journal.specs.Lines.{LETTER-O, VERSION, numberText, numberTexts, tabbed, openingForms, figures, openingText, hexBytes, deliveryText, recordingText, withEnd, openingLine, deliveryLine, recordingLine, turnLine}
+use Rattle.opening.specs.Arguments.{Arguments}
+use Rattle.journal.specs.Lines.{LETTER-O, VERSION, numberText, numberTexts, tabbed, openingForms, figures, numbersOf, formsOf, openingText, hexBytes, deliveryText, recordingText, withEnd, openingLine, deliveryLine, recordingLine, turnLine}
 
 -- a field after its tab
 unfoldable pub tabDecimal : ℕ → List ℕ
@@ -55,15 +56,15 @@ lists-tabs (x ∷ coins) weights =
     ∙ ap (λ (t : List ℕ). TAB ∷ t) (sym (append-assoc (digits 16 8 x) (eachText tabWord coins) (eachText tabDecimal weights)))
 
 -- the flag after the weights
-flag-last : (weights : List ℕ) (boxed : ℕ) → eachText tabDecimal (figures weights boxed) ≡ eachText tabDecimal weights ++ tabDecimal boxed
+flag-last : (o : Arguments) → eachText tabDecimal (figures o) ≡ eachText tabDecimal (o .weights) ++ tabDecimal (o .boxed)
 unfolding eachText
-flag-last weights boxed = each-append tabDecimal weights (boxed ∷ []) ∙ ap (λ (t : List ℕ). eachText tabDecimal weights ++ t) (append-nil (tabDecimal boxed))
+flag-last o = each-append tabDecimal (o .weights) (o .boxed ∷ []) ∙ ap (λ (t : List ℕ). eachText tabDecimal (o .weights) ++ t) (append-nil (tabDecimal (o .boxed)))
 
-lists-flag : (coins weights : List ℕ) (boxed : ℕ) → listsPart coins weights boxed ≡ eachText tabWord coins ++ (eachText tabDecimal (figures weights boxed) ++ (LF ∷ []))
+lists-flag : (o : Arguments) → listsPart (o .coins) (o .weights) (o .boxed) ≡ eachText tabWord (o .coins) ++ (eachText tabDecimal (figures o) ++ (LF ∷ []))
 unfolding listsPart
-lists-flag coins weights boxed =
-    ap (λ (t : List ℕ). eachText tabWord coins ++ t)
-    (sym (append-assoc (eachText tabDecimal weights) (tabDecimal boxed) (10 ∷ [])) ∙ ap (λ (t : List ℕ). t ++ (10 ∷ [])) (sym (flag-last weights boxed)))
+lists-flag o =
+    ap (λ (t : List ℕ). eachText tabWord (o .coins) ++ t)
+    (sym (append-assoc (eachText tabDecimal (o .weights)) (tabDecimal (o .boxed)) (10 ∷ [])) ∙ ap (λ (t : List ℕ). t ++ (10 ∷ [])) (sym (flag-last o)))
 
 bytes-texts : (b : List ℕ) → eachText byteText b ≡ hexBytes b
 unfolding eachText byteText hexBytes
@@ -137,21 +138,25 @@ nested v n a t o e i c d =
     (three o e i (c ++ (d ++ (10 ∷ []))) ∙ ap (λ (x : List ℕ). o ++ (9 ∷ (e ++ (9 ∷ (i ++ x))))) (sym (append-assoc c d (10 ∷ []))) ∙ sym (three o e (i ++ (c ++ d)) (10 ∷ []) ∙ ap (λ (x : List ℕ). o ++ (9 ∷ (e ++ (9 ∷ x)))) (append-assoc i (c ++ d) (10 ∷ []))))
     ∙ sym (four v n a (t ++ (9 ∷ (o ++ (9 ∷ (e ++ (9 ∷ (i ++ (c ++ d)))))))) (10 ∷ []) ∙ ap (λ (x : List ℕ). v ++ (9 ∷ (n ++ (9 ∷ (a ++ (9 ∷ x)))))) (append-assoc t (9 ∷ (o ++ (9 ∷ (e ++ (9 ∷ (i ++ (c ++ d))))))) (10 ∷ []))))
 
-pub opening-parts : (n ta ts own session input : ℕ) (coins weights : List ℕ) (boxed : ℕ) →
-    settingsPart n ta ts ++ (inputPart own session input ++ listsPart coins weights boxed) ≡ openingLine n ta ts own session input coins weights boxed
-unfolding settingsPart inputPart openingText openingForms withEnd tabDecimal tabPack tabs numberTexts numberText hexText
-opening-parts n ta ts own session input coins weights boxed =
-    let xs = figures weights boxed in
-    ap (λ (x : List ℕ). settingsPart n ta ts ++ (inputPart own session input ++ x)) (lists-flag coins weights boxed)
-    ∙ nested (decimalText 1) (decimalText n) (decimalText ta) (decimalText ts) (decimalText own) (decimalText session) (digits 16 16 input) (eachText tabWord coins) (eachText tabDecimal xs)
-    ∙ ap (λ (x : List ℕ). fieldsThen (decimalText 1) (decimalText n) (decimalText ta) (decimalText ts) (decimalText own) (decimalText session) (digits 16 16 input) x ++ (10 ∷ [])) (sym (lists-tabs coins xs))
-    ∙ ap (λ (x : List ℕ). x ++ (10 ∷ [])) (sym (tabbed-tabs (79 ∷ []) (numberTexts (openingForms (length coins) (length xs)) (1 ∷ n ∷ ta ∷ ts ∷ own ∷ session ∷ input ∷ (coins ++ xs)))))
+module _ (o : Arguments) where
+  -- the fields up to the own input, and x after them
+  abbrev line : List ℕ → List ℕ
+  line x = fieldsThen (decimalText 1) (decimalText (o .n)) (decimalText (o .ta)) (decimalText (o .ts)) (decimalText (o .own)) (decimalText (o .session)) (digits 16 16 (o .input)) x
 
-pub wrote-opening : (n ta ts own session input : ℕ) (coins weights : List ℕ) (boxed : ℕ) (s s1 s2 s3 : List ℕ) (r1 r2 r3 : ℕ) → Wrote (settingsPart n ta ts) s 0 r1 s1 →
-    Wrote (inputPart own session input) s1 r1 r2 s2 → Wrote (listsPart coins weights boxed) s2 r2 r3 s3 → Wrote (openingLine n ta ts own session input coins weights boxed) s 0 r3 s3
-wrote-opening n ta ts own session input coins weights boxed s s1 s2 s3 r1 r2 r3 h1 h2 h3 =
-    subst (λ (t : List ℕ). Wrote t s 0 r3 s3) (opening-parts n ta ts own session input coins weights boxed)
-    (wrote-both _ _ s s1 s3 0 r1 r3 h1 (wrote-both _ _ s1 s2 s3 r1 r2 r3 h2 h3))
+  pub opening-parts : settingsPart (o .n) (o .ta) (o .ts) ++ (inputPart (o .own) (o .session) (o .input) ++ listsPart (o .coins) (o .weights) (o .boxed)) ≡ openingLine o
+  unfolding settingsPart inputPart openingText openingForms withEnd tabDecimal tabPack tabs numberTexts numberText hexText
+  opening-parts =
+      ap (λ (x : List ℕ). settingsPart (o .n) (o .ta) (o .ts) ++ (inputPart (o .own) (o .session) (o .input) ++ x)) (lists-flag o)
+      ∙ nested (decimalText 1) (decimalText (o .n)) (decimalText (o .ta)) (decimalText (o .ts)) (decimalText (o .own)) (decimalText (o .session)) (digits 16 16 (o .input))
+      (eachText tabWord (o .coins)) (eachText tabDecimal (figures o))
+      ∙ ap (λ (x : List ℕ). line x ++ (10 ∷ [])) (sym (lists-tabs (o .coins) (figures o)))
+      ∙ ap (λ (x : List ℕ). x ++ (10 ∷ [])) (sym (tabbed-tabs (79 ∷ []) (numberTexts (formsOf o) (numbersOf o))))
+
+  pub wrote-opening : (s s1 s2 s3 : List ℕ) (r1 r2 r3 : ℕ) → Wrote (settingsPart (o .n) (o .ta) (o .ts)) s 0 r1 s1 →
+      Wrote (inputPart (o .own) (o .session) (o .input)) s1 r1 r2 s2 → Wrote (listsPart (o .coins) (o .weights) (o .boxed)) s2 r2 r3 s3 → Wrote (openingLine o) s 0 r3 s3
+  wrote-opening s s1 s2 s3 r1 r2 r3 h1 h2 h3 =
+      subst (λ (t : List ℕ). Wrote t s 0 r3 s3) opening-parts
+      (wrote-both _ _ s s1 s3 0 r1 r3 h1 (wrote-both _ _ s1 s2 s3 r1 r2 r3 h2 h3))
 
 pub delivery-parts : (link : ℕ) (b : List ℕ) → (68 ∷ []) ++ (tabDecimal link ++ ((9 ∷ []) ++ (eachText byteText b ++ (10 ∷ [])))) ≡ deliveryLine link b
 unfolding tabDecimal deliveryText tabbed withEnd

@@ -17,8 +17,8 @@ use Rattle.quorum.specs.laws.Packed.{weight-packed}
 use Rattle.quorum.specs.Weights.{weightOf}
 use Rattle.quorum.specs.laws.Whole.{weight-low}
 use Rattle.settings.specs.laws.Rules.{valid-rules}
-use Rattle.settings.specs.Settings.{namedTa}
 use Rattle.opening.specs.Given.{item, coinZero, coinsGiven, weightGiven, weightsGiven, weightsWord}
+use Rattle.opening.specs.Arguments.{Arguments, weightsBy, taBy}
 use Rattle.opening.specs.Opening.{openAnswer}
 use Rattle.opening.specs.laws.Cases.{accepted}
 
@@ -53,16 +53,16 @@ unfolding weightOf mark
 nobody = refl
 
 -- "not exactly n weights", or one that is 0 or over 4, is refused: an opening that is accepted was given a list that is right
-pub accepted-given : (words n ta ts own : ℕ) (coins ws : List ℕ) (boxed : ℕ) → openAnswer words n ta ts (weightsWord n ws) own coins boxed ≡ 0 → weightsGiven n ws ≡ true
+pub accepted-given : (words : ℕ) (o : Arguments) → openAnswer words o ≡ 0 → weightsGiven (o .n) (o .weights) ≡ true
 unfolding weightsWord
-accepted-given words n ta ts own coins ws boxed e = at (weightsGiven n ws) refl
+accepted-given words o e = at (weightsGiven (o .n) (o .weights)) refl
   where
-    at : (b : Bool) → weightsGiven n ws ≡ b → weightsGiven n ws ≡ true
+    at : (b : Bool) → weightsGiven (o .n) (o .weights) ≡ b → weightsGiven (o .n) (o .weights) ≡ true
     at true f = f
     at false f =
-        let r = valid-rules n (namedTa n ta ts (weightsWord n ws)) ts (weightsWord n ws) (accepted words n ta ts (weightsWord n ws) own coins boxed e .valid) in
-        let none : weightsWord n ws ≡ 0 = rw f in
-        absurd (omega (arith, weight-low (weightsWord n ws) n (r .right) 1 (omega arith) (r .some), ap (λ (w : ℕ). weightOf w 1) none, nobody))
+        let r = valid-rules (o .n) (taBy o) (o .ts) (weightsBy o) (accepted words o e .valid) in
+        let none : weightsBy o ≡ 0 = rw f in
+        absurd (omega (arith, weight-low (weightsBy o) (o .n) (r .right) 1 (omega arith) (r .some), ap (λ (w : ℕ). weightOf w 1) none, nobody))
 
 -- what coin words that are given tell
 pub record CoinsGiven (n : ℕ) (coins : List ℕ) (boxed : ℕ) : Type 0 where

@@ -11,7 +11,7 @@ use lib.Seq.{length-take-le, getD-take}
 use mir.Val.{Fits}
 use mir.Syntax.{w32}
 use borrow.Author.Tests.{eq-eqb, ne-eqb, lt-ltb, le-ltb, eqb-true, not-true, not-false}
-use Rattle.opening.specs.Given.{weightsWord}
+use Rattle.opening.specs.Arguments.{Arguments, arguments}
 use Rattle.opening.specs.laws.Given.{accepted-given}
 use Rattle.opening.specs.Opening.{openAnswer, opened}
 use Rattle.restore.specs.laws.Truth.{no-truth}
@@ -26,15 +26,16 @@ pub refused : (p : Option Point) (w : List ℕ) → p ≡ none → Tried p w fal
 unfolding applies wordsOr
 refused p w e = rw e (record { answer = refl; words = refl })
 
--- the opening with lists that are given
-pub open-tried : (w xs coins weights t : List ℕ) (n boxed a : ℕ) → length w ≡ 2048
-    → a ≡ openAnswer (length w) n (getD xs 2 0) (getD xs 3 0) (weightsWord n weights) (getD xs 4 0) coins boxed
-    → t ≡ opened w n (getD xs 2 0) (getD xs 3 0) (weightsWord n weights) (getD xs 4 0) (getD xs 5 0) (getD xs 6 0) coins boxed
-    → Tried (openedFrom n xs coins weights boxed) w (eqb a 0) t
+-- the arguments of the numbers of a line, but for lists and kind of coins that are given
+abbrev pub argumentsWith : (n : ℕ) (xs coins weights : List ℕ) (boxed : ℕ) → Arguments
+argumentsWith n xs coins weights boxed = arguments n (getD xs 2 0) (getD xs 3 0) (getD xs 4 0) (getD xs 5 0) (getD xs 6 0) coins weights boxed
+
+-- the opening
+pub open-tried : (w t : List ℕ) (o : Arguments) (a : ℕ) → length w ≡ 2048 → a ≡ openAnswer (length w) o → t ≡ opened w o → Tried (openedFrom o) w (eqb a 0) t
 unfolding openedFrom opened applies wordsOr
-open-tried w xs coins weights t n boxed a s e f = go (eqb (openAnswer 2048 n (getD xs 2 0) (getD xs 3 0) (weightsWord n weights) (getD xs 4 0) coins boxed) 0) refl
+open-tried w t o a s e f = go (eqb (openAnswer 2048 o) 0) refl
   where
-    go : (b : Bool) → eqb (openAnswer 2048 n (getD xs 2 0) (getD xs 3 0) (weightsWord n weights) (getD xs 4 0) coins boxed) 0 ≡ b → Tried (openedFrom n xs coins weights boxed) w (eqb a 0) t
+    go : (b : Bool) → eqb (openAnswer 2048 o) 0 ≡ b → Tried (openedFrom o) w (eqb a 0) t
     go true u = record { answer = rw (e, s, u); words = f ∙ rw (s, u) }
     go false u = record { answer = rw (e, s, u); words = f ∙ rw (s, u) }
 
@@ -52,8 +53,11 @@ module _ (n count : ℕ) (xs w : List ℕ) (g : OpenGiven n count xs w) where
   front : (i : ℕ) → i < 7 → getD (take count xs) i 0 ≡ getD xs i 0
   front i h = getD-take count xs i 0 (omega (arith, g .least))
 
-  opening-is : openingFrom n (take count xs) ≡ cond (eqb (getD xs 0 0) 1 && ltb (getD xs 5 0) (2 ^ 32)) (openedFrom n xs (take n (drop 7 xs)) (weightsFrom n (take count xs)) (boxedFrom n (take count xs))) none
-  unfolding openingFrom openedFrom
+  abbrev line : Arguments
+  line = argumentsWith n xs (take n (drop 7 xs)) (weightsFrom n (take count xs)) (boxedFrom n (take count xs))
+
+  opening-is : openingFrom n (take count xs) ≡ cond (eqb (getD xs 0 0) 1 && ltb (getD xs 5 0) (2 ^ 32)) (openedFrom line) none
+  unfolding openingFrom
   opening-is =
       rw (front 0 (omega arith), front 2 (omega arith), front 3 (omega arith), front 4 (omega arith), front 5 (omega arith), front 6 (omega arith), part-front 7 n count xs (g .least) (omega (arith, g .long)))
 
@@ -65,18 +69,19 @@ module _ (n count : ℕ) (xs w : List ℕ) (g : OpenGiven n count xs w) where
     session-wide e = refused _ w (opening-is ∙ rw (eq-eqb (getD xs 0 0) 1 v, le-ltb (getD xs 5 0) (2 ^ 32) (omega arith)))
 
     module _ (s : getD xs 5 0 ≤ 4294967295) (r : Bool) (weights : List ℕ) (h : WeightsRead n (take count xs) r weights) where
-      told : openingFrom n (take count xs) ≡ openedFrom n xs (take n (drop 7 xs)) (weightsFrom n (take count xs)) (boxedFrom n (take count xs))
+      told : openingFrom n (take count xs) ≡ openedFrom line
       told = opening-is ∙ rw (eq-eqb (getD xs 0 0) 1 v, lt-ltb (getD xs 5 0) (2 ^ 32) (omega arith))
 
       pub weights-wrong : not r ≡ true → Tried (openingFrom n (take count xs)) w false w
       unfolding openedFrom
       weights-wrong e = refused _ w (told ∙ go _ refl)
         where
-          go : (b : Bool) → eqb (openAnswer 2048 n (getD xs 2 0) (getD xs 3 0) (weightsWord n (weightsFrom n (take count xs))) (getD xs 4 0) (take n (drop 7 xs)) (boxedFrom n (take count xs))) 0 ≡ b → openedFrom n xs (take n (drop 7 xs)) (weightsFrom n (take count xs)) (boxedFrom n (take count xs)) ≡ none
+          go : (b : Bool) → eqb (openAnswer 2048 line) 0 ≡ b → openedFrom line ≡ none
           go false u = rw u
-          go true u = no-truth (sym (accepted-given 2048 n (getD xs 2 0) (getD xs 3 0) (getD xs 4 0) (take n (drop 7 xs)) (weightsFrom n (take count xs)) (boxedFrom n (take count xs)) (eqb-true _ _ u)) ∙ h .wrong (not-true r e))
+          go true u = no-truth (sym (accepted-given 2048 line (eqb-true _ _ u)) ∙ h .wrong (not-true r e))
 
-      pub values-opened : (q : Bool) (coins after : List ℕ) (boxed : ℕ) → not r ≡ false → Copied xs 7 n 16 coins → boxed ≡ boxedFrom n (take count xs) → Tried (openedFrom n xs (take n coins) (take n weights) boxed) w q after → Tried (openingFrom n (take count xs)) w q after
+      pub values-opened : (q : Bool) (coins after : List ℕ) (boxed : ℕ) → not r ≡ false → Copied xs 7 n 16 coins → boxed ≡ boxedFrom n (take count xs) →
+          Tried (openedFrom (argumentsWith n xs (take n coins) (take n weights) boxed)) w q after → Tried (openingFrom n (take count xs)) w q after
       values-opened q coins after boxed e c f y = rw (told, ← c .front, ← h .front (not-false r e), ← f) y
 
   pub coins-prefix : (coins : List ℕ) → Copied xs 7 n 16 coins → n ≡ length (take n coins)

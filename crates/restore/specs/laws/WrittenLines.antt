@@ -13,13 +13,14 @@ use lib.Dec.{eqb, leb, ltb}
 use borrow.Author.Tests.{ne-eqb, eqb-true, lt-ltb, le-leb, leb-true, ltb-true}
 use Rattle.quorum.specs.laws.Bools.{and-left, and-right}
 use Rattle.quorum.specs.Whole.{wholeOf}
-use Rattle.settings.specs.Settings.{namedTa, largestTa, settingsNamed}
+use Rattle.settings.specs.Settings.{namedTa, largestTa}
 use Rattle.settings.specs.Rules.{Ruled}
 use Rattle.settings.specs.laws.Rules.{valid-rules, whole-few}
 use Rattle.records.specs.Layout.{stateWords}
 use Rattle.records.specs.Words.{word}
 use Rattle.session.specs.Session.{numbered, settingsOf}
-use Rattle.opening.specs.Given.{item, weightsWord}
+use Rattle.opening.specs.Given.{item}
+use Rattle.opening.specs.Arguments.{Arguments, weightsBy, taBy, settingsBy}
 use Rattle.opening.specs.laws.Given.{WeightsGiven, are-given, accepted-given, CoinsGiven, coins-given}
 use Rattle.opening.specs.Opening.{openAnswer, openWords}
 use Rattle.opening.specs.laws.Cases.{Accepted, accepted}
@@ -32,7 +33,7 @@ use Rattle.turn.specs.Turn.{turnOutcome, turnWords}
 use Rattle.io.specs.Digits.{digits, glyph}
 use Rattle.text.specs.Fields.{TAB, LF, inFront, fields, letter}
 use Rattle.text.specs.Numbers.{DECIMAL, WORD, PACK, digitOf, allDigits, valueOf, decimalIn, decimalText}
-use Rattle.journal.specs.Lines.{VERSION, numberText, numberTexts, tabbed, openingForms, figures, openingText, hexBytes, deliveryText, turnText, recordingForms, recordingText}
+use Rattle.journal.specs.Lines.{VERSION, numberText, numberTexts, tabbed, openingForms, figures, numbersOf, formsOf, openingText, hexBytes, deliveryText, turnText, recordingForms, recordingText}
 use Rattle.journal.specs.Journal.{acts}
 use Rattle.journal.specs.laws.Journal.{acts-outcome, acts-words}
 use Rattle.restore.specs.Reading.{fieldAt, figureCount, formsFor, weightsFrom, boxedFrom, hexRight, bytesOf}
@@ -129,24 +130,18 @@ hex-bytes (x ∷ b) h =
 
 -- ---- `O`
 
-module _ (n ta ts own session input : ℕ) (coins weights : List ℕ) (boxed : ℕ) where
-  abbrev numbers : List ℕ
-  numbers = VERSION ∷ n ∷ ta ∷ ts ∷ own ∷ session ∷ input ∷ (coins ++ figures weights boxed)
-
-  abbrev forms : List ℕ
-  forms = openingForms (length coins) (length (figures weights boxed))
-
-  pub opening-without : Without LF (openingText n ta ts own session input coins weights boxed)
+module _ (o : Arguments) where
+  pub opening-without : Without LF (openingText o)
   unfolding openingText digitOf
   opening-without =
-      tabbed-without LF (λ e. absurd (let z : _≡_ {A = ℕ} 9 10 = e in omega arith)) (79 ∷ []) (numberTexts forms numbers) (λ e. absurd (omega arith), tt)
-      (numbers-without LF (omega arith) forms numbers)
+      tabbed-without LF (λ e. absurd (let z : _≡_ {A = ℕ} 9 10 = e in omega arith)) (79 ∷ []) (numberTexts (formsOf o) (numbersOf o)) (λ e. absurd (omega arith), tt)
+      (numbers-without LF (omega arith) (formsOf o) (numbersOf o))
 
-  opening-fields : fields (openingText n ta ts own session input coins weights boxed) ≡ (79 ∷ []) ∷ numberTexts forms numbers
+  opening-fields : fields (openingText o) ≡ (79 ∷ []) ∷ numberTexts (formsOf o) (numbersOf o)
   unfolding openingText digitOf
   opening-fields =
-      fields-tabbed (79 ∷ []) (numberTexts forms numbers) (λ e. absurd (omega arith), tt)
-      (numbers-without TAB (omega arith) forms numbers)
+      fields-tabbed (79 ∷ []) (numberTexts (formsOf o) (numbersOf o)) (λ e. absurd (omega arith), tt)
+      (numbers-without TAB (omega arith) (formsOf o) (numbersOf o))
 
 decimal-fits : (n : ℕ) → n < 2 ^ 64 → Fits DECIMAL n
 decimal-fits n h = (h, inl refl)
@@ -165,106 +160,128 @@ weights-fit [] h = tt
 weights-fit (w ∷ weights) h = ((omega (arith, h 0 (omega arith)), inl refl), weights-fit weights (λ i l. h (suc i) (omega arith)))
 
 -- the weights, and whether coins are boxed
-figures-small : (weights : List ℕ) (boxed : ℕ) → boxed ≤ 1 → ((i : ℕ) → i < length weights → word weights i ≤ 4) → (i : ℕ) → i < length (figures weights boxed) → word (figures weights boxed) i ≤ 4
+figures-small : (weights : List ℕ) (boxed : ℕ) → boxed ≤ 1 → ((i : ℕ) → i < length weights → word weights i ≤ 4) → (i : ℕ) → i < length (weights ++ (boxed ∷ [])) → word (weights ++ (boxed ∷ [])) i ≤ 4
 unfolding word
 figures-small [] boxed h k zero l = omega (arith, h)
 figures-small [] boxed h k (suc i) l = absurd (omega arith)
 figures-small (x ∷ weights) boxed h k zero l = k 0 (omega arith)
 figures-small (x ∷ weights) boxed h k (suc i) l = figures-small weights boxed h (λ j m. k (suc j) (omega arith)) i (omega arith)
 
-module _ (n ta ts own session input : ℕ) (coins weights : List ℕ) (boxed : ℕ) (taken : openAnswer stateWords n ta ts (weightsWord n weights) own coins boxed ≡ 0) where
-  told : Accepted stateWords n ta ts (weightsWord n weights) own coins boxed
-  told = accepted stateWords n ta ts (weightsWord n weights) own coins boxed taken
+module _ (o : Arguments) (taken : openAnswer stateWords o ≡ 0) where
+  told : Accepted stateWords o
+  told = accepted stateWords o taken
 
-  given : WeightsGiven n weights
-  given = are-given n weights (accepted-given stateWords n ta ts own coins weights boxed taken)
+  given : WeightsGiven (o .n) (o .weights)
+  given = are-given (o .n) (o .weights) (accepted-given stateWords o taken)
 
-  coined : CoinsGiven n coins boxed
-  coined = coins-given n coins boxed (told .given)
+  coined : CoinsGiven (o .n) (o .coins) (o .boxed)
+  coined = coins-given (o .n) (o .coins) (o .boxed) (told .given)
 
-  weight-small : (i : ℕ) → i < length weights → word weights i ≤ 4
+  weight-small : (i : ℕ) → i < length (o .weights) → word (o .weights) i ≤ 4
   unfolding item
   weight-small i l =
       let e : suc i - 1 ≡ i = omega arith in
       rw (ne-eqb (suc i) 0 (λ z. absurd (omega arith)), e) at (given .high (suc i) (omega arith) (omega (arith, given .number)))
 
-  rules : Ruled (settingsNamed n ta ts (weightsWord n weights))
-  rules = valid-rules n (namedTa n ta ts (weightsWord n weights)) ts (weightsWord n weights) (told .valid)
+  rules : Ruled (settingsBy o)
+  rules = valid-rules (o .n) (taBy o) (o .ts) (weightsBy o) (told .valid)
 
-  ts-small : ts < 2 ^ 64
-  ts-small = omega (arith, rules .margin, whole-few (settingsNamed n ta ts (weightsWord n weights)) rules)
+  ts-small : o .ts < 2 ^ 64
+  ts-small = omega (arith, rules .margin, whole-few (settingsBy o) rules)
 
-  ta-small : ta < 2 ^ 64
+  ta-small : o .ta < 2 ^ 64
   unfolding namedTa
-  ta-small = go (eqb ta 255) refl (rules .ordered)
+  ta-small = go (eqb (o .ta) 255) refl (rules .ordered)
     where
-      go : (b : Bool) → eqb ta 255 ≡ b → cond b (largestTa (wholeOf (weightsWord n weights) n) ts) ta ≤ ts → ta < 2 ^ 64
-      go true f l = omega (arith, eqb-true ta 255 f)
+      go : (b : Bool) → eqb (o .ta) 255 ≡ b → cond b (largestTa (wholeOf (weightsBy o) (o .n)) (o .ts)) (o .ta) ≤ o .ts → o .ta < 2 ^ 64
+      go true f l = omega (arith, eqb-true (o .ta) 255 f)
       go false f l = omega (arith, ts-small)
 
-  own-small : own < 2 ^ 64
+  own-small : o .own < 2 ^ 64
   unfolding numbered
-  own-small = omega (arith, leb-true own n (and-right (leb 1 own) (leb own n) (told .own-number)), rules .few)
+  own-small = omega (arith, leb-true (o .own) (o .n) (and-right (leb 1 (o .own)) (leb (o .own) (o .n)) (told .own-number)), rules .few)
 
-  module _ (session-fits : session < 2 ^ 32) (input-fits : input < 2 ^ 64) (coins-fit : (i : ℕ) → word coins i < 2 ^ 32) where
+  module _ (session-fits : o .session < 2 ^ 32) (input-fits : o .input < 2 ^ 64) (coins-fit : (i : ℕ) → word (o .coins) i < 2 ^ 32) where
     abbrev xs : List ℕ
-    xs = numbers n ta ts own session input coins weights boxed
+    xs = numbersOf o
 
-    all-fit : AllFit (forms n ta ts own session input coins weights boxed) xs
+    rest-fit : AllFit (DECIMAL ∷ DECIMAL ∷ PACK ∷ []) (o .own ∷ o .session ∷ o .input ∷ [])
+    rest-fit = (decimal-fits (o .own) own-small, (decimal-fits (o .session) (omega (arith, session-fits)), (pack-fits (o .input) input-fits, tt)))
+
+    all-fit : AllFit (formsOf o) xs
     unfolding openingForms
     all-fit =
-        all-fit-append (DECIMAL ∷ DECIMAL ∷ DECIMAL ∷ DECIMAL ∷ DECIMAL ∷ DECIMAL ∷ PACK ∷ []) (VERSION ∷ n ∷ ta ∷ ts ∷ own ∷ session ∷ input ∷ [])
-        (replicate (length coins) WORD ++ replicate (length (figures weights boxed)) DECIMAL) (coins ++ figures weights boxed) (
-          decimal-fits 1 (omega arith),
-          (decimal-fits n (omega (arith, rules .few)), (decimal-fits ta ta-small, (decimal-fits ts ts-small, (decimal-fits own own-small, (decimal-fits session (omega (arith, session-fits)), (pack-fits input input-fits, tt)))))),
-        )
-        (all-fit-append (replicate (length coins) WORD) coins (replicate (length (figures weights boxed)) DECIMAL) (figures weights boxed) (words-fit coins coins-fit) (weights-fit (figures weights boxed) (figures-small weights boxed (coined .kind) weight-small)))
+        all-fit-append (DECIMAL ∷ DECIMAL ∷ DECIMAL ∷ DECIMAL ∷ DECIMAL ∷ DECIMAL ∷ PACK ∷ []) (VERSION ∷ o .n ∷ o .ta ∷ o .ts ∷ o .own ∷ o .session ∷ o .input ∷ [])
+        (replicate (length (o .coins)) WORD ++ replicate (length (figures o)) DECIMAL) (o .coins ++ figures o)
+        (decimal-fits 1 (omega arith), (decimal-fits (o .n) (omega (arith, rules .few)), (decimal-fits (o .ta) ta-small, (decimal-fits (o .ts) ts-small, rest-fit))))
+        (all-fit-append (replicate (length (o .coins)) WORD) (o .coins) (replicate (length (figures o)) DECIMAL) (figures o)
+        (words-fit (o .coins) coins-fit)
+        (weights-fit (figures o) (figures-small (o .weights) (o .boxed) (coined .kind) weight-small)))
 
     abbrev fs : List (List ℕ)
-    fs = numberTexts (forms n ta ts own session input coins weights boxed) xs
+    fs = numberTexts (formsOf o) xs
 
-    figured : length (figures weights boxed) ≡ n + 1
-    figured = omega (arith, length-append weights (boxed ∷ []), given .number)
+    figured : length (figures o) ≡ o .n + 1
+    figured = omega (arith, length-append (o .weights) (o .boxed ∷ []), given .number)
 
-    count : length xs ≡ 7 + n + n + 1
-    count = omega (arith, length-append coins (figures weights boxed), figured, coined .size)
+    count : length xs ≡ 7 + o .n + o .n + 1
+    count = omega (arith, length-append (o .coins) (figures o), figured, coined .size)
 
-    forms-are : formsFor n (length fs) ≡ forms n ta ts own session input coins weights boxed
+    forms-are : formsFor (o .n) (length fs) ≡ formsOf o
     unfolding formsFor figureCount
     forms-are =
-        rw (numbers-length (forms n ta ts own session input coins weights boxed) xs all-fit, count, ne-eqb (7 + n + n + 1) (7 + n) (λ e. absurd (omega arith)), ne-eqb (7 + n + n + 1) (7 + n + n) (λ e. absurd (omega arith)), coined .size, figured)
+        rw (
+          numbers-length (formsOf o) xs all-fit,
+          count,
+          ne-eqb (7 + o .n + o .n + 1) (7 + o .n) (λ e. absurd (omega arith)),
+          ne-eqb (7 + o .n + o .n + 1) (7 + o .n + o .n) (λ e. absurd (omega arith)),
+          coined .size,
+          figured,
+        )
 
-    coins-are : take n (drop 7 xs) ≡ coins
-    coins-are = take-at coins (figures weights boxed) n (coined .size)
+    coins-are : take (o .n) (drop 7 xs) ≡ o .coins
+    coins-are = take-at (o .coins) (figures o) (o .n) (coined .size)
 
-    figures-are : drop (7 + n) xs ≡ figures weights boxed
-    figures-are = sym (drop-drop n 7 xs) ∙ drop-at coins (figures weights boxed) n (coined .size)
+    figures-are : drop (7 + o .n) xs ≡ figures o
+    figures-are = sym (drop-drop (o .n) 7 xs) ∙ drop-at (o .coins) (figures o) (o .n) (coined .size)
 
-    weights-are : weightsFrom n xs ≡ weights
+    weights-are : weightsFrom (o .n) xs ≡ o .weights
     unfolding weightsFrom
     weights-are =
-        rw (count, ne-eqb (7 + n + n + 1) (7 + n) (λ e. absurd (omega arith)), figures-are)
-        (take-at weights (boxed ∷ []) n (given .number))
+        rw (count, ne-eqb (7 + o .n + o .n + 1) (7 + o .n) (λ e. absurd (omega arith)), figures-are)
+        (take-at (o .weights) (o .boxed ∷ []) (o .n) (given .number))
 
-    boxed-is : boxedFrom n xs ≡ boxed
+    boxed-is : boxedFrom (o .n) xs ≡ o .boxed
     unfolding boxedFrom
-    boxed-is = sym (getD-drop (7 + n) xs n 0) ∙ ap (λ (ys : List ℕ). getD ys n 0) figures-are ∙ last-of weights n (given .number)
+    boxed-is = sym (getD-drop (7 + o .n) xs (o .n) 0) ∙ ap (λ (ys : List ℕ). getD ys (o .n) 0) figures-are ∙ last-of (o .weights) (o .n) (given .number)
       where
-        last-of : (ys : List ℕ) (k : ℕ) → length ys ≡ k → getD (ys ++ (boxed ∷ [])) k 0 ≡ boxed
+        last-of : (ys : List ℕ) (k : ℕ) → length ys ≡ k → getD (ys ++ (o .boxed ∷ [])) k 0 ≡ o .boxed
         last-of [] zero e = refl
         last-of [] (suc k) e = absurd (omega (arith, e))
         last-of (y ∷ ys) zero e = absurd (omega (arith, e))
         last-of (y ∷ ys) (suc k) e = last-of ys k (omega (arith, e))
 
-    n-read : valueOf DECIMAL (fieldAt fs 1) ≡ n
+    n-read : valueOf DECIMAL (fieldAt fs 1) ≡ o .n
     unfolding fieldAt numberTexts openingForms numberText
-    n-read = decimal-read n (omega (arith, rules .few)) .1
+    n-read = decimal-read (o .n) (omega (arith, rules .few)) .1
 
     -- an accepted opening
-    pub first-reads : firstLine (openingText n ta ts own session input coins weights boxed) ≡ some (record { words = openWords n ta ts (weightsWord n weights) own session input coins boxed; turned = none })
+    pub first-reads : firstLine (openingText o) ≡ some (record { words = openWords o; turned = none })
     unfolding firstLine firstOf letter openingRead openingFrom openedFrom
     first-reads =
-        rw (opening-fields n ta ts own session input coins weights boxed, n-read, forms-are, le-leb n 16 (rules .few), numbers-proper (forms n ta ts own session input coins weights boxed) xs all-fit, numbers-values (forms n ta ts own session input coins weights boxed) xs all-fit, lt-ltb session (2 ^ 32) session-fits, coins-are, weights-are, boxed-is, taken)
+        rw (
+          opening-fields o,
+          n-read,
+          forms-are,
+          le-leb (o .n) 16 (rules .few),
+          numbers-proper (formsOf o) xs all-fit,
+          numbers-values (formsOf o) xs all-fit,
+          lt-ltb (o .session) (2 ^ 32) session-fits,
+          coins-are,
+          weights-are,
+          boxed-is,
+          taken,
+        )
 
 -- ---- `D`
 

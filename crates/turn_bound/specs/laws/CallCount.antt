@@ -10,6 +10,8 @@ use Rattle.settings.specs.declared.Settings.{Settings}
 use Rattle.records.specs.Layout.{turnsAt}
 use Rattle.records.specs.Words.{word}
 use Rattle.session.specs.Session.{isState}
+use Rattle.opening.specs.Arguments.{Arguments, settingsBy}
+use Rattle.opening.specs.Opening.{openAnswer, opened}
 use Rattle.delivery.specs.Delivery.{delivered}
 use Rattle.recording.specs.Recording.{recordedWords}
 use Rattle.turn.specs.Turn.{turnOutcome, turnWords}
@@ -18,7 +20,6 @@ use Rattle.journal.specs.laws.Journal.{line-taken, line-words, line-stays}
 use Rattle.restore.specs.Complete.{linesOf, joined}
 use Rattle.restore.specs.Restoring.{Replay, wrong, right, replay, replayAnswer, replayWords, lentAnswer, restoreAnswer, restoredWords, accepted}
 use Rattle.restore.specs.declared.Restored.the-variants as restored
-use Rattle.turn_bound.specs.TurnBound.{Arguments, answer, openedBy, settingsBy}
 use Rattle.turn_bound.specs.laws.TurnBound.{TurnCount}
 use Rattle.turn_bound.specs.Calls.{Call, opening, delivery, turn, report, restore, recording, openNumberBy, restoreTaken, called, afterCalls, begun, turnLines, turnsSince, lineSettings, settingsSince, CallCount}
 use Rattle.turn_bound.specs.laws.Count.{turn-count, refused-words}
@@ -26,13 +27,13 @@ use Rattle.turn_bound.specs.laws.Stepped.{Stepped, opening-stepped, deli
 
 -- an opening with its line: accepted, it is the one without; else the words stay
 module _ (w : List ℕ) (o : Arguments) (line : List ℕ) where
-  pub open-taken : eqb (openNumberBy w o line) 0 ≡ true → (answer w o ≡ 0) × (called w (opening o line) ≡ openedBy w o)
+  pub open-taken : eqb (openNumberBy w o line) 0 ≡ true → (openAnswer (length w) o ≡ 0) × (called w (opening o line) ≡ opened w o)
   unfolding openNumber called openedWords
-  open-taken e = let t = line-taken (answer w o) (length line) (eqb-true _ 0 e) in (t .0, line-words (length line) w (openedBy w o) (t .1))
+  open-taken e = let t = line-taken (openAnswer (length w) o) (length line) (eqb-true _ 0 e) in (t .0, line-words (length line) w (opened w o) (t .1))
 
   pub open-refused : eqb (openNumberBy w o line) 0 ≡ false → called w (opening o line) ≡ w
   unfolding openNumber called openedWords
-  open-refused e = line-stays (answer w o) (length line) w (openedBy w o) e (refused-words w o)
+  open-refused e = line-stays (openAnswer (length w) o) (length line) w (opened w o) e (refused-words w o)
 
 -- a restore: accepted, its words are those of its lines; else the words stay
 module _ (w journal out : List ℕ) where

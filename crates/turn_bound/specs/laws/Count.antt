@@ -12,12 +12,13 @@ use Rattle.settings.specs.declared.Settings.{Settings}
 use Rattle.records.specs.Layout.{turnsAt}
 use Rattle.records.specs.Words.{word}
 use Rattle.session.specs.Session.{settingsOf, isState}
-use Rattle.opening.specs.Opening.{opened}
+use Rattle.opening.specs.Arguments.{Arguments, settingsBy}
+use Rattle.opening.specs.Opening.{openAnswer, opened}
 use Rattle.turn.specs.Turn.{turnOutcome}
 use Rattle.journal.specs.Journal.{acts}
 use Rattle.report.specs.Report.{figuresOf}
 use Rattle.report.specs.laws.Report.{report-gives}
-use Rattle.turn_bound.specs.TurnBound.{weightsBy, Arguments, answer, openedBy, settingsBy, Step, opening, delivery, turn, report, recording, after, current, Reports}
+use Rattle.turn_bound.specs.TurnBound.{Step, opening, delivery, turn, report, recording, after, current, Reports}
 use Rattle.turn_bound.specs.laws.TurnBound.{acting, Counted, TurnCount}
 use Rattle.turn_bound.specs.laws.Sound.{Sound, sound-bound, sound-state}
 use Rattle.turn_bound.specs.laws.Delivering.{delivery-sound}
@@ -36,15 +37,15 @@ pub record Going (g : Settings) (w : List ℕ) (k : ℕ) : Type 0 where
   pub sound : Sound g w
   pub count : word w turnsAt ≡ k
 
-pub opening-going : (w : List ℕ) (o : Arguments) → answer w o ≡ 0 → Going (settingsBy o) (openedBy w o) 0
+pub opening-going : (w : List ℕ) (o : Arguments) → openAnswer (length w) o ≡ 0 → Going (settingsBy o) (opened w o) 0
 opening-going w o e =
     record {
-      ruled = opened-ruled w (o .coins) (o .n) (o .ta) (o .ts) (weightsBy o) (o .own) (o .session) (o .input) (o .boxed) e;
-      sound = opened-sound w (o .coins) (o .n) (o .ta) (o .ts) (weightsBy o) (o .own) (o .session) (o .input) (o .boxed) e;
-      count = opened-turns w (o .coins) (o .n) (o .ta) (o .ts) (weightsBy o) (o .own) (o .session) (o .input) (o .boxed) e;
+      ruled = opened-ruled w o e;
+      sound = opened-sound w o e;
+      count = opened-turns w o e;
     }
 
-pub refused-words : (w : List ℕ) (o : Arguments) → eqb (answer w o) 0 ≡ false → openedBy w o ≡ w
+pub refused-words : (w : List ℕ) (o : Arguments) → eqb (openAnswer (length w) o) 0 ≡ false → opened w o ≡ w
 unfolding opened
 refused-words w o e = rw e
 
@@ -52,10 +53,11 @@ module _ (g : Settings) (s : List ℕ) (start : Going g s 0) where
   pub going : (cs : List Step) → Going (current g s cs) (after s cs) (acting s cs)
   unfolding current after acting
   going [] = start
-  going (opening o ∷ cs) = at (eqb (answer (after s cs) o) 0) refl (going cs)
+  going (opening o ∷ cs) = at (eqb (openAnswer (length (after s cs)) o) 0) refl (going cs)
     where
-      at : (b : Bool) → eqb (answer (after s cs) o) 0 ≡ b → Going (current g s cs) (after s cs) (acting s cs) → Going (cond b (settingsBy o) (current g s cs)) (openedBy (after s cs) o) (cond b 0 (acting s cs))
-      at true e x = opening-going (after s cs) o (eqb-true (answer (after s cs) o) 0 e)
+      at : (b : Bool) → eqb (openAnswer (length (after s cs)) o) 0 ≡ b → Going (current g s cs) (after s cs) (acting s cs) →
+          Going (cond b (settingsBy o) (current g s cs)) (opened (after s cs) o) (cond b 0 (acting s cs))
+      at true e x = opening-going (after s cs) o (eqb-true (openAnswer (length (after s cs)) o) 0 e)
       at false e x = rw (refused-words (after s cs) o e) x
   going (delivery link b ∷ cs) =
       let x = going cs in
@@ -88,4 +90,4 @@ module _ (g : Settings) (s : List ℕ) (start : Going g s 0) where
 
 pub turn-count : TurnCount
 unfolding TurnCount
-turn-count s o e = counted (settingsBy o) (openedBy s o) (opening-going s o e)
+turn-count s o e = counted (settingsBy o) (opened s o) (opening-going s o e)

@@ -8,7 +8,6 @@ use lib.ListN.{length}
 use lib.Dec.{leb}
 use borrow.Author.Tests.{eq-eqb, leb-true}
 use Rattle.quorum.specs.laws.Bools.{and-left, and-right}
-use Rattle.settings.specs.Settings.{namedTa, settingsNamed}
 use Rattle.settings.specs.Rules.{Ruled}
 use Rattle.settings.specs.laws.Rules.{valid-rules}
 use Rattle.settings.specs.declared.Settings.{Settings}
@@ -18,6 +17,7 @@ use Rattle.quorum.specs.Total.{total, everyone}
 use Rattle.records.specs.Layout.{turnsAt, flagsAt, roundAt, estSentAt, estSentMark, auxSentAt, commitCountAt}
 use Rattle.records.specs.Words.{word}
 use Rattle.session.specs.Session.{numbered, settingsOf}
+use Rattle.opening.specs.Arguments.{Arguments, weightsBy, taBy, settingsBy}
 use Rattle.opening.specs.Opening.{openAnswer, openWords, opened}
 use Rattle.opening.specs.laws.Cases.{Accepted, accepted}
 use Rattle.opening.specs.laws.Given.{coins-given}
@@ -27,21 +27,21 @@ use Rattle.turn_bound.specs.laws.Potential.{instancePart, potential}
 use Rattle.turn_bound.specs.laws.Sound.{Sound}
 
 -- the words of a new state
-module _ (n ta ts w own session input : ℕ) (coins : List ℕ) (boxed : ℕ) (few : n ≤ 16) where
+module _ (o : Arguments) (few : o .n ≤ 16) where
   abbrev new : List ℕ
-  new = openWords n ta ts w own session input coins boxed
+  new = openWords o
 
-  new-settings : settingsOf new ≡ settingsNamed n ta ts w
+  new-settings : settingsOf new ≡ settingsBy o
   unfolding settingsOf
-  new-settings = rw (first-n n ta ts w own session input coins boxed, first-ta n ta ts w own session input coins boxed, first-ts n ta ts w own session input coins boxed, first-weights n ta ts w own session input coins boxed few)
+  new-settings = rw (first-n o, first-ta o, first-ts o, first-weights o few)
 
   new-zero : (k : ℕ) → 24 ≤ k → (k ≤ 142 → k < 141) → word new k ≡ 0
-  new-zero = first-zero n ta ts w own session input coins boxed few
+  new-zero = first-zero o few
 
-  no-est : (j p : ℕ) → 1 ≤ j → j ≤ n → mark (word new (estSentAt j)) p ≡ true → ⊥
+  no-est : (j p : ℕ) → 1 ≤ j → j ≤ o .n → mark (word new (estSentAt j)) p ≡ true → ⊥
   no-est j p lo hi e = false≢true (sym (mark-zero p) ∙ ap (λ (x : ℕ). mark x p) (sym (new-zero (estSentAt j) (omega arith) (λ z. omega arith))) ∙ e)
 
-  part-zero : (i : ℕ) → 1 ≤ i → i ≤ n → instancePart new i ≡ 0
+  part-zero : (i : ℕ) → 1 ≤ i → i ≤ o .n → instancePart new i ≡ 0
   unfolding instancePart
   part-zero i lo hi =
       rw (
@@ -53,23 +53,23 @@ module _ (n ta ts w own session input : ℕ) (coins : List ℕ) (boxed : ℕ) (f
         new-zero (roundAt i) (omega arith) (λ z. omega arith),
       )
 
-  parts-zero : (k : ℕ) → k ≤ n → total (instancePart new) everyone k ≡ 0
+  parts-zero : (k : ℕ) → k ≤ o .n → total (instancePart new) everyone k ≡ 0
   unfolding total
   parts-zero zero h = refl
   parts-zero (suc k) h = omega (arith, part-zero (suc k) (omega arith) h, parts-zero k (omega arith))
 
-  new-potential : potential n new ≡ 0
+  new-potential : potential (o .n) new ≡ 0
   unfolding potential
-  new-potential = omega (arith, zero-count (word new flagsAt) 3 (first-flags n ta ts w own session input coins boxed), parts-zero n (omega arith))
+  new-potential = omega (arith, zero-count (word new flagsAt) 3 (first-flags o), parts-zero (o .n) (omega arith))
 
-  new-sound : 1 ≤ own → own ≤ n → boxed ≤ 1 → Sound (settingsNamed n ta ts w) new
+  new-sound : 1 ≤ o .own → o .own ≤ o .n → o .boxed ≤ 1 → Sound (settingsBy o) new
   new-sound low high kind =
       record {
-        size = length-first n ta ts w own session input coins boxed;
+        size = length-first o;
         settings = new-settings;
-        own-low = rw (first-own n ta ts w own session input coins boxed) low;
-        own-high = rw (first-own n ta ts w own session input coins boxed) high;
-        kind = rw (first-boxed n ta ts w own session input coins boxed few) kind;
+        own-low = rw (first-own o) low;
+        own-high = rw (first-own o) high;
+        kind = rw (first-boxed o few) kind;
         counts = λ p lo hi. omega (arith, new-zero (commitCountAt p) (omega arith) (λ z. omega arith));
         orderly =
             record {
@@ -77,36 +77,36 @@ module _ (n ta ts w own session input : ℕ) (coins : List ℕ) (boxed : ℕ) (f
               reached = λ j r b lo hi rl rh bb e. absurd (no-est j (estSentMark r b) lo hi e);
               passed = λ j r lo hi l e. absurd (omega (arith, new-zero (roundAt j) (omega arith) (λ z. omega arith)));
             };
-        turns = first-turns n ta ts w own session input coins boxed ∙ sym new-potential;
+        turns = first-turns o ∙ sym new-potential;
       }
 
-module _ (s coins : List ℕ) (n ta ts w own session input boxed : ℕ) (e : openAnswer (length s) n ta ts w own coins boxed ≡ 0) where
+module _ (s : List ℕ) (o : Arguments) (e : openAnswer (length s) o ≡ 0) where
   abbrev g : Settings
-  g = settingsNamed n ta ts w
+  g = settingsBy o
 
-  is-accepted : Accepted (length s) n ta ts w own coins boxed
-  is-accepted = accepted (length s) n ta ts w own coins boxed e
+  is-accepted : Accepted (length s) o
+  is-accepted = accepted (length s) o e
 
   pub opened-ruled : Ruled g
-  opened-ruled = valid-rules n (namedTa n ta ts w) ts w (is-accepted .valid)
+  opened-ruled = valid-rules (o .n) (taBy o) (o .ts) (weightsBy o) (is-accepted .valid)
 
-  opened-new : opened s n ta ts w own session input coins boxed ≡ openWords n ta ts w own session input coins boxed
+  opened-new : opened s o ≡ openWords o
   unfolding opened
-  opened-new = rw (eq-eqb (openAnswer (length s) n ta ts w own coins boxed) 0 e)
+  opened-new = rw (eq-eqb (openAnswer (length s) o) 0 e)
 
-  own-low : 1 ≤ own
+  own-low : 1 ≤ o .own
   unfolding numbered
-  own-low = leb-true 1 own (and-left (leb 1 own) (leb own n) (is-accepted .own-number))
+  own-low = leb-true 1 (o .own) (and-left (leb 1 (o .own)) (leb (o .own) (o .n)) (is-accepted .own-number))
 
-  own-high : own ≤ n
+  own-high : o .own ≤ o .n
   unfolding numbered
-  own-high = leb-true own n (and-right (leb 1 own) (leb own n) (is-accepted .own-number))
+  own-high = leb-true (o .own) (o .n) (and-right (leb 1 (o .own)) (leb (o .own) (o .n)) (is-accepted .own-number))
 
-  kind : boxed ≤ 1
-  kind = coins-given n coins boxed (is-accepted .given) .kind
+  kind : o .boxed ≤ 1
+  kind = coins-given (o .n) (o .coins) (o .boxed) (is-accepted .given) .kind
 
-  pub opened-sound : Sound g (opened s n ta ts w own session input coins boxed)
-  opened-sound = rw opened-new (new-sound n ta ts w own session input coins boxed (opened-ruled .few) own-low own-high kind)
+  pub opened-sound : Sound g (opened s o)
+  opened-sound = rw opened-new (new-sound o (opened-ruled .few) own-low own-high kind)
 
-  pub opened-turns : word (opened s n ta ts w own session input coins boxed) turnsAt ≡ 0
-  opened-turns = rw opened-new (first-turns n ta ts w own session input coins boxed)
+  pub opened-turns : word (opened s o) turnsAt ≡ 0
+  opened-turns = rw opened-new (first-turns o)

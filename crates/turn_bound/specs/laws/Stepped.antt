@@ -6,12 +6,13 @@ use mathlib.Core.Option.{Option, none, some}
 use mathlib.Core.Path.{_≡_, refl, sym, ap, _∙_}
 use native.Mathlib.Omega.{arith}
 use lib.Dec.{eqb, leb, ltb}
-use lib.ListN.{length, take, drop, getD}
+use lib.ListN.{length, getD}
 use borrow.Author.Tests.{eqb-true, ne-eqb}
 use Rattle.settings.specs.declared.Settings.{Settings}
 use Rattle.records.specs.Words.{blank}
 use Rattle.records.specs.laws.Fill.{length-blank}
 use Rattle.session.specs.Session.{settingsOf}
+use Rattle.opening.specs.Arguments.{Arguments, settingsBy}
 use Rattle.opening.specs.Opening.{openAnswer, openWords, opened}
 use Rattle.delivery.specs.Delivery.{deliverAnswer, delivered}
 use Rattle.recording.specs.Recording.{recordAnswer, recordedWords}
@@ -20,9 +21,9 @@ use Rattle.text.specs.Fields.{fields, letter}
 use Rattle.text.specs.Numbers.{DECIMAL, valueOf, valuesOf}
 use Rattle.journal.specs.Lines.{recordingForms}
 use Rattle.journal.specs.Journal.{acts}
-use Rattle.restore.specs.Reading.{proper, allProper, fieldAt, formsFor, weightsFrom, boxedFrom, hexRight, bytesOf}
+use Rattle.restore.specs.Reading.{proper, allProper, fieldAt, formsFor, argumentsFrom, hexRight, bytesOf}
 use Rattle.restore.specs.Restoring.{Point, openedFrom, openingFrom, openingRead, firstOf, firstLine, deliveredFrom, turnedFrom, recordedBy, recordedFrom, nextOf, nextLine, wrong, right, appliedOr, further, replayFrom, replay}
-use Rattle.turn_bound.specs.TurnBound.{weightsBy, Arguments, answer, openedBy, settingsBy, Step, after, current}
+use Rattle.turn_bound.specs.TurnBound.{Step, after, current}
 use Rattle.turn_bound.specs.laws.TurnBound.{acting}
 use Rattle.turn_bound.specs.TurnBound as step
 use Rattle.turn_bound.specs.Calls.{delivery, turn, isTurn, turnLines, pointSettings, lineSettings}
@@ -32,13 +33,13 @@ use Rattle.turn_bound.specs.laws.Count.{going, opening-going}
 pub record Stepped (w : List ℕ) (k : ℕ) (g : Settings) : Type 0 where
   pub first : List ℕ
   pub arguments : Arguments
-  pub opens : answer first arguments ≡ 0
+  pub opens : openAnswer (length first) arguments ≡ 0
   pub steps : List Step
-  pub words : after (openedBy first arguments) steps ≡ w
-  pub count : acting (openedBy first arguments) steps ≡ k
-  pub settings : current (settingsBy arguments) (openedBy first arguments) steps ≡ g
+  pub words : after (opened first arguments) steps ≡ w
+  pub count : acting (opened first arguments) steps ≡ k
+  pub settings : current (settingsBy arguments) (opened first arguments) steps ≡ g
 
-pub opening-stepped : (w : List ℕ) (o : Arguments) → answer w o ≡ 0 → Stepped (openedBy w o) 0 (settingsBy o)
+pub opening-stepped : (w : List ℕ) (o : Arguments) → openAnswer (length w) o ≡ 0 → Stepped (opened w o) 0 (settingsBy o)
 unfolding after acting current
 opening-stepped w o e = record { first = w; arguments = o; opens = e; steps = []; words = refl; count = refl; settings = refl }
 
@@ -85,7 +86,7 @@ module _ (w : List ℕ) (k : ℕ) (g : Settings) (x : Stepped w k g) where
   -- the settings are those in the words
   pub stepped-settings : settingsOf w ≡ g
   stepped-settings =
-      let y = going (settingsBy (x .arguments)) (openedBy (x .first) (x .arguments)) (opening-going (x .first) (x .arguments) (x .opens)) (x .steps) in
+      let y = going (settingsBy (x .arguments)) (opened (x .first) (x .arguments)) (opening-going (x .first) (x .arguments) (x .opens)) (x .steps) in
       ap settingsOf (sym (x .words)) ∙ y .sound .settings ∙ x .settings
 
 -- ---- lines
@@ -97,20 +98,15 @@ some-if false y x e = absurd (let z : _≡_ {A = ℕ} 0 1 = cc in omega arith)
 words-of : (z y : Point) → some z ≡ some y → z .words ≡ y .words
 words-of z y e = cc
 
-opened-stepped : (n : ℕ) (xs coins weights : List ℕ) (boxed : ℕ) (x : Point) → openedFrom n xs coins weights boxed ≡ some x → Stepped (x .words) 0 (settingsOf (x .words))
+opened-stepped : (o : Arguments) (x : Point) → openedFrom o ≡ some x → Stepped (x .words) 0 (settingsOf (x .words))
 unfolding openedFrom opened
-opened-stepped n xs coins weights boxed x e =
-    let o : Arguments = record { n = n; ta = getD xs 2 0; ts = getD xs 3 0; own = getD xs 4 0; session = getD xs 5 0; input = getD xs 6 0; coins = coins; weights = weights; boxed = boxed } in
-    let z : Point = record { words = openWords (o .n) (o .ta) (o .ts) (weightsBy o) (o .own) (o .session) (o .input) coins boxed; turned = none } in
-    let t = some-if (eqb (openAnswer 2048 (o .n) (o .ta) (o .ts) (weightsBy o) (o .own) coins boxed) 0) (some z) x e in
-    of o (t .0) (words-of z x (t .1))
-  where
-    of : (o : Arguments) → eqb (openAnswer 2048 (o .n) (o .ta) (o .ts) (weightsBy o) (o .own) (o .coins) (o .boxed)) 0 ≡ true → openWords (o .n) (o .ta) (o .ts) (weightsBy o) (o .own) (o .session) (o .input) (o .coins) (o .boxed) ≡ x .words → Stepped (x .words) 0 (settingsOf (x .words))
-    of o a f =
-        let taken : answer (blank 2048) o ≡ 0 = rw length-blank (eqb-true _ 0 a) in
-        let words : openedBy (blank 2048) o ≡ x .words = rw (length-blank, a) f in
-        let y = rw words at (opening-stepped (blank 2048) o taken) in
-        rw (stepped-settings (x .words) 0 (settingsBy o) y) y
+opened-stepped o x e =
+    let z : Point = record { words = openWords o; turned = none } in
+    let t = some-if (eqb (openAnswer 2048 o) 0) (some z) x e in
+    let taken : openAnswer (length (blank 2048)) o ≡ 0 = rw length-blank (eqb-true _ 0 (t .0)) in
+    let words : opened (blank 2048) o ≡ x .words = rw (length-blank, t .0) (words-of z x (t .1)) in
+    let y = rw words at (opening-stepped (blank 2048) o taken) in
+    rw (stepped-settings (x .words) 0 (settingsBy o) y) y
 
 -- an opening line
 pub first-stepped : (b : List ℕ) (x : Point) → firstLine b ≡ some x → Stepped (x .words) 0 (settingsOf (x .words))
@@ -119,8 +115,8 @@ first-stepped b x e = of (fields b) e
   where
     numbers : (n : ℕ) (xs : List ℕ) → openingFrom n xs ≡ some x → Stepped (x .words) 0 (settingsOf (x .words))
     numbers n xs e =
-        let t = some-if (eqb (getD xs 0 0) 1 && ltb (getD xs 5 0) (2 ^ 32)) (openedFrom n xs (take n (drop 7 xs)) (weightsFrom n xs) (boxedFrom n xs)) x e in
-        opened-stepped n xs (take n (drop 7 xs)) (weightsFrom n xs) (boxedFrom n xs) x (t .1)
+        let t = some-if (eqb (getD xs 0 0) 1 && ltb (getD xs 5 0) (2 ^ 32)) (openedFrom (argumentsFrom n xs)) x e in
+        opened-stepped (argumentsFrom n xs) x (t .1)
 
     read : (n : ℕ) (fs : List (List ℕ)) → openingRead n fs ≡ some x → Stepped (x .words) 0 (settingsOf (x .words))
     read n fs e =

@@ -10,14 +10,16 @@ use Rattle.settings.specs.declared.Settings.{Settings}
 use Rattle.records.specs.Layout.{turnsAt}
 use Rattle.records.specs.Words.{word}
 use Rattle.session.specs.Session.{isState}
+use Rattle.opening.specs.Arguments.{Arguments, settingsBy}
+use Rattle.opening.specs.Opening.{openAnswer, opened}
 use Rattle.turn.specs.Turn.{turnOutcome}
 use Rattle.journal.specs.Journal.{acts}
-use Rattle.turn_bound.specs.TurnBound.{Arguments, answer, openedBy, settingsBy, Step, after, current, Reports, opening, delivery, turn, report, recording}
+use Rattle.turn_bound.specs.TurnBound.{Step, after, current, Reports, opening, delivery, turn, report, recording}
 
 -- "the number of turns since opening that did not answer idle": an accepted opening starts anew, a recording is no turn
 unfoldable pub acting : List ℕ → List Step → ℕ
 acting s [] = 0
-acting s (opening o ∷ cs) = cond (eqb (answer (after s cs) o) 0) 0 (acting s cs)
+acting s (opening o ∷ cs) = cond (eqb (openAnswer (length (after s cs)) o) 0) 0 (acting s cs)
 acting s (delivery link b ∷ cs) = acting s cs
 acting s (turn out ∷ cs) = cond (acts (turnOutcome (after s cs) (length out))) (acting s cs + 1) (acting s cs)
 acting s (report ∷ cs) = acting s cs
@@ -36,5 +38,5 @@ pub record Counted (g : Settings) (s : List ℕ) (cs : List Step) : Type 0 where
 -- for every accepted opening of any buffer and every list of calls after it, further openings, accepted or refused, among them
 unfoldable pub TurnCount : Type 0
 TurnCount =
-    (s : List ℕ) (o : Arguments) → answer s o ≡ 0 →
-    (cs : List Step) → Counted (current (settingsBy o) (openedBy s o) cs) (openedBy s o) cs
+    (s : List ℕ) (o : Arguments) → openAnswer (length s) o ≡ 0 →
+    (cs : List Step) → Counted (current (settingsBy o) (opened s o) cs) (opened s o) cs
