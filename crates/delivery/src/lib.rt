@@ -69,8 +69,8 @@ pub fn judge(s: &[u64], link: u64, bytes: &[u8]) -> Verdict
     if s.len() != layout::STATE_WORDS {
         return Verdict::Refused(refusal::NO_STATE);
     }
-    let held = session::state_of(s);
-    match held {
+    let stored = session::state_of(s);
+    match stored {
         Stored::NoState => Verdict::Refused(refusal::NO_STATE),
         Stored::Held(x) => verdict_in(s, x, link, bytes),
     }

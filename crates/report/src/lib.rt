@@ -58,8 +58,8 @@ fn admit(s: &[u64], named: usize, in_force: usize) -> Admitted
     if s.len() != layout::STATE_WORDS {
         return Admitted::Refused(refusal::NO_STATE);
     }
-    let held = session::state_of(s);
-    match held {
+    let stored = session::state_of(s);
+    match stored {
         Stored::NoState => Admitted::Refused(refusal::NO_STATE),
         Stored::Held(x) => admit_in(x.settings, named, in_force),
     }
@@ -71,10 +71,10 @@ fn exit_now(s: &[u64], g: Settings) -> Named
     ensures { λ r. ⌜ Stated r (exitNow g (now (s .entry))) ⌝ }
 {
     let mut values = [0u64; 16];
-    let held = broadcasts::outputs(s, g, &mut values);
+    let outputs = broadcasts::outputs(s, g, &mut values);
     let zero = records::decided_zero_marks(s);
     let one = records::decided_one_marks(s);
-    exits::exit_of(g, held, &values, zero, one)
+    exits::exit_of(g, outputs, &values, zero, one)
 }
 
 // The lowest sender that holds the set in force, and 0 if none is.

@@ -62,9 +62,9 @@ fn send_rule(s: &[u64]) -> Act
     Act::Send(records::own_input(s))
 }
 
-// Rules 5 and 6: `held` has mark i where broadcast i has output, `first` tells whether Exit 1 holds.
-fn last_rules(s: &[u64], g: Settings, held: u64, first: bool) -> Act
-    ensures { λ r. ⌜ r ≡ lastRules g (now (s .entry)) held first ⌝ }
+// Rules 5 and 6: `outputs` has mark i where broadcast i has output, `first` tells whether Exit 1 holds.
+fn last_rules(s: &[u64], g: Settings, outputs: u64, first: bool) -> Act
+    ensures { λ r. ⌜ r ≡ lastRules g (now (s .entry)) outputs first ⌝ }
 {
     let a = broadcasts::ready_rule(s, g);
     if acts::is_due(a) {
@@ -73,12 +73,12 @@ fn last_rules(s: &[u64], g: Settings, held: u64, first: bool) -> Act
     if first {
         return Act::Idle;
     }
-    votes::vote_rule(s, g, held)
+    votes::vote_rule(s, g, outputs)
 }
 
 // Rules 3 to 6.
-fn later_rules(s: &[u64], g: Settings, held: u64, first: bool) -> Act
-    ensures { λ r. ⌜ r ≡ laterRules g (now (s .entry)) held first ⌝ }
+fn later_rules(s: &[u64], g: Settings, outputs: u64, first: bool) -> Act
+    ensures { λ r. ⌜ r ≡ laterRules g (now (s .entry)) outputs first ⌝ }
 {
     let a = send_rule(s);
     if acts::is_due(a) {
@@ -88,17 +88,17 @@ fn later_rules(s: &[u64], g: Settings, held: u64, first: bool) -> Act
     if acts::is_due(b) {
         return b;
     }
-    last_rules(s, g, held, first)
+    last_rules(s, g, outputs, first)
 }
 
 // The exit of a state, from the outputs of its broadcasts.
-fn exit_now(s: &[u64], g: Settings, held: u64, values: &[u64; 16]) -> Named
-    requires { ⌜ (Ruled g) × (Outputs g (now s) (g .n) held (now values)) ⌝ }
+fn exit_now(s: &[u64], g: Settings, outputs: u64, values: &[u64; 16]) -> Named
+    requires { ⌜ (Ruled g) × (Outputs g (now s) (g .n) outputs (now values)) ⌝ }
     ensures { λ r. ⌜ Stated r (exitNow g (now (s .entry))) ⌝ }
 {
     let zero = records::decided_zero_marks(s);
     let one = records::decided_one_marks(s);
-    exits::exit_of(g, held, values, zero, one)
+    exits::exit_of(g, outputs, values, zero, one)
 }
 
 // The first thing due; the set of a COMMIT stands at the front of `set`.
@@ -111,11 +111,11 @@ pub fn due(s: &[u64], g: Settings, set: &mut [u64; 16]) -> Act
         return a;
     }
     let mut values = [0u64; 16];
-    let held = broadcasts::outputs(s, g, &mut values);
-    let named = exit_now(s, g, held, &values);
+    let outputs = broadcasts::outputs(s, g, &mut values);
+    let named = exit_now(s, g, outputs, &values);
     let b = commit_rule(s, g, named, set);
     if acts::is_due(b) {
         return b;
     }
-    later_rules(s, g, held, named.exit == 1)
+    later_rules(s, g, outputs, named.exit == 1)
 }

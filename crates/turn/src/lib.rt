@@ -44,8 +44,8 @@ fn admit(s: &[u64], room: usize) -> Admitted
     if s.len() != layout::STATE_WORDS {
         return Admitted::Refused(refusal::NO_STATE);
     }
-    let held = session::state_of(s);
-    match held {
+    let stored = session::state_of(s);
+    match stored {
         Stored::NoState => Admitted::Refused(refusal::NO_STATE),
         Stored::Held(x) => {
             if records::closed(s) {

@@ -223,16 +223,16 @@ pub fn vote_act(s: &[u64], g: Settings, output: bool, ones: u64, i: u8) -> Act
     round_act(s, g, i)
 }
 
-// Rule 6, lower votes first: `held` has mark i where broadcast i has output.
-pub fn vote_rule(s: &[u64], g: Settings, held: u64) -> Act
-    ensures { λ a. ⌜ a ≡ voteRule g (now (s .entry)) (mark held) ⌝ }
+// Rule 6, lower votes first: `outputs` has mark i where broadcast i has output.
+pub fn vote_rule(s: &[u64], g: Settings, outputs: u64) -> Act
+    ensures { λ a. ⌜ a ≡ voteRule g (now (s .entry)) (mark outputs) ⌝ }
 {
     let ones = votes_decided_one(s, g);
     let n = g.n;
     let mut i: u8 = 0;
     while i < n {
         i += 1;
-        let a = vote_act(s, g, quorum::mark(held, i as u64), ones, i);
+        let a = vote_act(s, g, quorum::mark(outputs, i as u64), ones, i);
         if acts::is_due(a) {
             return a;
         }

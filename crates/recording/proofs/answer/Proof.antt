@@ -10,8 +10,8 @@ state-of-requires c κs = search needs
 enum-told : tie.Need-enum-told
 enum-told c = search needs
 
-enum-known-held : tie.Need-enum-known-held
-enum-known-held c = search needs
+enum-known-stored : tie.Need-enum-known-stored
+enum-known-stored c = search needs
 
 running-answer-requires : tie.Need-running-answer-requires
 running-answer-requires c κs = search needs
@@ -28,7 +28,7 @@ answer-spec =
     (tie.spec
     state-of-requires
     enum-told
-    enum-known-held
+    enum-known-stored
     running-answer-requires
     returns
     returns-2)
