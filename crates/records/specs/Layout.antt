@@ -138,7 +138,7 @@ zeroMark r = 32 + r
 abbrev pub estSentMark : ℕ → ℕ → ℕ
 estSentMark r b = 32 * b + r
 
--- in a round's word the marks of EST b, and of AUX b, are the 16 above these
+-- a round's word has 16 marks for EST b, one for each sender, and 16 for AUX b: so many marks stand below them
 abbrev pub estGroup : ℕ → ℕ
 estGroup b = 16 * b
 

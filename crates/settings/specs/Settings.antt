@@ -6,7 +6,7 @@ use lib.Dec.{eqb, ltb, leb}
 use Rattle.quorum.specs.Whole.{wholeOf, weightsRight}
 use Rattle.settings.specs.declared.Settings.{Settings}
 
--- the most concentrators: "n from 1 to 16"
+-- the most concentrators of a session
 abbrev pub maxConcentrators : ℕ
 maxConcentrators = 16
 
@@ -63,6 +63,6 @@ turnBound g = 99 * g .n + 3
 abbrev pub roundLimit : ℕ
 roundLimit = 32
 
--- "33 means moved out of round 32"
+-- the round of a vote that has moved out of round 32
 abbrev pub movedOutRound : ℕ
 movedOutRound = 33

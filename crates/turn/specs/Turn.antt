@@ -57,16 +57,12 @@ withTurnCounted s = withTurnCount s (turnCount s + 1)
 unfoldable pub entered : List ℕ → ℕ → ℕ → ℕ → List ℕ
 entered s i r b = cond (ltb roundLimit r) (withRound s i r) (withEstSent (withRound s i r) i r b)
 
--- vote i is decided b
-unfoldable pub decidedAs : List ℕ → ℕ → ℕ → List ℕ
-decidedAs s i b = withDecision s i b
-
 -- "vote i is decided b if b equals the coin and no decision stands"
 unfoldable pub newDecision : List ℕ → ℕ → ℕ → View → Bool
 newDecision s i r v = not (decided s i) && decides (coin s i r) v
 
 unfoldable pub moveDecided : List ℕ → ℕ → ℕ → View → List ℕ
-moveDecided s i r v = cond (newDecision s i r v) (decidedAs s i (estimate (coin s i r) v)) s
+moveDecided s i r v = cond (newDecision s i r v) (withDecision s i (estimate (coin s i r) v)) s
 
 -- "Moving enters the next round and sends its EST."
 unfoldable pub moved : List ℕ → ℕ → ℕ → View → List ℕ

@@ -4,8 +4,7 @@ use Prim.Native.Nat.{ℕ, _-_, _^_}
 use mathlib.Core.List.{List, [], _∷_}
 use lib.ListN.{length}
 use Rattle.settings.specs.declared.Settings.{Settings}
-use Rattle.records.specs.Layout.{roundAt}
-use Rattle.records.specs.Words.{put}
+use Rattle.records.specs.Writing.{withRound, withDecision}
 use Rattle.acts.specs.declared.Act.{Act}
 use Rattle.acts.specs.declared.Act.the-variants as act
 use Rattle.wire.specs.Bytes.{valueBytes}
@@ -15,7 +14,7 @@ use Rattle.opening.specs.Arguments.{arguments}
 use Rattle.opening.specs.Opening.{openWords}
 use Rattle.delivery.specs.Delivery.{recorded}
 use Rattle.turn.specs.Due.{due}
-use Rattle.turn.specs.Turn.{decidedAs, done}
+use Rattle.turn.specs.Turn.{done}
 
 abbrev pub four : ℕ → Settings
 four ta = record { n = 4; ta = ta; ts = 1; whole = 4; weights = 15 }
@@ -51,8 +50,8 @@ unfoldable pub withFact : List ℕ → Fact → List ℕ
 withFact s (from ps m) = recordedFrom s ps m []
 withFact s (commits ps xs) = recordedFrom s ps (Commit (length xs)) (valueBytes xs)
 withFact s (did a) = done s a
-withFact s (inRound i r) = put s (roundAt i) r
-withFact s (isDecided i b) = decidedAs s i b
+withFact s (inRound i r) = withRound s i r
+withFact s (isDecided i b) = withDecision s i b
 
 unfoldable pub withFacts : List ℕ → List Fact → List ℕ
 withFacts s [] = s

@@ -9,7 +9,7 @@ use Rattle.settings.specs.Settings.{roundLimit}
 use Rattle.settings.specs.Rules.{Ruled}
 use Rattle.settings.specs.declared.Settings.{Settings}
 use Rattle.records.specs.Layout.{turnsAt, roundAt, estSentAt, estSentMark, decidedZeroAt, decidedOneAt}
-use Rattle.records.specs.Words.{word, put, marked, setMark}
+use Rattle.records.specs.Words.{word, put, setMark}
 use Rattle.records.specs.Records.{coin}
 use Rattle.records.specs.laws.Bounds.{Fit, fit-put, fit-setMark}
 use Rattle.acts.specs.Acts.{isDue}
@@ -17,7 +17,7 @@ use Rattle.acts.specs.declared.Act as acts
 use Rattle.acts.specs.declared.Act.the-variants.{Idle, InForce, Commit, Send, Echo, Ready, Start, Relay, Aux, Move}
 use Rattle.acts.specs.declared.View.{View}
 use Rattle.votes.specs.Votes.{estimate}
-use Rattle.turn.specs.Turn.{withTurnCounted, entered, decidedAs, newDecision, moveDecided, moved, applied}
+use Rattle.turn.specs.Turn.{withTurnCounted, entered, newDecision, moveDecided, moved, applied}
 use Rattle.turn.specs.Turn as turn
 use Rattle.turn.specs.laws.Told.{ActTold}
 use Rattle.turn.specs.laws.Frame.{Placed, told-placed, setting, coins, beyond, length-applied, applied-kept}
@@ -38,7 +38,7 @@ fit-entered s i r b f h = go (ltb roundLimit r)
     go false = fit-setMark (put s (roundAt i) r) (estSentAt i) (estSentMark r b) at-round
 
 fit-decided : (s : List ℕ) (i r : ℕ) (v : View) → Fit s → Fit (moveDecided s i r v)
-unfolding moveDecided decidedAs
+unfolding moveDecided
 fit-decided s i r v f = go (newDecision s i r v)
   where
     go : (t : Bool) → Fit (cond t (setMark s (cond (eqb (estimate (coin s i r) v) 0) decidedZeroAt decidedOneAt) i) s)

@@ -11,7 +11,7 @@ use Rattle.acts.specs.declared.Act.{Act}
 use Rattle.acts.specs.declared.Act.the-variants.{Idle, InForce, Commit, Send, Echo, Ready, Start, Relay, Aux, Move}
 use Rattle.acts.specs.declared.View.{View}
 use Rattle.votes.specs.Votes.{estimate, decides}
-use Rattle.turn.specs.Turn.{withTurnCounted, entered, decidedAs, newDecision, moveDecided, moved, done, applied}
+use Rattle.turn.specs.Turn.{withTurnCounted, entered, newDecision, moveDecided, moved, done, applied}
 
 pub turn-counted : (s t : List ℕ) (w : ℕ) → w ≡ turnCount s → t ≡ withTurnCount s (w + 1) → t ≡ withTurnCounted s
 unfolding withTurnCounted
@@ -33,7 +33,7 @@ module _ (s : List ℕ) (i r : ℕ) (v : View) (c : Bool) (ec : c ≡ coin s i r
 
   module _ (b : ℕ) (eb : b ≡ estimate c v) where
     pub decision-taken : (t : List ℕ) (d : Bool) → d ≡ newDecision s i r v → d ≡ true → t ≡ withDecision s i b → t ≡ moveDecided s i r v
-    unfolding moveDecided decidedAs
+    unfolding moveDecided
     decision-taken t d e h f = rw (← e, h, ← ec, ← eb) f
 
     pub round-left : (t u : List ℕ) → t ≡ moveDecided s i r v → u ≡ entered t i (r + 1) b → u ≡ moved s i r v

@@ -17,7 +17,7 @@ use Rattle.acts.specs.declared.Act.{Act}
 use Rattle.acts.specs.declared.Act.the-variants.{Idle, InForce, Commit, Send, Echo, Ready, Start, Relay, Aux, Move}
 use Rattle.acts.specs.declared.View.{View}
 use Rattle.votes.specs.Votes.{estimate}
-use Rattle.turn.specs.Turn.{withTurnCounted, entered, decidedAs, newDecision, moveDecided, moved, applied}
+use Rattle.turn.specs.Turn.{withTurnCounted, entered, newDecision, moveDecided, moved, applied}
 use Rattle.turn.specs.Turn as turn
 use Rattle.turn.specs.laws.Frame.{Placed, Spared, length-counted, word-counted-other, word-entered-other, applied-other}
 
@@ -68,7 +68,7 @@ module _ (s : List ℕ) (size : length s ≡ 2048) where
   set-elsewhere k m j i ne away h = kept (setMark (withTurnCounted s) m j) k i (word-setMark-other (withTurnCounted s) m j k ne ∙ word-counted-other s k away) h
 
   move-came : (j r : ℕ) (v : View) (z : Bool) (i : ℕ) → mark (word (moveDecided (withTurnCounted s) j r v) (decidedAt z)) i ≡ true → (mark (word s (decidedAt z)) i ≡ true) ⊎ Came s j r v z i
-  unfolding moveDecided decidedAs
+  unfolding moveDecided
   move-came j r v z i h = go (newDecision s j r v) refl (eqb (estimate (coin s j r) v) 0) refl z (rw (new-counted s j r v, coin-counted s j r v) at h)
     where
       of : (w : Bool) → newDecision s j r v ≡ true → eqb (estimate (coin s j r) v) 0 ≡ w → (mark (word s (decidedAt w)) i ≡ true) ⊎ (i ≡ j) → (mark (word s (decidedAt w)) i ≡ true) ⊎ Came s j r v w i

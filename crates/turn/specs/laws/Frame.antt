@@ -14,13 +14,14 @@ use Rattle.records.specs.Layout.{turnsAt, decidedZeroAt, decidedOneAt, roundAt,
 use Rattle.records.specs.Words.{word, put, setMark}
 use Rattle.records.specs.laws.Words.{length-put, word-put-same, word-put-other, length-setMark, word-setMark-other}
 use Rattle.records.specs.Records.{coin}
+use Rattle.records.specs.Writing.{withDecision}
 use Rattle.acts.specs.Acts.{isDue}
 use Rattle.acts.specs.declared.Act.{Act}
 use Rattle.acts.specs.declared.Act.the-variants.{Idle, InForce, Commit, Send, Echo, Ready, Start, Relay, Aux, Move}
 use Rattle.acts.specs.declared.View.{View}
 use Rattle.votes.specs.Votes.{estimate}
 use Rattle.turn.specs.laws.Told.{ActTold}
-use Rattle.turn.specs.Turn.{withTurnCounted, entered, decidedAs, newDecision, moveDecided, moved, done, applied}
+use Rattle.turn.specs.Turn.{withTurnCounted, entered, newDecision, moveDecided, moved, done, applied}
 
 -- word j is none of those that an act marks
 abbrev pub Spared : Act → ℕ → Type 0
@@ -81,22 +82,22 @@ module _ (s : List ℕ) (i r b : ℕ) where
 
 module _ (s : List ℕ) (i r : ℕ) (v : View) where
   pub length-decided : length (moveDecided s i r v) ≡ length s
-  unfolding moveDecided decidedAs
+  unfolding moveDecided
   length-decided = go (newDecision s i r v) (estimate (coin s i r) v)
     where
-      go : (t : Bool) (b : ℕ) → length (cond t (decidedAs s i b) s) ≡ length s
+      go : (t : Bool) (b : ℕ) → length (cond t (withDecision s i b) s) ≡ length s
       go true b = length-setMark s (cond (eqb b 0) decidedZeroAt decidedOneAt) i
       go false b = refl
 
   pub word-decided-other : (j : ℕ) → j ≢ 138 → j ≢ 139 → word (moveDecided s i r v) j ≡ word s j
-  unfolding moveDecided decidedAs
+  unfolding moveDecided
   word-decided-other j h k = go (newDecision s i r v) (estimate (coin s i r) v)
     where
       at : (z : Bool) → word (setMark s (cond z decidedZeroAt decidedOneAt) i) j ≡ word s j
       at true = word-setMark-other s decidedZeroAt i j h
       at false = word-setMark-other s decidedOneAt i j k
 
-      go : (t : Bool) (b : ℕ) → word (cond t (decidedAs s i b) s) j ≡ word s j
+      go : (t : Bool) (b : ℕ) → word (cond t (withDecision s i b) s) j ≡ word s j
       go true b = at (eqb b 0)
       go false b = refl
 

@@ -14,12 +14,13 @@ use Rattle.records.specs.Layout.{flagsAt, closedMark, sendSentMark, commitSentM
 use Rattle.records.specs.Words.{word, put, marked, setMark}
 use Rattle.records.specs.laws.Words.{word-put-other, word-setMark-same, marked-kept}
 use Rattle.records.specs.Records.{closed, sendSent, commitSent, echoSent, readySent, auxSent, estSent, coin}
+use Rattle.records.specs.Writing.{withDecision}
 use Rattle.acts.specs.Acts.{isDue}
 use Rattle.acts.specs.declared.Act.{Act}
 use Rattle.acts.specs.declared.Act.the-variants.{Idle, InForce, Commit, Send, Echo, Ready, Start, Relay, Aux, Move}
 use Rattle.acts.specs.declared.View.{View}
 use Rattle.votes.specs.Votes.{estimate}
-use Rattle.turn.specs.Turn.{withTurnCounted, entered, decidedAs, newDecision, moveDecided, moved, applied}
+use Rattle.turn.specs.Turn.{withTurnCounted, entered, newDecision, moveDecided, moved, applied}
 use Rattle.turn.specs.Turn as turn
 use Rattle.turn.specs.laws.Frame.{Placed, length-counted, word-counted-other}
 
@@ -52,10 +53,10 @@ module _ (k : ℕ) (m : MarkWord k) where
       go false = keeps-mark k (put s (roundAt i) r) (estSentAt i) (estSentMark r b) p first
 
   keeps-decided : (s : List ℕ) (i r : ℕ) (v : View) → Keeps k s (moveDecided s i r v)
-  unfolding moveDecided decidedAs
+  unfolding moveDecided
   keeps-decided s i r v p h = go (newDecision s i r v)
     where
-      go : (t : Bool) → mark (word (cond t (decidedAs s i (estimate (coin s i r) v)) s) k) p ≡ true
+      go : (t : Bool) → mark (word (cond t (withDecision s i (estimate (coin s i r) v)) s) k) p ≡ true
       go true = keeps-mark k s (cond (eqb (estimate (coin s i r) v) 0) decidedZeroAt decidedOneAt) i p h
       go false = h
 

@@ -22,7 +22,8 @@ use Rattle.wire.specs.declared.Message.{Message}
 use Rattle.wire.specs.declared.Message.the-variants as message
 use Rattle.delivery.specs.Delivery.{recorded}
 use Rattle.delivery.specs.laws.Frame.{InLayout}
-use Rattle.turn.specs.Turn.{withTurnCounted, entered, decidedAs, newDecision, moveDecided, moved, done, applied}
+use Rattle.records.specs.Writing.{withDecision}
+use Rattle.turn.specs.Turn.{withTurnCounted, entered, newDecision, moveDecided, moved, done, applied}
 use Rattle.turn.specs.laws.Frame.{Placed}
 use Rattle.unweighted.specs.laws.Opening.{put-swap, store-put}
 use Rattle.unweighted.specs.laws.apart.Records.{word-apart, coin-apart, decided-apart}
@@ -64,9 +65,8 @@ module _ (x : ℕ) where
       go true = put-apart s (roundAt i) r (λ e. omega arith)
       go false = both-apart s (roundAt i) r (estSentAt i) (estSentMark r b) (λ e. omega arith) (λ e. omega arith)
 
-  decided-as-apart : (s : List ℕ) (i b : ℕ) → decidedAs (put s weightsAt x) i b ≡ put (decidedAs s i b) weightsAt x
-  unfolding decidedAs
-  decided-as-apart s i b = go (eqb b 0)
+  with-decision-apart : (s : List ℕ) (i b : ℕ) → withDecision (put s weightsAt x) i b ≡ put (withDecision s i b) weightsAt x
+  with-decision-apart s i b = go (eqb b 0)
     where
       go : (c : Bool) → setMark (put s weightsAt x) (cond c decidedZeroAt decidedOneAt) i ≡ put (setMark s (cond c decidedZeroAt decidedOneAt) i) weightsAt x
       go true = mark-apart s decidedZeroAt i (λ e. omega arith)
@@ -76,8 +76,8 @@ module _ (x : ℕ) where
   unfolding moveDecided newDecision
   decision-apart s i r v high = rw (decided-apart s x i, coin-apart s x i high r) (go (not (decided s i) && decides (coin s i r) v))
     where
-      go : (c : Bool) → cond c (decidedAs (put s weightsAt x) i (estimate (coin s i r) v)) (put s weightsAt x) ≡ put (cond c (decidedAs s i (estimate (coin s i r) v)) s) weightsAt x
-      go true = decided-as-apart s i (estimate (coin s i r) v)
+      go : (c : Bool) → cond c (withDecision (put s weightsAt x) i (estimate (coin s i r) v)) (put s weightsAt x) ≡ put (cond c (withDecision s i (estimate (coin s i r) v)) s) weightsAt x
+      go true = with-decision-apart s i (estimate (coin s i r) v)
       go false = refl
 
   moved-apart : (s : List ℕ) (i r : ℕ) (v : View) → i ≤ 16 → moved (put s weightsAt x) i r v ≡ put (moved s i r v) weightsAt x
