@@ -1,5 +1,4 @@
 -- `put4` leaves the four bytes, written in two halves, and then what was there.
-use Prim.Native.Nat.{_-_}
 use Rattle.wire.specs.Bytes.{bytes2, bytes4}
 use Rattle.wire.proofs.Laws.{patch}
 use borrow.Author.Needs.{needs}

@@ -1,5 +1,4 @@
 -- `put_header` leaves the twelve bytes, written in two parts, and then what was there.
-use Prim.Native.Nat.{_-_}
 use Rattle.wire.specs.Bytes.{bytes2, bytes4}
 use Rattle.wire.specs.Message.{frontBytes, headerBytes}
 use Rattle.wire.proofs.Laws.{patch}
