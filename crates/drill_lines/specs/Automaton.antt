@@ -28,8 +28,8 @@ unfoldable pub room : (form digits : ℕ) → Bool
 room form digits = eqb form DECIMAL || ltb digits form
 
 -- the digits with one more; in a decimal 1 stands for one or more
-unfoldable pub counted : (form digits : ℕ) → ℕ
-counted form digits = cond (eqb form DECIMAL) 1 (cond (ltb digits form) (digits + 1) digits)
+unfoldable pub digitCount : (form digits : ℕ) → ℕ
+digitCount form digits = cond (eqb form DECIMAL) 1 (cond (ltb digits form) (digits + 1) digits)
 
 -- the last six numbers
 unfoldable pub pushed : Numbers → ℕ → Numbers
@@ -72,7 +72,7 @@ parted r =
 unfoldable pub extendedAs : ℕ → Reader → ℕ → Reader
 extendedAs w r c =
     cond (room w (r .digits) && (ltb (digitOf c) (baseOf w) && ltb (r .value * baseOf w + digitOf c) (2 ^ 64)))
-    (reading (r .kind) (r .field) (counted w (r .digits)) (r .value * baseOf w + digitOf c) (r .numbers))
+    (reading (r .kind) (r .field) (digitCount w (r .digits)) (r .value * baseOf w + digitOf c) (r .numbers))
     wrong
 
 unfoldable pub extended : Reader → ℕ → Reader

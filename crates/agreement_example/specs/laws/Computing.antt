@@ -9,6 +9,21 @@ use Rattle.journal.specs.Journal.{lineAnswer, lineWords, openNumber, openedWord
 use Rattle.agreement_example.specs.Messages.{lowBytes, bytesOf, coinsOf, openingWith, openingOf, deliver, turnOf, recordOf}
 use Rattle.agreement_example.specs.Bits.{boxBit}
 
+-- the test of a list
+unfoldable testing : Unit {0}
+unfolding isOpened wordsOf linesOf withEntry sameList among wasSent textOf completeOf some lastWords keeps sentIn sentBy sameSession opens firstLines deliveryLines turnLines recordingLines statesAfter goneAfter restoreRight listed openingRight deliveryRight recordingRight callRight step run
+testing = tt
+
+-- the calls of the lists, and their refusals
+unfoldable listing : Unit {0}
+unfolding boxBit closesWith closes allClose ends passesAt passes refusalOf refusal withRefusal afterCall refusals lowBytes bytesOf coinsOf openingWith openingOf deliver turnOf recordOf
+listing = tt
+
+-- the lines of a journal
+unfoldable lines : Unit {0}
+unfolding onesGiven lineAnswer lineWords openNumber openedWords deliverNumber deliveredWords recordNumber recordWords turnRoom turnedMessage numberText numberTexts tabbed openingForms openingText hexBytes deliveryText recordingText withEnd decimalIn decimalText
+lines = tt
+
 unfoldable pub checks : Unit {0}
-unfolding isOpened wordsOf linesOf withEntry sameList among wasSent textOf completeOf some lastWords keeps sentIn sentBy sameSession opens firstLines deliveryLines turnLines recordingLines statesAfter goneAfter restoreRight listed openingRight deliveryRight recordingRight boxBit callRight step run closesWith closes allClose ends passesAt passes refusalOf refusal withRefusal afterCall refusals lowBytes bytesOf coinsOf openingWith onesGiven openingOf deliver turnOf recordOf lineAnswer lineWords openNumber openedWords deliverNumber deliveredWords recordNumber recordWords turnRoom turnedMessage numberText numberTexts tabbed openingForms openingText hexBytes deliveryText recordingText withEnd decimalIn decimalText
+unfolding testing listing lines
 checks = tt

@@ -6,7 +6,7 @@ use lib.Dec.{eqb, ltb}
 use borrow.Author.Tests.{lt-ltb, le-ltb, eq-eqb, ne-eqb, ltb-true, not-true, not-false}
 use Rattle.text.specs.Numbers.{digitOf, baseOf, complete}
 use Rattle.drill_lines.specs.Grammar.{byKind}
-use Rattle.drill_lines.specs.Automaton.{countOf, formOf, room, counted, pushed, noNumbers, reading, wrong, lettered, parted, extendedAs, extended, fed, lineWith, finished}
+use Rattle.drill_lines.specs.Automaton.{countOf, formOf, room, digitCount, pushed, noNumbers, reading, wrong, lettered, parted, extendedAs, extended, fed, lineWith, finished}
 use Rattle.drill_lines.specs.laws.Automaton.{laterLine}
 use Rattle.drill_lines.specs.declared.Line.{Line}
 use Rattle.drill_lines.specs.declared.Line.the-variants.{Bad}
@@ -121,16 +121,16 @@ module _ (k f : ℕ) where
 pub ruleset form-cases = (form-letter, form-word, form-pack, form-decimal)
 
 module _ (w d : ℕ) where
-  pub counted-decimal : w ≡ 10 → 1 ≡ counted w d
-  unfolding counted
+  pub counted-decimal : w ≡ 10 → 1 ≡ digitCount w d
+  unfolding digitCount
   counted-decimal e = rw (eq-eqb _ _ e)
 
-  pub counted-other : (w ≡ 10 → ⊥) → d < w → d + 1 ≡ counted w d
-  unfolding counted
+  pub counted-other : (w ≡ 10 → ⊥) → d < w → d + 1 ≡ digitCount w d
+  unfolding digitCount
   counted-other e l = rw (ne-eqb _ _ e, lt-ltb _ _ l)
 
-  pub counted-full : (w ≡ 10 → ⊥) → w ≤ d → d ≡ counted w d
-  unfolding counted
+  pub counted-full : (w ≡ 10 → ⊥) → w ≤ d → d ≡ digitCount w d
+  unfolding digitCount
   counted-full e l = rw (ne-eqb _ _ e, le-ltb _ _ l)
 
 pub ruleset digits-cases = (counted-decimal, counted-other, counted-full)
@@ -195,7 +195,7 @@ module _ (w : ℕ) (r : Reader) (c : ℕ) (m : Bool) (em : m ≡ room w (r .digi
       unfolding extendedAs
       extended-large x e h = rw (← em, not-false m t, ← ed, ← eb, lt-ltb _ _ l, ← ef, not-true f h) e
 
-      pub extended-right : not f ≡ false → (v n : ℕ) (x : Reader) → v ≡ r .value * b + d → n ≡ counted w (r .digits) →
+      pub extended-right : not f ≡ false → (v n : ℕ) (x : Reader) → v ≡ r .value * b + d → n ≡ digitCount w (r .digits) →
           x ≡ reading (r .kind) (r .field) n v (r .numbers) → x ≡ extendedAs w r c
       unfolding extendedAs
       extended-right h v n x q e g = rw (← em, not-false m t, ← ed, ← eb, lt-ltb _ _ l, ← ef, not-false f h, ← e, ← q) g

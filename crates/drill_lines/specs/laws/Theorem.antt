@@ -11,7 +11,7 @@ use borrow.Author.Tests.{lt-ltb, le-ltb, eq-eqb, ne-eqb, ltb-true, ltb-false, eq
 use Rattle.text.specs.Fields.{TAB, inFront, fields, letter}
 use Rattle.text.specs.Numbers.{digitOf, baseOf, allDigits, valueFrom, valueOf, complete, right, allRight, valuesOf}
 use Rattle.drill_lines.specs.Grammar.{byKind, lineOr, lineN, lineC, lineP, lineT, lineD, lineL, lineR, byLetter, lineOfFields, lineOf}
-use Rattle.drill_lines.specs.Automaton.{countOf, formOf, room, counted, pushed, noNumbers, reading, start, wrong, lettered, parted, extendedAs, extended, fed, lineWith, finished, fedAll}
+use Rattle.drill_lines.specs.Automaton.{countOf, formOf, room, digitCount, pushed, noNumbers, reading, start, wrong, lettered, parted, extendedAs, extended, fed, lineWith, finished, fedAll}
 use Rattle.drill_lines.specs.laws.Cases.{by-other}
 use Rattle.drill_lines.specs.declared.Line.{Line}
 use Rattle.drill_lines.specs.declared.Line.the-variants.{Bad}
@@ -57,8 +57,8 @@ value-grows w v [] = omega arith
 value-grows w v (c ∷ g) = omega (arith, base-grows w v, value-grows w (v * baseOf w + digitOf c) g)
 
 -- the number of digits is right with one more as it is with the rest
-complete-step : (w d l : ℕ) → room w d ≡ true → complete w (d + suc l) ≡ complete w (counted w d + l)
-unfolding complete counted room
+complete-step : (w d l : ℕ) → room w d ≡ true → complete w (d + suc l) ≡ complete w (digitCount w d + l)
+unfolding complete digitCount room
 complete-step w d l = go (eqb w 10) (ltb d w) (ltb-true d w)
   where
     go : (t s : Bool) → (s ≡ true → d < w) → (t || s) ≡ true →
@@ -75,7 +75,7 @@ complete-full w d l = go (eqb w 10) (ltb d w) (ltb-false d w)
     go true s h e = absurd (false≢true (sym e))
     go false s h e = let q : w ≤ d = h e in ne-eqb (d + suc l) w (λ z. omega arith)
 
-right-step : (w d v c : ℕ) (g : List ℕ) → rightFrom w d v (c ∷ g) ≡ (takes w d v c && rightFrom w (counted w d) (v * baseOf w + digitOf c) g)
+right-step : (w d v c : ℕ) (g : List ℕ) → rightFrom w d v (c ∷ g) ≡ (takes w d v c && rightFrom w (digitCount w d) (v * baseOf w + digitOf c) g)
 unfolding rightFrom takes allDigits valueFrom
 right-step w d v c g =
     go (room w d) refl (ltb (digitOf c) (baseOf w)) (v * baseOf w + digitOf c) (ltb (v * baseOf w + digitOf c) (2 ^ 64)) refl
@@ -83,7 +83,7 @@ right-step w d v c g =
   where
     go : (r : Bool) → room w d ≡ r → (t : Bool) (m : ℕ) (s : Bool) → ltb m (2 ^ 64) ≡ s → (n : ℕ) → m ≤ n →
         (complete w (d + suc (length g)) && ((t && allDigits (baseOf w) g) && ltb n (2 ^ 64)))
-        ≡ ((r && (t && s)) && (complete w (counted w d + length g) && (allDigits (baseOf w) g && ltb n (2 ^ 64))))
+        ≡ ((r && (t && s)) && (complete w (digitCount w d + length g) && (allDigits (baseOf w) g && ltb n (2 ^ 64))))
     go false e t m s f n l = rw (complete-full w d (length g) e)
     go true e false m s f n l = and-false (complete w (d + suc (length g)))
     go true e true m true f n l = rw (complete-step w d (length g) e)
@@ -139,7 +139,7 @@ some-field (c ∷ b) = go (eqb c TAB) (fields b) (some-field b)
 module _ (k w : ℕ) (ws : List ℕ) (d v : ℕ) (x : Numbers) where
   -- a digit more, and the bytes after it
   meant-digit : (c : ℕ) (fs : List (List ℕ)) →
-      meant k w ws d v x (inFront c fs) ≡ cond (takes w d v c) (meant k w ws (counted w d) (v * baseOf w + digitOf c) x fs) Bad
+      meant k w ws d v x (inFront c fs) ≡ cond (takes w d v c) (meant k w ws (digitCount w d) (v * baseOf w + digitOf c) x fs) Bad
   unfolding meant inFront valueFrom
   meant-digit c [] = sym (cond-same (takes w d v c) Bad)
   meant-digit c (g ∷ gs) = rw (right-step w d v c g) (cond-and (takes w d v c) _ _ _)
@@ -176,7 +176,7 @@ module _ (k f d v : ℕ) (x : Numbers) (h : v < 2 ^ 64) where
         (leads (complete (formOf k f) d) _ b _ (λ t. r m refl)
         ∙ meant-tab k (formOf k f) [] d v x (formOf k (f + 1)) (formsFrom k (f + 1 + 1) m) h (complete (formOf k f) d) refl (fields b))
 
-    means-digit : (n c : ℕ) → (v * baseOf (formOf k f) + digitOf c < 2 ^ 64 → Means k f (counted (formOf k f) d) (v * baseOf (formOf k f) + digitOf c) x n b) →
+    means-digit : (n c : ℕ) → (v * baseOf (formOf k f) + digitOf c < 2 ^ 64 → Means k f (digitCount (formOf k f) d) (v * baseOf (formOf k f) + digitOf c) x n b) →
         finished (fedAll (extended (reading k f d v x) c) b) ≡ meant k (formOf k f) (formsFrom k (f + 1) n) d v x (inFront c (fields b))
     unfolding Means extended extendedAs takes reading
     means-digit n c r =
@@ -185,7 +185,7 @@ module _ (k f d v : ℕ) (x : Numbers) (h : v < 2 ^ 64) where
 
 means-more : (k f d v : ℕ) (x : Numbers) (n c : ℕ) (b : List ℕ) → v < 2 ^ 64 → (k ≡ 0 → ⊥) → f + suc n ≡ countOf k →
     ((m : ℕ) → n ≡ suc m → Means k (f + 1) 0 0 (pushed x v) m b) →
-    (v * baseOf (formOf k f) + digitOf c < 2 ^ 64 → Means k f (counted (formOf k f) d) (v * baseOf (formOf k f) + digitOf c) x n b) →
+    (v * baseOf (formOf k f) + digitOf c < 2 ^ 64 → Means k f (digitCount (formOf k f) d) (v * baseOf (formOf k f) + digitOf c) x n b) →
     Means k f d v x n (c ∷ b)
 unfolding Means fedAll fed reading fields
 means-more k f d v x n c b h nz e r s = rw (ne-eqb k 0 nz) (go (eqb c TAB))
@@ -200,7 +200,7 @@ means : (b : List ℕ) (k f d v : ℕ) (x : Numbers) (n : ℕ) → v < 2 ^ 64 �
 means [] k f d v x n h nz e = means-end k f d v x h n e
 means (c ∷ b) k f d v x n h nz e =
     means-more k f d v x n c b h nz e (λ m q. means b k (f + 1) 0 0 (pushed x v) m (omega arith) nz (omega arith))
-    (λ l. means b k f (counted (formOf k f) d) (v * baseOf (formOf k f) + digitOf c) x n l nz e)
+    (λ l. means b k f (digitCount (formOf k f) d) (v * baseOf (formOf k f) + digitOf c) x n l nz e)
 
 -- as many numbers as forms, where all fields are right
 values-length : (ws : List ℕ) (fs : List (List ℕ)) → allRight ws fs ≡ true → length (valuesOf ws fs) ≡ length ws

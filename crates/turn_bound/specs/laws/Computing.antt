@@ -31,6 +31,46 @@ use Rattle.turn.specs.Turn as turn
 use Rattle.report.specs.Report.{inForceSet, figuresOf, answerFor, namedFor, inForceFor, reportAnswer, reportNamed, reportInForce}
 use Rattle.report.specs.Report as report
 
+-- thresholds, marks and weights
+unfoldable countings : Unit {0}
+unfolding validSettings largestTa namedTa quorum repeat voteQuorum relay accept turnBound mark withMark total weightOf wholeOf weightRight weightsRight markIf withWeight packed lowest every
+countings = tt
+
+-- records
+unfoldable records : Unit {0}
+unfolding words.word words.put words.marked words.setMark closed sendSent commitSent echoSent readySent sendHeld sendValue echoHeld echoValue readyHeld readyValue estHeld auxHeld coin printed coinRecorded coinKnown round estSent auxSent decidedZero decidedOne decided commitCount commitValue commitSet blank storeOf
+records = tt
+
+-- broadcasts and COMMITs
+unfoldable broadcasts : Unit {0}
+unfolding orAct actAt firstAct holders leads valueOf leading output echoAct readyDue readyAct echoRule readyRule commitHeld sameSet setHolders setLeads setLeader setOf leadingSet
+broadcasts = tt
+
+-- votes and exits
+unfoldable votes : Unit {0}
+unfolding estCount accepted votesDecidedOne startAct relayValue relayRound relayAct running auxValue auxAct carries carriers auxCount carried view moveValue moveAct roundAct voteAct voteRule withOutput sizeS exit1At votesDone exit2At exit3Full noExit exit3 naming exitOf exitNow
+votes = tt
+
+-- states and messages
+unfoldable messages : Unit {0}
+unfolding numbered roundsRight commitsRight numbersRight settingsOf isState sessionWith sessionOf stored be2 be4 be8 valueAt values risesFrom rises bytes2 bytes4 bytes8 valueBytes byKind headerFor frontBytes headerBytes messageBytes encode wire.atFront lengthRight headerOf fieldsRight takenIf readValues readChecked readMessage
+messages = tt
+
+-- openings, deliveries and recordings
+unfoldable openings : Unit {0}
+unfolding openAnswer item coinZero coinsGiven weightGiven weightsGiven weightsWord withSettings withCoins openWords opened placeHeld judged verdict recorded answerOf wordsAfter deliverAnswer delivered bitMark otherMark inLayout unopposed recordable recordAnswer withBit recordedWords
+openings = tt
+
+-- turns
+unfoldable turns : Unit {0}
+unfolding inForceRule orSet commitDue commitOf commitRule sendRule votesRule due moveOutcome outcomeOf entered newDecision moveDecided moved turn.withTurnCounted turn.done applied admits bytesAfter outcomeFor wordsFor bytesFor turnOutcome turnWords turnBytes
+turns = tt
+
+-- reports
+unfoldable reports : Unit {0}
+unfolding inForceSet figuresOf report.admits answerFor namedFor inForceFor reportAnswer reportNamed reportInForce
+reports = tt
+
 unfoldable pub calls : Unit {0}
-unfolding validSettings largestTa namedTa quorum repeat voteQuorum relay accept turnBound mark withMark total weightOf wholeOf weightRight weightsRight markIf withWeight packed lowest every words.word words.put words.marked words.setMark closed sendSent commitSent echoSent readySent sendHeld sendValue echoHeld echoValue readyHeld readyValue estHeld auxHeld coin printed coinRecorded coinKnown round estSent auxSent decidedZero decidedOne decided commitCount commitValue commitSet blank storeOf orAct actAt firstAct holders leads valueOf leading output echoAct readyDue readyAct echoRule readyRule estCount accepted votesDecidedOne startAct relayValue relayRound relayAct running auxValue auxAct carries carriers auxCount carried view moveValue moveAct roundAct voteAct voteRule commitHeld sameSet setHolders setLeads setLeader setOf leadingSet withOutput sizeS exit1At votesDone exit2At exit3Full noExit exit3 naming exitOf exitNow numbered roundsRight commitsRight numbersRight settingsOf isState sessionWith sessionOf stored be2 be4 be8 valueAt values risesFrom rises bytes2 bytes4 bytes8 valueBytes byKind headerFor frontBytes headerBytes messageBytes encode wire.atFront lengthRight headerOf fieldsRight takenIf readValues readChecked readMessage openAnswer item coinZero coinsGiven weightGiven weightsGiven weightsWord withSettings withCoins openWords opened placeHeld judged verdict recorded answerOf wordsAfter deliverAnswer delivered bitMark otherMark inLayout unopposed recordable recordAnswer withBit recordedWords inForceRule orSet commitDue commitOf commitRule sendRule votesRule due moveOutcome outcomeOf entered newDecision moveDecided moved turn.withTurnCounted turn.done applied admits bytesAfter outcomeFor wordsFor bytesFor turnOutcome turnWords turnBytes inForceSet figuresOf report.admits answerFor namedFor inForceFor reportAnswer reportNamed reportInForce
+unfolding countings records broadcasts votes messages openings turns reports
 calls = tt
