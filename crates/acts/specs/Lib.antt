@@ -1,3 +1,2 @@
 pub mod Acts
-pub mod First
-pub mod Choices
+pub mod laws

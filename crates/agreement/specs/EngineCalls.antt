@@ -5,44 +5,32 @@ use mathlib.Core.Logic.{_≢_}
 use mathlib.Core.Path.{_≡_}
 use lib.Dec.{eqb}
 use lib.ListN.{length, take}
-use Rattle.settings.specs.Settings.{settingsNamed}
 use Rattle.settings.specs.declared.Settings.{Settings}
 use Rattle.quorum.specs.Marks.{mark}
 use Rattle.records.specs.Words.{word}
 use Rattle.wire.specs.Message.{lengthOf}
-use Rattle.wire.specs.declared.Message as wire
 use Rattle.wire_laws.specs.Proper.{AllBytes}
-use Rattle.opening.specs.Given.{item, weightsWord}
+use Rattle.opening.specs.Given.{item}
+use Rattle.opening.specs.Arguments.{Arguments, settingsBy}
 use Rattle.journal.specs.Lines.{openingLine, deliveryLine, turnLine, recordingLine}
 use Rattle.journal.specs.Journal.{openNumber, openedWords, deliverNumber, deliveredWords, turnedOutcome, turnedWords, turnedMessage, recordNumber, recordWords}
-use Rattle.journal.specs.Journal as journal-calls
 use Rattle.restore.specs.Restoring.{accepted, restoreAnswer, restoredWords}
-use Rattle.turn.specs.declared.Outcome.the-variants as outcome
 use Rattle.report.specs.Report.{reportAnswer, reportNamed, reportInForce}
 use Rattle.report.specs.declared.Figures.{Figures}
-use Rattle.report.specs.declared.Answer.the-variants as answer
 use Rattle.agreement.specs.Calls.{Machine, DemandThree}
+use Rattle.wire.specs.declared.Message as wire
+use Rattle.journal.specs.Journal as journal-calls
+use Rattle.turn.specs.declared.Outcome.the-variants as outcome
+use Rattle.report.specs.declared.Answer.the-variants as answer
 
 -- the arguments of an opening, and how many bytes it is lent for its line: the code takes 32 bits for the session number and each coin word, and
 -- 64 for the own input; weights, and whether coins are printed or boxed, are any numbers
-pub record Arguments : Type 0 where
-  pub n : ℕ
-  pub ta : ℕ
-  pub ts : ℕ
-  pub own : ℕ
-  pub session : ℕ
-  pub input : ℕ
-  pub coins : List ℕ
-  pub weights : List ℕ
-  pub boxed : ℕ
+pub record OpeningGiven : Type 0 where
+  pub given : Arguments
   pub line : ℕ
-  pub session-fits : session < 2 ^ 32
-  pub input-fits : input < 2 ^ 64
-  pub coins-fit : (i : ℕ) → word coins i < 2 ^ 32
-
--- the weights as one word
-abbrev pub weightsOf : Arguments → ℕ
-weightsOf o = weightsWord (o .n) (o .weights)
+  pub session-fits : given .session < 2 ^ 32
+  pub input-fits : given .input < 2 ^ 64
+  pub coins-fit : (i : ℕ) → word (given .coins) i < 2 ^ 32
 
 -- "All these openings agree in n, ts, session number, coin words, and ta once 255 is read"; the weights are "compared like them" (N11), and so
 -- is "whether coins are printed or boxed" (N12)
@@ -55,7 +43,7 @@ pub record Agreed : Type 0 where
 abbrev pub agreed : Arguments → Agreed
 agreed o =
     record {
-      settings = settingsNamed (o .n) (o .ta) (o .ts) (weightsOf o);
+      settings = settingsBy o;
       number = o .session;
       coins = o .coins;
       boxed = o .boxed;
@@ -114,16 +102,16 @@ abbrev pub engine : Machine
 engine =
     record {
       Words = List ℕ;
-      Opening = Arguments;
-      own = λ o. o .own;
-      input = λ o. o .input;
+      Opening = OpeningGiven;
+      own = λ o. o .given .own;
+      input = λ o. o .given .input;
       Session = Agreed;
-      session = agreed;
+      session = λ o. agreed (o .given);
       settings = λ S. S .settings;
       boxed = λ S. eqb (S .boxed) 1;
       coin = λ S i r. mark (item (S .coins) i) r;
-      opens = λ w o. eqb (openNumber (length w) (o .n) (o .ta) (o .ts) (o .own) (o .coins) (o .weights) (o .boxed) (o .line)) 0;
-      opened = λ w o. openedWords w (o .n) (o .ta) (o .ts) (o .own) (o .session) (o .input) (o .coins) (o .weights) (o .boxed) (o .line);
+      opens = λ w o. eqb (openNumber (length w) (o .given) (o .line)) 0;
+      opened = λ w o. openedWords w (o .given) (o .line);
       Bytes = Bytes;
       accepts = λ w m b. eqb (deliverNumber w m (b .list) (b .line)) 0;
       delivered = λ w m b. deliveredWords w m (b .list) (b .line);
@@ -137,7 +125,7 @@ engine =
       bit = λ x. x .bit;
       records = λ w x. eqb (recordNumber w (x .vote) (x .round) (x .bit) (x .line)) 0;
       recorded = λ w x. recordWords w (x .vote) (x .round) (x .bit) (x .line);
-      opening-line = λ o. openingLine (o .n) (o .ta) (o .ts) (o .own) (o .session) (o .input) (o .coins) (o .weights) (o .boxed);
+      opening-line = λ o. openingLine (o .given);
       delivery-line = λ m b. deliveryLine m (b .list);
       turn-line = turnLine;
       recording-line = λ x. recordingLine (x .vote) (x .round) (x .bit);

@@ -4,13 +4,13 @@
 use Prim.Native.Nat.{ℕ, suc, _+_, _*_, _≤_}
 use mathlib.Core.Bool.{true}
 use mathlib.Core.List.{List, [], _∷_}
-use mathlib.Core.Logic.{_⊎_, inl, inr}
+use mathlib.Core.Logic.{_⊎_}
 use mathlib.Core.Path.{_≡_}
 use Rattle.acts.specs.declared.View.{View}
 use Rattle.acts.specs.declared.View.the-variants.{Only, Both}
 use Rattle.votes.specs.Votes.{estimate, coinValue}
 use Rattle.broadcasts.specs.declared.Output.the-variants.{Value}
-use Rattle.exits.specs.Agree.{Standing, exitAt}
+use Rattle.exits.specs.Exits.{Standing, exitAt}
 use Rattle.settings.specs.declared.Settings.{Settings}
 use Rattle.agreement.specs.Evidence.{World, whole, Honest, Backed}
 
@@ -141,10 +141,3 @@ module _ (W : World) (G : ℕ → Act → Type 0) where
   abbrev pub Lawful : History → Type 0
   Lawful [] = Unit {0}
   Lawful (e ∷ h) = Lawful h × Allowed h e
-
-  -- Induction over a history: if each further event keeps Q, and each act a brings it about from its guard and from Q of the earlier acts a,
-  -- then Q holds once a was done.
-  pub by-history : (a : Act) (Q : History → Type 0) → ((e : Event) (h : History) → Q h → Q (e ∷ h)) → ((h : History) (p : ℕ) → Guard h p a → ((m : ℕ) → Did h m a → Q h) → Q h) → (h : History) → Lawful h → (p : ℕ) → Did h p a → Q h
-  by-history a Q keep step [] law p d = absurd d
-  by-history a Q keep step (e ∷ h) law p (inl q) = keep e h (step h p (rw q at (law .1)) (λ m d. by-history a Q keep step h (law .0) m d))
-  by-history a Q keep step (e ∷ h) law p (inr d) = keep e h (by-history a Q keep step h (law .0) p d)

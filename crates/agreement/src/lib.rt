@@ -2,7 +2,7 @@
 ghost use Rattle.agreement.specs.Agreement.{Agree, Named, Valid};
 ghost use Rattle.agreement.specs.EngineCalls.{EngineAgrees};
 ghost use Rattle.agreement.specs.EngineRestores.{RestoreGives};
-ghost use Rattle.agreement.specs.EnginePlain.{PrintedMeets, PlainMeets};
+ghost use Rattle.agreement.specs.Plain.{PrintedMeets, PlainMeets};
 
 // Demand 3 of the engine, all of it: specs/Calls.antt states it of whole lists of calls, specs/EngineCalls.antt has the engine's.
 pub fn demand_three()

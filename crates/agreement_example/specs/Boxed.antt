@@ -1,38 +1,26 @@
 -- The session of specs/Weighted.antt with boxed coins: the openings give coin words of 0, and both honest ones record the bits that the box
 -- tells, which are those that were printed there. Until then their votes wait: in votes 1 and 3 a turn of each is idle, in vote 2 another.
 use Prim.Native.Nat.{ℕ, _+_, _^_}
-use mathlib.Core.Bool.{true}
 use mathlib.Core.List.{List, [], _∷_}
-use mathlib.Core.Path.{_≡_, refl}
-use lib.ListN.{length}
-use Rattle.settings.specs.Refusals.{COIN}
-use Rattle.records.specs.Layout.{stateWords}
+use mathlib.Core.Path.{_≡_}
 use Rattle.wire.specs.declared.Message.the-variants.{Est}
 use Rattle.turn.specs.declared.Outcome.the-variants.{Idle, Sent}
 use Rattle.journal.specs.Journal.{LINE-BYTES, turnedOutcome}
-use Rattle.report.specs.Report.{reportAnswer}
-use Rattle.agreement.specs.Evidence.{Honest}
-use Rattle.agreement.specs.Calls.{Call, opening, world}
+use Rattle.agreement.specs.Calls.{Call, opening}
 use Rattle.agreement.specs.EngineCalls.{engine, Agreed}
 use Rattle.agreement_example.specs.Checking.{wordsOf, run}
-use Rattle.agreement_example.specs.Example.{Example, passes, passes-example}
-use Rattle.agreement_example.specs.Refusals.{refusals}
-use Rattle.agreement_example.specs.Tracking.{AllSized}
-use Rattle.agreement_example.specs.Messages.{openingWith, recordOf}
-use Rattle.agreement_example.specs.Weighted.{firstTwo, turns, toBoth, fromBoth, twice, withReadies, withAuxes, withLastAuxes, withSets, exitIn}
-use Rattle.turn_bound.specs.Computing.{calls}
-use Rattle.agreement_example.specs.Computing.{checks}
+use Rattle.agreement_example.specs.Example.{Example, FromAny}
+use Rattle.agreement_example.specs.Messages.{inputFive, openingWith, recordOf}
+use Rattle.agreement_example.specs.Weighted.{firstTwo, turns, withAuxes, withLastAuxes, withSets}
 
 abbrev pub session : Agreed
 session = record { settings = record { n = 3; ta = 1; ts = 1; whole = 6; weights = 2 ^ 48 + 2 ^ 32 + 2 ^ 16 + 7 }; number = 7; coins = 0 ∷ 0 ∷ 0 ∷ []; boxed = 1 }
-
--- The last call stands first; `cs` are the calls before.
 
 unfoldable pub openings : List (Call engine)
 openings = opens 2 ∷ opens 1 ∷ []
   where
     opens : ℕ → Call engine
-    opens p = opening p (openingWith 3 1 1 (0 ∷ 0 ∷ 0 ∷ []) (4 ∷ 1 ∷ 1 ∷ []) 1 p)
+    opens p = opening p (openingWith 3 1 1 (0 ∷ 0 ∷ 0 ∷ []) (4 ∷ 1 ∷ 1 ∷ []) 1 p 5)
 
 -- the bit b of round 1 of vote i, recorded at both
 unfoldable pub recorded : (i b : ℕ) → List (Call engine) → List (Call engine)
@@ -50,48 +38,15 @@ told = recordOf 1 1 1 0 ∷ recordOf 1 1 1 1 ∷ recorded 3 1 (recorded 1 1 wait
 unfoldable pub boxedCalls : List (Call engine)
 boxedCalls = withSets (recorded 2 0 (turns (withLastAuxes told)))
 
--- whatever 2,048 words the buffers of the honest ones hold at the start
 abbrev pub BoxedMeet : Type 0
-BoxedMeet =
-    (start : ℕ → List ℕ) → ((p : ℕ) → Honest (world engine session firstTwo) p → length (start p) ≡ stateWords) → Example start session firstTwo boxedCalls 5
+BoxedMeet = FromAny session firstTwo (λ start. Example start session firstTwo inputFive boxedCalls 2 (5 ∷ []))
 
 -- the words of 1 after some calls
-abbrev at-first : List (Call engine) → List ℕ
-at-first cs = wordsOf (run session firstTwo 5 cs .states) 1
+abbrev pub at-first : List (Call engine) → List ℕ
+at-first cs = wordsOf (run session firstTwo inputFive cs .states) 1
 
 -- a turn of 1 before it has the bit, however often it is taken, and after
 pub record Waits : Type 0 where
   pub before : turnedOutcome (at-first (withAuxes openings)) 140 LINE-BYTES ≡ Idle
   pub again : turnedOutcome (at-first waiting) 140 LINE-BYTES ≡ Idle
   pub after : turnedOutcome (at-first told) 140 LINE-BYTES ≡ Sent (Est 1 2 1)
-
-pub record BoxDecides : Type 0 where
-  pub meets : BoxedMeet
-  pub exit : exitIn (reportAnswer (at-first boxedCalls) 16 16) ≡ 2
-
-boxed-pass : passes session firstTwo 5 boxedCalls ≡ true
-unfolding calls checks openings turns toBoth fromBoth twice withReadies withAuxes withLastAuxes withSets recorded waiting told boxedCalls
-boxed-pass = refl
-
-boxed-sized : AllSized boxedCalls
-unfolding checks openings turns toBoth fromBoth twice withReadies withAuxes withLastAuxes withSets recorded waiting told boxedCalls
-boxed-sized = tt
-
-boxed-meet : BoxedMeet
-boxed-meet start room = passes-example start session firstTwo 5 boxedCalls room boxed-sized boxed-pass
-
-exit-two : exitIn (reportAnswer (at-first boxedCalls) 16 16) ≡ 2
-unfolding calls checks openings turns toBoth fromBoth twice withReadies withAuxes withLastAuxes withSets recorded waiting told boxedCalls exitIn
-exit-two = refl
-
-pub box-decides : BoxDecides
-box-decides = record { meets = boxed-meet; exit = exit-two }
-
-pub waits : Waits
-unfolding calls checks openings turns toBoth fromBoth twice withReadies withAuxes withLastAuxes withSets recorded waiting told
-waits = record { before = refl; again = refl; after = refl }
-
--- one recording is refused, and no other call
-pub boxed-refusals : refusals session firstTwo 5 boxedCalls .numbers ≡ COIN ∷ []
-unfolding calls checks openings turns toBoth fromBoth twice withReadies withAuxes withLastAuxes withSets recorded waiting told boxedCalls
-boxed-refusals = refl

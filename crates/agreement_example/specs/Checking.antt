@@ -1,5 +1,5 @@
 -- A list of calls checked by computing it: whether each call meets the conditions of demand 3 after the calls before it. The check is
--- sound (specs/Tracking.antt); it may reject a list that meets them. A restore is taken only at an opened one whose journal allows it; whether
+-- sound (specs/laws/Tracking.antt); it may reject a list that meets them. A restore is taken only at an opened one whose journal allows it; whether
 -- it is accepted need not be computed (agreement, EngineRestores).
 use Prim.Native.Nat.{ℕ}
 use mathlib.Core.Bool.{Bool, true, false, _&&_, _||_, not, cond}
@@ -7,14 +7,14 @@ use mathlib.Core.List.{List, [], _∷_, _++_}
 use lib.Dec.{eqb, leb}
 use lib.ListN.{length, take}
 use Rattle.records.specs.Layout.{stateWords}
+use Rattle.opening.specs.Opening.{openWords}
 use Rattle.wire.specs.Message.{lengthOf}
 use Rattle.turn.specs.declared.Outcome.{Outcome}
 use Rattle.turn.specs.declared.Outcome.the-variants as outcome
 use Rattle.journal.specs.Journal.{openNumber, turnedOutcome, turnedMessage}
 use Rattle.restore.specs.Restoring.{MESSAGE-BYTES}
 use Rattle.agreement.specs.Calls.{Call, opening, delivery, turn, report, restore, recording}
-use Rattle.agreement.specs.EngineCalls.{engine, Arguments, Bytes, TurnLent, BitGiven, RestoreLent, Agreed, agreed}
-use Rattle.agreement.specs.EngineOpening.{first}
+use Rattle.agreement.specs.EngineCalls.{engine, OpeningGiven, Bytes, TurnLent, BitGiven, RestoreLent, Agreed, agreed}
 use Rattle.agreement_example.specs.Bits.{boxBit}
 
 -- a line of a journal: its bytes, the words after it, and the messages that its call sent, one or none
@@ -122,12 +122,12 @@ sameSession a b =
     && eqb (a .boxed) (b .boxed)))))))
 
 -- an opening of 2,048 words is accepted
-unfoldable pub opens : Arguments → Bool
-opens o = eqb (openNumber stateWords (o .n) (o .ta) (o .ts) (o .own) (o .coins) (o .weights) (o .boxed) (o .line)) 0
+unfoldable pub opens : OpeningGiven → Bool
+opens o = eqb (openNumber stateWords (o .given) (o .line)) 0
 
 -- the journal after an accepted opening, and after a delivery, a turn or a recording at the words w
-unfoldable pub firstLines : Arguments → List Line
-firstLines o = record { text = engine .opening-line o; after = first o; sent = [] } ∷ []
+unfoldable pub firstLines : OpeningGiven → List Line
+firstLines o = record { text = engine .opening-line o; after = openWords (o .given); sent = [] } ∷ []
 
 unfoldable pub deliveryLines : ℕ → Bytes → List ℕ → List Line → List Line
 deliveryLines m b w ls = cond (engine .accepts w m b) (record { text = engine .delivery-line m b; after = engine .delivered w m b; sent = [] } ∷ ls) ls
@@ -139,7 +139,7 @@ unfoldable pub recordingLines : BitGiven → List ℕ → List Line → List Lin
 recordingLines y w ls = cond (engine .records w y) (record { text = engine .recording-line y; after = engine .recorded w y; sent = [] } ∷ ls) ls
 
 unfoldable pub statesAfter : Call engine → List Entry → List Entry
-statesAfter (opening p o) xs = cond (opens o) (record { who = p; list = first o; lines = firstLines o } ∷ xs) xs
+statesAfter (opening p o) xs = cond (opens o && eqb (o .given .own) p) (record { who = p; list = openWords (o .given); lines = firstLines o } ∷ xs) xs
 statesAfter (delivery p m b) xs = withEntry p (engine .delivered (wordsOf xs p) m b) (deliveryLines m b (wordsOf xs p) (linesOf xs p)) xs
 statesAfter (turn p l) xs = withEntry p (engine .turned (wordsOf xs p) l) (turnLines l (wordsOf xs p) (linesOf xs p)) xs
 statesAfter (recording p y) xs = withEntry p (engine .recorded (wordsOf xs p) y) (recordingLines y (wordsOf xs p) (linesOf xs p)) xs
@@ -162,16 +162,16 @@ restoreRight r ls =
     && (sameList (r .journal) (take (length (r .journal)) (textOf ls))
     && some (completeOf (length (r .journal)) ls))
 
--- in the session S, where H tells who is honest and v is put in
-module _ (S : Agreed) (H : ℕ → Bool) (v : ℕ) where
+-- in the session S, where H tells who is honest, and v what each puts in
+module _ (S : Agreed) (H : ℕ → Bool) (v : ℕ → ℕ) where
   -- "Honest are any chosen numbers from 1 to n"
   unfoldable pub listed : ℕ → Bool
   listed p = leb 1 p && (leb p (S .settings .n) && H p)
 
-  -- an opening is refused, or it is the first one there, under the own number, with the input v
-  unfoldable pub openingRight : ℕ → Arguments → List Entry → Bool
+  -- an opening is refused, or none under the own number came before; under the own number it is one of the session S, with the own input
+  unfoldable pub openingRight : ℕ → OpeningGiven → List Entry → Bool
   openingRight p o xs =
-      not (opens o) || not (isOpened xs p) && (eqb (o .own) p && (sameSession (agreed o) S && eqb (o .input) v))
+      not (opens o) || not (isOpened xs p) && (not (eqb (o .given .own) p) || sameSession (agreed (o .given)) S && eqb (o .given .input) (v p))
 
   -- a delivery is refused, or it comes from a liar, or its bytes were sent
   unfoldable pub deliveryRight : Bool → ℕ → List ℕ → List Line → Bool

@@ -1,119 +1,39 @@
 -- An example for demand 3: a list of calls that meets all that the demand supposes, after which every honest concentrator names a set and
--- has it in force. A list that passes the test `passes` is one.
+-- has it in force.
 use Prim.Native.Nat.{ℕ, _≤_}
-use mathlib.Core.Bool.{Bool, true, false, _&&_, _||_, not, false≢true}
-use mathlib.Core.List.{List, [], _∷_}
-use mathlib.Core.Path.{_≡_, refl}
-use borrow.Author.Tests.{eqb-false, leb-true, not-true}
-use lib.Dec.{eqb, leb}
-use lib.ListN.{length, take}
-use Rattle.quorum.specs.Bools.{and-left, and-right}
-use Rattle.quorum.specs.Every.{every, every-each}
+use mathlib.Core.Bool.{Bool, true}
+use mathlib.Core.List.{List, _∷_}
+use mathlib.Core.Path.{_≡_}
+use lib.ListN.{length}
 use Rattle.records.specs.Layout.{stateWords}
-use Rattle.records.specs.Fill.{blank, length-blank}
-use Rattle.report.specs.Report.{reportAnswer, reportNamed, reportInForce}
-use Rattle.report.specs.declared.Answer.{Answer}
-use Rattle.report.specs.declared.Answer.the-variants as answer
 use Rattle.agreement.specs.Evidence.{liars, Honest}
-use Rattle.agreement.specs.Calls.{Call, world, words, Opened, Conditions, PutIn}
-use Rattle.agreement.specs.EngineCalls.{engine, Agreed, ReportNames, ReportEnforces}
-use Rattle.agreement_example.specs.Lists.{conditions-met, put-in-met}
-use Rattle.agreement_example.specs.Checking.{Run, isOpened, wordsOf, sameList, run}
-use Rattle.agreement_example.specs.Entries.{or-second, not-of-true, same-list}
-use Rattle.agreement_example.specs.Tracks.{Tracks}
-use Rattle.agreement_example.specs.Tracking.{AllSized, run-tracks}
+use Rattle.agreement.specs.Moments.{Within}
+use Rattle.agreement.specs.Calls.{Call, opening, world, words, Opened, Conditions}
+use Rattle.agreement.specs.EngineCalls.{engine, OpeningGiven, Agreed, ReportNames, ReportEnforces}
 
--- p is opened, its exits name the set X, and X is in force
-pub record Shown (start : ℕ → List ℕ) (cs : List (Call engine)) (p : ℕ) (X : List ℕ) : Type 0 where
+-- p is opened, Exit k names the set X, and X is in force
+pub record Shown (start : ℕ → List ℕ) (cs : List (Call engine)) (p k : ℕ) (X : List ℕ) : Type 0 where
   pub opened : Opened engine start cs p
   pub named : ReportNames (words engine start cs p) X
+  pub exit : named .figures .exit ≡ k
   pub in-force : ReportEnforces (words engine start cs p) X
 
--- in the session S, where H tells who is honest; v is what every honest one puts in
-pub record Example (start : ℕ → List ℕ) (S : Agreed) (H : ℕ → Bool) (cs : List (Call engine)) (v : ℕ) : Type 0 where
-  pub few-ta : liars (world engine S H) ≤ S .settings .ta
+-- what is supposed of a list in the session S, where H tells who is honest, with liars of up to ts; v tells what each one that is opened puts in
+pub record Supposed (start : ℕ → List ℕ) (S : Agreed) (H : ℕ → Bool) (v : ℕ → ℕ) (cs : List (Call engine)) : Type 0 where
   pub few-ts : liars (world engine S H) ≤ S .settings .ts
   pub conditions : Conditions engine start S H cs
-  pub put-in : PutIn engine start v cs
-  pub shown : (p : ℕ) → Honest (world engine S H) p → Shown start cs p (v ∷ [])
+  pub put-in : (p : ℕ) (o : OpeningGiven) (ds : List (Call engine)) → Within (opening p o ∷ ds) cs → engine .own o ≡ p → engine .opens (words engine start ds p) o ≡ true → engine .input o ≡ v p
 
--- ---- the test
+-- with liars of up to ta, all honest ones end with the set X, which Exit k names
+pub record Example (start : ℕ → List ℕ) (S : Agreed) (H : ℕ → Bool) (v : ℕ → ℕ) (cs : List (Call engine)) (k : ℕ) (X : List ℕ) : Type 0 where
+  pub few-ta : liars (world engine S H) ≤ S .settings .ta
+  pub supposed : Supposed start S H v cs
+  pub shown : (p : ℕ) → Honest (world engine S H) p → Shown start cs p k X
 
--- an answer of the report with these words for the sets: {v} is named and in force
-unfoldable pub closesWith : Answer → List ℕ → List ℕ → ℕ → Bool
-closesWith (answer.Refused k) named inForce v = false
-closesWith (answer.Given f) named inForce v =
-    not (eqb (f .exit) 0)
-    && (sameList (v ∷ []) (take (f .named) named)
-    && (not (eqb (f .in_force) 0)
-    && sameList (v ∷ []) (take (f .in_force) inForce)))
+-- the buffers of the honest ones hold 2,048 words at the start
+abbrev pub Sized : (ℕ → List ℕ) → Agreed → (ℕ → Bool) → Type 0
+Sized start S H = (p : ℕ) → Honest (world engine S H) p → length (start p) ≡ stateWords
 
-unfoldable pub closes : List ℕ → ℕ → Bool
-closes w v = closesWith (reportAnswer w 16 16) (reportNamed w (blank 16) 16) (reportInForce w 16 (blank 16)) v
-
-module _ (S : Agreed) (H : ℕ → Bool) (v : ℕ) where
-  unfoldable pub ends : Run → Bool
-  ends r = r .right && every (λ p. not (H p) || isOpened (r .states) p && closes (wordsOf (r .states) p) v) (S .settings .n)
-
-  unfoldable pub passes : List (Call engine) → Bool
-  passes cs =
-      leb (liars (world engine S H)) (S .settings .ta)
-      && (leb (liars (world engine S H)) (S .settings .ts) && ends (run S H v cs))
-
--- ---- its soundness
-
-pub record Closed (w X : List ℕ) : Type 0 where
-  pub named : ReportNames w X
-  pub in-force : ReportEnforces w X
-
-closes-closed : (w : List ℕ) (v : ℕ) → closes w v ≡ true → Closed w (v ∷ [])
-unfolding closes closesWith
-closes-closed w v = go (reportAnswer w 16 16) refl
-  where
-    go : (a : Answer) → reportAnswer w 16 16 ≡ a → closesWith a (reportNamed w (blank 16) 16) (reportInForce w 16 (blank 16)) v ≡ true → Closed w (v ∷ [])
-    go (answer.Refused k) g e = absurd (false≢true e)
-    go (answer.Given f) g e =
-        let e1 = and-right (not (eqb (f .exit) 0)) _ e in
-        let e2 = and-right (sameList (v ∷ []) (take (f .named) (reportNamed w (blank 16) 16))) _ e1 in
-        record {
-          named = record {
-            lent = blank 16;
-            room = length-blank 16;
-            figures = f;
-            given = g;
-            exit = eqb-false (f .exit) 0 (not-true (eqb (f .exit) 0) (and-left (not (eqb (f .exit) 0)) _ e));
-            set = same-list (v ∷ []) _ (and-left (sameList (v ∷ []) (take (f .named) (reportNamed w (blank 16) 16))) _ e1);
-          };
-          in-force = record {
-            lent = blank 16;
-            room = length-blank 16;
-            figures = f;
-            given = g;
-            some = eqb-false (f .in_force) 0 (not-true (eqb (f .in_force) 0) (and-left (not (eqb (f .in_force) 0)) _ e2));
-            set = same-list (v ∷ []) _ (and-right (not (eqb (f .in_force) 0)) _ e2);
-          };
-        }
-
-module _ (start : ℕ → List ℕ) (S : Agreed) (H : ℕ → Bool) (v : ℕ) (cs : List (Call engine)) where
-  ended : Tracks start S H v cs (run S H v cs .states) (run S H v cs .gone) → every (λ p. not (H p) || isOpened (run S H v cs .states) p && closes (wordsOf (run S H v cs .states) p) v) (S .settings .n) ≡ true → (p : ℕ) → Honest (world engine S H) p → Shown start cs p (v ∷ [])
-  ended x e p h =
-      let xs = run S H v cs .states in
-      let d = or-second (not (H p)) _ (every-each _ (S .settings .n) e p (h .low) (h .high)) (not-of-true (H p) (h .fair)) in
-      let k : isOpened xs p ≡ true = and-left (isOpened xs p) (closes (wordsOf xs p) v) d in
-      let c = closes-closed (wordsOf xs p) v (and-right (isOpened xs p) (closes (wordsOf xs p) v) d) in
-      record { opened = x .some p k; named = rw (x .equal p k) (c .named); in-force = rw (x .equal p k) (c .in-force) }
-
-  pub passes-example : ((p : ℕ) → Honest (world engine S H) p → length (start p) ≡ stateWords) → AllSized cs → passes S H v cs ≡ true → Example start S H cs v
-  unfolding passes ends
-  passes-example room sized e =
-      let few = leb (liars (world engine S H)) in
-      let e1 = and-right (few (S .settings .ta)) _ e in
-      let e2 = and-right (few (S .settings .ts)) _ e1 in
-      let x = run-tracks start S H v room cs sized (and-left (run S H v cs .right) _ e2) in
-      record {
-        few-ta = leb-true _ _ (and-left (few (S .settings .ta)) _ e);
-        few-ts = leb-true _ _ (and-left (few (S .settings .ts)) _ e1);
-        conditions = conditions-met engine start S H v cs (x .meet);
-        put-in = put-in-met engine start S H v cs (x .meet);
-        shown = ended x (and-right (run S H v cs .right) _ e2);
-      }
+-- .. and whatever words these are
+abbrev pub FromAny : Agreed → (ℕ → Bool) → ((ℕ → List ℕ) → Type 0) → Type 0
+FromAny S H P = (start : ℕ → List ℕ) → Sized start S H → P start

@@ -1,34 +1,23 @@
 -- Four concentrators of weight 1: n = 4, ta = ts = 1, session 7, coin words of 0. Concentrators 1, 2 and 3 put in 5; 4 lies.
 use Prim.Native.Nat.{ℕ}
-use mathlib.Core.Bool.{Bool, true}
+use mathlib.Core.Bool.{Bool}
 use mathlib.Core.List.{List, [], _∷_}
-use mathlib.Core.Path.{_≡_, refl}
 use lib.Dec.{leb}
-use lib.ListN.{length}
-use Rattle.settings.specs.Refusals.{SENDER, CLOSED, HELD}
 use Rattle.settings.specs.Settings.{UNNAMED}
-use Rattle.records.specs.Layout.{stateWords}
-use Rattle.records.specs.Fill.{blank}
+use Rattle.records.specs.Words.{blank}
 use Rattle.wire.specs.Message.{encode}
 use Rattle.wire.specs.declared.Message.{Message}
 use Rattle.wire.specs.declared.Message.the-variants.{Send, Echo, Ready, Commit}
-use Rattle.agreement.specs.Evidence.{Honest}
-use Rattle.agreement.specs.Calls.{Call, opening, delivery, report, world}
+use Rattle.agreement.specs.Calls.{Call, opening, delivery, report}
 use Rattle.agreement.specs.EngineCalls.{engine, Agreed}
-use Rattle.agreement_example.specs.Example.{Example, passes, passes-example}
-use Rattle.agreement_example.specs.Refusals.{refusals}
-use Rattle.agreement_example.specs.Tracking.{AllSized}
-use Rattle.agreement_example.specs.Messages.{bytesOf, openingOf, deliver, turnOf}
-use Rattle.turn_bound.specs.Computing.{calls}
-use Rattle.agreement_example.specs.Computing.{checks}
+use Rattle.agreement_example.specs.Example.{Example, FromAny}
+use Rattle.agreement_example.specs.Messages.{inputFive, bytesOf, openingOf, deliver, turnOf}
 
 abbrev pub session : Agreed
 session = record { settings = record { n = 4; ta = 1; ts = 1; whole = 4; weights = 15 }; number = 7; coins = 0 ∷ 0 ∷ 0 ∷ 0 ∷ []; boxed = 0 }
 
 abbrev pub firstThree : ℕ → Bool
 firstThree p = leb p 3
-
--- The last call stands first; `cs` are the calls before.
 
 -- a turn of each honest one
 unfoldable pub turns : List (Call engine) → List (Call engine)
@@ -78,22 +67,5 @@ fourCalls =
     ∷ turnOf 1
     ∷ turns (fromAll (Commit 1) (5 ∷ []) (toAll 4 (Commit 1) (6 ∷ []) (turns untilReadies)))
 
--- whatever 2,048 words the buffers of the honest ones hold at the start
 abbrev pub FourMeet : Type 0
-FourMeet = (start : ℕ → List ℕ) → ((p : ℕ) → Honest (world engine session firstThree) p → length (start p) ≡ stateWords) → Example start session firstThree fourCalls 5
-
-four-pass : passes session firstThree 5 fourCalls ≡ true
-unfolding calls checks turns toAll fromAll openings untilSends honestEchoes untilEchoes untilReadies fourCalls
-four-pass = refl
-
-four-sized : AllSized fourCalls
-unfolding checks turns toAll fromAll openings untilSends honestEchoes untilEchoes untilReadies fourCalls
-four-sized = tt
-
-pub four-meet : FourMeet
-four-meet start room = passes-example start session firstThree 5 fourCalls room four-sized four-pass
-
--- the refusals, the last first: every other delivery is recorded
-pub four-refusals : refusals session firstThree 5 fourCalls .numbers ≡ CLOSED ∷ HELD ∷ SENDER ∷ []
-unfolding calls checks turns toAll fromAll openings untilSends honestEchoes untilEchoes untilReadies fourCalls
-four-refusals = refl
+FourMeet = FromAny session firstThree (λ start. Example start session firstThree inputFive fourCalls 1 (5 ∷ []))

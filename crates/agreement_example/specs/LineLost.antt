@@ -2,29 +2,18 @@
 -- opening alone. Whichever session and whichever honest ones are chosen, the list does not meet the conditions of demand 3, so the calls of this
 -- concentrator are in no list that does.
 use Prim.Native.Nat.{ℕ}
-use mathlib.Core.Bool.{Bool, true, _&&_, not, false≢true}
+use mathlib.Core.Bool.{Bool}
 use mathlib.Core.List.{List, [], _∷_}
-use mathlib.Core.Logic.{_⊎_, inl, inr}
-use mathlib.Core.Path.{_≡_, refl, sym, ap, _∙_}
+use mathlib.Core.Path.{_≡_}
 use lib.ListN.{length}
-use Rattle.quorum.specs.Bools.{and-left, and-right}
 use Rattle.records.specs.Layout.{stateWords}
-use Rattle.wire.specs.Message.{encode}
 use Rattle.wire.specs.declared.Message.the-variants.{Send}
-use Rattle.agreement.specs.Evidence.{Honest}
-use Rattle.agreement.specs.Moments.{Within, now, within-cases, within-none}
-use Rattle.agreement.specs.Calls.{Call, opening, restore, turn, Journal, newest, world, journal, Departed, Conditions}
-use Rattle.agreement.specs.EngineCalls.{engine, Agreed, Bytes, TurnLent}
-use Rattle.agreement_example.specs.Messages.{bytesOf, openingOf, deliver, turnOf}
+use Rattle.agreement.specs.Calls.{Call, opening, restore, Conditions}
+use Rattle.agreement.specs.EngineCalls.{engine, Agreed}
+use Rattle.agreement_example.specs.Example.{FromAny}
+use Rattle.agreement_example.specs.Messages.{openingOf, deliver, turnOf}
 use Rattle.agreement_example.specs.One.{session, everyone}
 use Rattle.agreement_example.specs.PowerLost.{firstLine, from}
-use Rattle.agreement_example.specs.Checking.{Line, Entry, isOpened, wordsOf, linesOf, sameList, completeOf, restoreRight, run}
-use Rattle.agreement_example.specs.Journals.{AllMatch}
-use Rattle.agreement_example.specs.Tracks.{Tracks}
-use Rattle.agreement_example.specs.Restores.{restores-there, restored-lines}
-use Rattle.agreement_example.specs.Tracking.{run-tracks}
-use Rattle.turn_bound.specs.Computing.{calls}
-use Rattle.agreement_example.specs.Computing.{checks}
 
 -- the SEND is sent
 unfoldable pub untilSent : List (Call engine)
@@ -37,86 +26,5 @@ untilGot = deliver 1 1 (Send 1 5) [] ∷ untilSent
 -- v are the words that the restore finds
 abbrev pub LineMissed : Type 0
 LineMissed =
-    (start : ℕ → List ℕ) → ((p : ℕ) → Honest (world engine session everyone) p → length (start p) ≡ stateWords) →
-    (v : List ℕ) → length v ≡ stateWords →
-    (S : Agreed) (H : ℕ → Bool) → Conditions engine start S H (restore 1 v (from firstLine) ∷ untilGot) → ⊥
-
--- ---- proof
-
--- no line is that of a turn
-unfoldable noTurn : List Line → Bool
-noTurn [] = true
-noTurn (x ∷ ls) = not (sameList (engine .turn-line) (x .text)) && noTurn ls
-
-is-turn : sameList (engine .turn-line) (engine .turn-line) ≡ true
-unfolding checks
-is-turn = refl
-
-no-turn : (start : ℕ → List ℕ) (ls : List Line) (js : Journal engine) → AllMatch start 1 ls js → noTurn ls ≡ true → (l : TurnLent) (past : List (Call engine)) (older : Journal engine) → Within ((turn 1 l ∷ past) ∷ older) js → ⊥
-unfolding noTurn
-no-turn start [] [] h e l past older w = within-none w
-no-turn start [] (d ∷ js) h e l past older w = h
-no-turn start (x ∷ ls) [] h e l past older w = h
-no-turn start (x ∷ ls) (d ∷ js) h e l past older w = at (within-cases d js w) (no-turn start ls js (h .1) (and-right (not (sameList (engine .turn-line) (x .text))) _ e) l past older)
-  where
-    at : ((turn 1 l ∷ past) ∷ older ≡ d ∷ js) ⊎ Within ((turn 1 l ∷ past) ∷ older) js → (Within ((turn 1 l ∷ past) ∷ older) js → ⊥) → ⊥
-    at (inl q) rest =
-        let same : d ≡ turn 1 l ∷ past = cc in
-        let text : engine .turn-line ≡ x .text = ap (newest engine) (sym same) ∙ h .0 .text in
-        let no : not (sameList (engine .turn-line) (engine .turn-line)) ≡ true = rw (← text) at (and-left (not (sameList (engine .turn-line) (x .text))) _ e) in
-        false≢true (rw is-turn at no)
-    at (inr u) rest = rest u
-
-module _ (start : ℕ → List ℕ) (room : (p : ℕ) → Honest (world engine session everyone) p → length (start p) ≡ stateWords) where
-  abbrev sent : List Entry
-  sent = run session everyone 5 untilSent .states
-
-  abbrev got : List Entry
-  got = run session everyone 5 untilGot .states
-
-  abbrev message : Bytes
-  message = bytesOf (encode (Send 1 5) 1 7 [])
-
-  sent-tracks : Tracks start session everyone 5 untilSent sent (run session everyone 5 untilSent .gone)
-  unfolding calls checks untilSent
-  sent-tracks = run-tracks start session everyone 5 room untilSent tt refl
-
-  got-tracks : Tracks start session everyone 5 untilGot got (run session everyone 5 untilGot .gone)
-  unfolding calls checks untilSent untilGot
-  got-tracks = run-tracks start session everyone 5 room untilGot tt refl
-
-  sent-opened : isOpened sent 1 ≡ true
-  unfolding calls checks untilSent
-  sent-opened = refl
-
-  got-opened : isOpened got 1 ≡ true
-  unfolding calls checks untilSent untilGot
-  got-opened = refl
-
-  taken : engine .accepts (wordsOf sent 1) 1 message ≡ true
-  unfolding calls checks untilSent
-  taken = refl
-
-  -- the SEND left
-  departed : Departed engine start untilGot 1 message
-  unfolding deliver untilGot
-  departed = record { who = 1; past = untilSent; within = now; opened = sent-tracks .some 1 sent-opened; accepted = rw (sent-tracks .equal 1 sent-opened) taken }
-
-  reads : restoreRight (from firstLine) (linesOf got 1) ≡ true
-  unfolding calls checks from untilSent untilGot
-  reads = refl
-
-  opening-only : noTurn (completeOf (length firstLine) (linesOf got 1)) ≡ true
-  unfolding calls checks from untilSent untilGot noTurn
-  opening-only = refl
-
-  pub misses : (v : List ℕ) → length v ≡ stateWords → (S : Agreed) (H : ℕ → Bool) → Conditions engine start S H (restore 1 v (from firstLine) ∷ untilGot) → ⊥
-  unfolding from
-  misses v size S H k =
-      let r = from firstLine in
-      let falls = k .falls-back 1 v r untilGot now (got-tracks .some 1 got-opened) (restores-there start session everyone 5 got-tracks 1 v r size got-opened reads) in
-      let s = falls .kept message departed in
-      no-turn start (completeOf (length firstLine) (linesOf got 1)) (journal engine start (restore 1 v r ∷ untilGot) 1) (restored-lines start session everyone 5 got-tracks 1 v r size got-opened reads) opening-only (s .lent) (s .past) (s .stands .older) (s .stands .within)
-
-pub line-missed : LineMissed
-line-missed start room = misses start room
+    FromAny session everyone (λ start. (v : List ℕ) → length v ≡ stateWords →
+    (S : Agreed) (H : ℕ → Bool) → Conditions engine start S H (restore 1 v (from firstLine) ∷ untilGot) → ⊥)

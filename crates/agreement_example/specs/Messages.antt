@@ -1,16 +1,17 @@
--- The arguments of the calls in the examples: session 7, input 5; each is lent 512 bytes for its line.
+-- The arguments of the calls in the examples: session 7; each is lent 512 bytes for its line.
 use Prim.Native.Nat.{ℕ, zero, suc, _<_, _%_, _^_}
 use mathlib.Core.List.{List, [], _∷_}
 use native.Mathlib.Omega.{arith}
 use Rattle.records.specs.Words.{word}
-use Rattle.records.specs.Fill.{blank}
-use Rattle.opening.specs.Ones.{onesGiven}
+use Rattle.records.specs.Words.{blank}
+use Rattle.opening.specs.Given.{onesGiven}
+use Rattle.opening.specs.Arguments.{arguments}
 use Rattle.wire.specs.Message.{encode}
 use Rattle.wire.specs.declared.Message.{Message}
 use Rattle.wire_laws.specs.Proper.{AllBytes}
 use Rattle.journal.specs.Journal.{LINE-BYTES}
 use Rattle.agreement.specs.Calls.{Call, delivery, turn, recording}
-use Rattle.agreement.specs.EngineCalls.{engine, Arguments, Bytes}
+use Rattle.agreement.specs.EngineCalls.{engine, OpeningGiven, Bytes}
 
 -- each number by its low 8 bits
 unfoldable pub lowBytes : List ℕ → List ℕ
@@ -38,28 +39,24 @@ coins-below [] i = omega arith
 coins-below (x ∷ xs) zero = omega arith
 coins-below (x ∷ xs) (suc i) = coins-below xs i
 
--- an opening under the number p, with the input 5
-unfoldable pub openingWith : (n ta ts : ℕ) (coins weights : List ℕ) (boxed p : ℕ) → Arguments
-openingWith n ta ts coins weights boxed p =
+-- an opening under the number p, with the low 64 bits of v as input
+unfoldable pub openingWith : (n ta ts : ℕ) (coins weights : List ℕ) (boxed p v : ℕ) → OpeningGiven
+openingWith n ta ts coins weights boxed p v =
     record {
-      n = n;
-      ta = ta;
-      ts = ts;
-      own = p;
-      session = 7;
-      input = 5;
-      coins = coinsOf coins;
-      weights = weights;
-      boxed = boxed;
+      given = arguments n ta ts p 7 (v % 2 ^ 64) (coinsOf coins) weights boxed;
       line = LINE-BYTES;
       session-fits = omega arith;
       input-fits = omega arith;
       coins-fit = coins-below coins;
     }
 
--- .. with printed coin words of 0 and weights of 1
-unfoldable pub openingOf : (n ta ts p : ℕ) → Arguments
-openingOf n ta ts p = openingWith n ta ts (blank n) (onesGiven n) 0 p
+-- .. with printed coin words of 0, weights of 1 and the input 5
+unfoldable pub openingOf : (n ta ts p : ℕ) → OpeningGiven
+openingOf n ta ts p = openingWith n ta ts (blank n) (onesGiven n) 0 p 5
+
+-- everyone puts in 5
+abbrev pub inputFive : ℕ → ℕ
+inputFive p = 5
 
 -- the message m of the link's concentrator p, with the values xs beside a COMMIT, delivered to q
 unfoldable pub deliver : (q p : ℕ) → Message → List ℕ → Call engine

@@ -4,28 +4,16 @@
 -- it one of the others. Votes 1 and 3 are decided 1, which is s = 5; only then vote 2 starts with 0. In S = {1, 3} the output 5 weighs 4 of
 -- 5: Exit 2 names {5}. By heads it were one of two, no majority, and Exit 3 would name {5, 6}.
 use Prim.Native.Nat.{ℕ, _+_, _^_}
-use mathlib.Core.Bool.{Bool, true}
+use mathlib.Core.Bool.{Bool}
 use mathlib.Core.List.{List, [], _∷_}
-use mathlib.Core.Path.{_≡_, refl}
 use lib.Dec.{leb}
-use lib.ListN.{length}
-use Rattle.records.specs.Layout.{stateWords}
-use Rattle.records.specs.Fill.{blank}
+use Rattle.records.specs.Words.{blank}
 use Rattle.wire.specs.declared.Message.{Message}
 use Rattle.wire.specs.declared.Message.the-variants.{Send, Echo, Ready, Est, Aux, Commit}
-use Rattle.report.specs.Report.{reportAnswer}
-use Rattle.report.specs.declared.Answer.{Answer}
-use Rattle.report.specs.declared.Answer.the-variants.{Refused, Given}
-use Rattle.agreement.specs.Evidence.{Honest}
-use Rattle.agreement.specs.Calls.{Call, opening, report, world}
+use Rattle.agreement.specs.Calls.{Call, opening, report}
 use Rattle.agreement.specs.EngineCalls.{engine, Agreed}
-use Rattle.agreement_example.specs.Checking.{wordsOf, run}
-use Rattle.agreement_example.specs.Example.{Example, passes, passes-example}
-use Rattle.agreement_example.specs.Refusals.{refusals}
-use Rattle.agreement_example.specs.Tracking.{AllSized}
-use Rattle.agreement_example.specs.Messages.{openingWith, deliver, turnOf}
-use Rattle.turn_bound.specs.Computing.{calls}
-use Rattle.agreement_example.specs.Computing.{checks}
+use Rattle.agreement_example.specs.Example.{Example, FromAny}
+use Rattle.agreement_example.specs.Messages.{inputFive, openingWith, deliver, turnOf}
 
 -- the weights as one word: 1 has the marks 1, 17, 33 and 49, 2 and 3 the marks 2 and 3
 abbrev pub session : Agreed
@@ -34,13 +22,11 @@ session = record { settings = record { n = 3; ta = 1; ts = 1; whole = 6; weights
 abbrev pub firstTwo : ℕ → Bool
 firstTwo p = leb p 2
 
--- The last call stands first; `cs` are the calls before.
-
 unfoldable pub openings : List (Call engine)
 openings = opens 2 ∷ opens 1 ∷ []
   where
     opens : ℕ → Call engine
-    opens p = opening p (openingWith 3 1 1 (1 ∷ 0 ∷ 1 ∷ []) (4 ∷ 1 ∷ 1 ∷ []) 0 p)
+    opens p = opening p (openingWith 3 1 1 (1 ∷ 0 ∷ 1 ∷ []) (4 ∷ 1 ∷ 1 ∷ []) 0 p 5)
 
 -- a turn of each honest one
 unfoldable pub turns : List (Call engine) → List (Call engine)
@@ -80,40 +66,5 @@ withSets cs = report 1 (blank 16, blank 16) ∷ turns (fromBoth (Commit 1) (5 �
 unfoldable pub weightedCalls : List (Call engine)
 weightedCalls = withSets (withLastAuxes (withAuxes openings))
 
--- whatever 2,048 words the buffers of the honest ones hold at the start
 abbrev pub WeightedMeet : Type 0
-WeightedMeet =
-    (start : ℕ → List ℕ) → ((p : ℕ) → Honest (world engine session firstTwo) p → length (start p) ≡ stateWords) → Example start session firstTwo weightedCalls 5
-
--- the exit that a report gives
-unfoldable pub exitIn : Answer → ℕ
-exitIn (Refused k) = 0
-exitIn (Given f) = f .exit
-
--- the list meets the conditions, and it was Exit 2 that named the set
-pub record HeavyDecides : Type 0 where
-  pub meets : WeightedMeet
-  pub exit : exitIn (reportAnswer (wordsOf (run session firstTwo 5 weightedCalls .states) 1) 16 16) ≡ 2
-
-weighted-pass : passes session firstTwo 5 weightedCalls ≡ true
-unfolding calls checks openings turns toBoth fromBoth twice withReadies withAuxes withLastAuxes withSets weightedCalls
-weighted-pass = refl
-
-weighted-sized : AllSized weightedCalls
-unfolding checks openings turns toBoth fromBoth twice withReadies withAuxes withLastAuxes withSets weightedCalls
-weighted-sized = tt
-
-weighted-meet : WeightedMeet
-weighted-meet start room = passes-example start session firstTwo 5 weightedCalls room weighted-sized weighted-pass
-
--- no call is refused
-pub weighted-refusals : refusals session firstTwo 5 weightedCalls .numbers ≡ []
-unfolding calls checks openings turns toBoth fromBoth twice withReadies withAuxes withLastAuxes withSets weightedCalls
-weighted-refusals = refl
-
-exit-two : exitIn (reportAnswer (wordsOf (run session firstTwo 5 weightedCalls .states) 1) 16 16) ≡ 2
-unfolding calls checks openings turns toBoth fromBoth twice withReadies withAuxes withLastAuxes withSets weightedCalls exitIn
-exit-two = refl
-
-pub heavy-decides : HeavyDecides
-heavy-decides = record { meets = weighted-meet; exit = exit-two }
+WeightedMeet = FromAny session firstTwo (λ start. Example start session firstTwo inputFive weightedCalls 2 (5 ∷ []))

@@ -2,7 +2,7 @@
 use Prim.Native.Nat.{ℕ}
 use mathlib.Core.Bool.{cond}
 use mathlib.Core.List.{List}
-use Rattle.settings.specs.Settings.{quorum, copy}
+use Rattle.settings.specs.Settings.{quorum, repeat}
 use Rattle.settings.specs.declared.Settings.{Settings}
 use Rattle.records.specs.Records.{echoSent, readySent, sendHeld, sendValue, echoHeld, echoValue, readyHeld, readyValue}
 use Rattle.acts.specs.Acts.{firstAct}
@@ -23,7 +23,7 @@ echoAct s i = cond (echoSent s i) Idle (cond (sendHeld s i) (Echo i (sendValue s
 -- "a value with n−ts ECHOs, else one with ts+1 READYs (of several, the lowest sender's)"
 unfoldable pub readyDue : Settings → List ℕ → ℕ → Output
 readyDue g s i =
-    orOutput (leading (g .weights) (echoHeld s i) (echoValue s i) (g .n) (quorum g)) (leading (g .weights) (readyHeld s i) (readyValue s i) (g .n) (copy g))
+    orOutput (leading (g .weights) (echoHeld s i) (echoValue s i) (g .n) (quorum g)) (leading (g .weights) (readyHeld s i) (readyValue s i) (g .n) (repeat g))
 
 abbrev pub readyOf : ℕ → Output → Act
 readyOf i (Value v) = Ready i v

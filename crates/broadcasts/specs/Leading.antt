@@ -2,17 +2,11 @@
 -- Senders count by their weights w (request N11).
 use Prim.Native.Nat.{ℕ}
 use mathlib.Core.Bool.{Bool, true, false, _&&_, cond}
-use mathlib.Core.List.{List}
 use lib.Dec.{eqb, leb}
 use Rattle.quorum.specs.Weights.{weigh}
 use Rattle.quorum.specs.Lowest.{lowest}
-use Rattle.records.specs.Words.{marked}
 use Rattle.broadcasts.specs.declared.Output.{Output}
 use Rattle.broadcasts.specs.declared.Output.the-variants.{Value, Nothing}
-
--- the weight of the senders that have their mark in word k
-unfoldable pub heldCount : ℕ → List ℕ → ℕ → ℕ → ℕ
-heldCount w s k n = weigh w (marked s k) n
 
 -- the weight of the senders that hold v
 unfoldable pub holders : ℕ → (ℕ → Bool) → (ℕ → ℕ) → ℕ → ℕ → ℕ

@@ -1,7 +1,4 @@
 pub mod Leading
 pub mod Broadcasts
-pub mod Cases
 pub mod Outputs
-pub mod Storing
-pub mod Laws
-pub mod Due
+pub mod laws

@@ -7,9 +7,11 @@ ghost use Prim.Native.Nat.{_+_, _≤_};
 ghost use lib.Dec.{leb};
 ghost use Rattle.records.specs.Records.{readyHeld, readyValue, echoHeld, echoValue};
 ghost use Rattle.records.specs.Words.{word, marked};
-ghost use Rattle.broadcasts.specs.Leading.{heldCount, holders, leads, leading};
+ghost use Rattle.broadcasts.specs.laws.Leading.{heldCount};
+ghost use Rattle.broadcasts.specs.Leading.{holders, leads, leading};
 ghost use Rattle.broadcasts.specs.Broadcasts.{output, echoAct, readyDue, readyAct, echoRule, readyRule};
-ghost use Rattle.broadcasts.specs.Outputs.{outputAt, Stored, Outputs};
+ghost use Rattle.broadcasts.specs.Outputs.{outputAt, Outputs};
+ghost use Rattle.broadcasts.specs.laws.Outputs.{Stored};
 
 // A value that enough senders hold, if there is one.
 pub enum Output {
@@ -98,15 +100,15 @@ pub fn output_of(s: &[u64], g: Settings, i: u8) -> Output
 }
 
 // Broadcast i has output o: its mark in the answer, its value at place i − 1.
-fn store_output(held: u64, values: &mut [u64; 16], i: u8, o: Output) -> u64
+fn store_output(outputs: u64, values: &mut [u64; 16], i: u8, o: Output) -> u64
     requires { ⌜ 1 ≤ i ⌝ }
-    ensures { λ r. ⌜ Stored held (now (values .entry)) i o r (now (values .exit)) ⌝ }
+    ensures { λ r. ⌜ Stored outputs (now (values .entry)) i o r (now (values .exit)) ⌝ }
 {
     let Output::Value(v) = o else {
-        return held;
+        return outputs;
     };
     records::put(values, i as usize - 1, v);
-    quorum::with_mark(held, i as u64)
+    quorum::with_mark(outputs, i as u64)
 }
 
 // The outputs of the broadcasts 1 to n: mark i of the answer where broadcast i has output, and its value at place i − 1 of values.
@@ -115,19 +117,19 @@ pub fn outputs(s: &[u64], g: Settings, values: &mut [u64; 16]) -> u64
 {
     let n = g.n;
     *values = [0u64; 16];
-    let mut held: u64 = 0;
+    let mut outputs: u64 = 0;
     let mut i: u8 = 0;
     while i < n {
         i += 1;
         let o = output_of(s, g, i);
-        held = store_output(held, values, i, o);
+        outputs = store_output(outputs, values, i, o);
     }
-    held
+    outputs
 }
 
 // What the marks and the values say of broadcast i.
-pub fn output_at(held: u64, values: &[u64], i: u8) -> Output
-    ensures { λ r. ⌜ r ≡ outputAt held (now (values .entry)) i ⌝ }
+pub fn output_at(outputs: u64, values: &[u64], i: u8) -> Output
+    ensures { λ r. ⌜ r ≡ outputAt outputs (now (values .entry)) i ⌝ }
 {
     if i < 1 {
         return Output::Nothing;
@@ -135,7 +137,7 @@ pub fn output_at(held: u64, values: &[u64], i: u8) -> Output
     if 16 < i {
         return Output::Nothing;
     }
-    if quorum::mark(held, i as u64) {
+    if quorum::mark(outputs, i as u64) {
         return Output::Value(records::word(values, i as usize - 1));
     }
     Output::Nothing
@@ -161,7 +163,7 @@ fn ready_due(s: &[u64], g: Settings, i: u8) -> Output
     let o = leading_echo(s, g.n, g.weights, g.quorum(), i);
     match o {
         Output::Value(v) => Output::Value(v),
-        Output::Nothing => leading_ready(s, g.n, g.weights, g.copy(), i),
+        Output::Nothing => leading_ready(s, g.n, g.weights, g.repeat(), i),
     }
 }
 

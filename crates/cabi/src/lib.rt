@@ -14,12 +14,13 @@ ghost use lib.Dec.{ltb};
 ghost use mathlib.Core.Bool.{cond};
 ghost use Rattle.journal.specs.Journal.{openEntry, openedWords, openedBytes, deliverEntry, deliveredWords, deliveredBytes, recordEntry, recordWords, recordBytes, turnRoom, turnedMessage, turnedLine};
 ghost use Rattle.opening.specs.Given.{weightsWord};
+ghost use Rattle.opening.specs.Arguments.{arguments};
 ghost use Rattle.coin_box.specs.Box.{boxOpenAnswer, boxOpened, requestReply, requestWords};
 ghost use Rattle.report.specs.Report.{reportAnswer, reportNamed, reportInForce};
 ghost use Rattle.restore.specs.Restoring.{restoreAnswer, restoredWords, restoredBytes};
 ghost use Rattle.turn.specs.Turn.{sentLength, turnOutcome, turnWords};
 ghost use Rattle.cabi.specs.Answers.{entryNumber, outcomeNumber, figuresNumber, reportNumber, restoredNumber, bitValue, replyNumber};
-ghost use Rattle.cabi.specs.Cases.{lineLength, messageLength};
+ghost use Rattle.cabi.specs.laws.Cases.{lineLength, messageLength};
 
 fn entry_number(e: Entry) -> u64
     requires { ⌜ lineLength e ≤ 512 ⌝ }
@@ -46,9 +47,9 @@ pub extern "C" fn pack_open(
     boxed: u64,
     line: &mut [u8],
 ) -> u64
-    ensures answer { λ r. ⌜ r ≡ entryNumber (openEntry (length (now (state .entry))) n ta ts own session input (now (coins .entry)) (now (weights .entry)) boxed (length (now (line .entry)))) ⌝ }
-    ensures words { λ _. ⌜ now (state .exit) ≡ openedWords (now (state .entry)) n ta ts own session input (now (coins .entry)) (now (weights .entry)) boxed (length (now (line .entry))) ⌝ }
-    ensures bytes { λ _. ⌜ now (line .exit) ≡ openedBytes (length (now (state .entry))) n ta ts own session input (now (coins .entry)) (now (weights .entry)) boxed (now (line .entry)) ⌝ }
+    ensures answer { λ r. ⌜ r ≡ entryNumber (openEntry (length (now (state .entry))) (arguments n ta ts own session input (now (coins .entry)) (now (weights .entry)) boxed) (length (now (line .entry)))) ⌝ }
+    ensures words { λ _. ⌜ now (state .exit) ≡ openedWords (now (state .entry)) (arguments n ta ts own session input (now (coins .entry)) (now (weights .entry)) boxed) (length (now (line .entry))) ⌝ }
+    ensures bytes { λ _. ⌜ now (line .exit) ≡ openedBytes (length (now (state .entry))) (arguments n ta ts own session input (now (coins .entry)) (now (weights .entry)) boxed) (now (line .entry)) ⌝ }
 {
     entry_number(journal::open(
         state,

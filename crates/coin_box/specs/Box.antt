@@ -21,7 +21,7 @@ use Rattle.quorum.specs.Marks.{mark}
 use Rattle.quorum.specs.Weights.{weigh}
 use Rattle.records.specs.Layout.{nAt, taAt, tsAt}
 use Rattle.records.specs.Words.{word, put, marked, setMark}
-use Rattle.records.specs.Fill.{blank}
+use Rattle.records.specs.Words.{blank}
 use Rattle.records.specs.Records.{coin}
 use Rattle.session.specs.Session.{numbered}
 use Rattle.opening.specs.Given.{item}

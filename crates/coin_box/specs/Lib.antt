@@ -1,5 +1,2 @@
 pub mod Box
-pub mod Opened
-pub mod Laws
-pub mod Secrecy
-pub mod Cases
+pub mod laws

@@ -1,6 +1,6 @@
 -- The sets that COMMITs hold: rules 1 and 2 of the turn order. Senders count by their weights w (request N11).
 use Prim.Native.Nat.{ℕ}
-use mathlib.Core.Bool.{Bool, _&&_, not, cond}
+use mathlib.Core.Bool.{Bool, _&&_, cond}
 use mathlib.Core.List.{List, []}
 use lib.Dec.{eqb, leb, ltb}
 use Rattle.quorum.specs.Weights.{weigh}
@@ -11,10 +11,6 @@ use Rattle.records.specs.Records.{commitCount, commitValue, commitSet}
 -- a COMMIT of sender p is held: its set has a value
 unfoldable pub commitHeld : List ℕ → ℕ → Bool
 commitHeld s p = ltb 0 (commitCount s p)
-
--- the weight of the senders 1 to n of whom a COMMIT is held
-unfoldable pub commitsHeld : ℕ → List ℕ → ℕ → ℕ
-commitsHeld w s n = weigh w (λ p. commitHeld s p) n
 
 -- the COMMITs of senders p and q hold the same set: sets are compared as their words
 unfoldable pub sameSet : List ℕ → ℕ → ℕ → Bool

@@ -1,3 +1,2 @@
 pub mod Commits
-pub mod Cases
-pub mod Sets
+pub mod laws

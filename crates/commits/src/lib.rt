@@ -4,7 +4,8 @@ ghost use mathlib.Core.Path.{_≡_};
 ghost use mathlib.Core.Bool.{_&&_};
 ghost use lib.Dec.{eqb};
 ghost use Rattle.records.specs.Records.{commitValue};
-ghost use Rattle.commits.specs.Commits.{commitHeld, commitsHeld, sameSet, setHolders, setLeads, setLeader};
+ghost use Rattle.commits.specs.Commits.{commitHeld, sameSet, setHolders, setLeads, setLeader};
+ghost use Rattle.commits.specs.laws.Commits.{commitsHeld};
 
 // Whether a COMMIT of sender p is held.
 pub fn commit_held(s: &[u64], p: u8) -> bool

@@ -3,12 +3,13 @@ use Prim.Native.Nat.{ℕ, zero, suc, _+_, _*_, _-_}
 use mathlib.Core.Bool.{cond}
 use mathlib.Core.List.{List, [], _∷_}
 use lib.Dec.{eqb}
-use Rattle.records.specs.Fill.{blank}
-use Rattle.opening.specs.Ones.{onesGiven}
+use Rattle.records.specs.Words.{blank}
+use Rattle.opening.specs.Given.{onesGiven}
+use Rattle.opening.specs.Arguments.{Arguments, arguments}
 use Rattle.wire.specs.Message.{encode}
 use Rattle.wire.specs.declared.Message.{Message}
 use Rattle.wire.specs.declared.Message.the-variants.{Send, Echo, Ready, Est, Aux, Commit}
-use Rattle.turn_bound.specs.TurnBound.{Arguments, Step, delivery, turn}
+use Rattle.turn_bound.specs.TurnBound.{Step, delivery, turn}
 
 -- n coin words of 0
 unfoldable pub coinWords : ℕ → List ℕ
@@ -17,7 +18,7 @@ coinWords (suc n) = 0 ∷ coinWords n
 
 -- the opening, "For version 1, weights all 1, printed coins": ta = ts = 0, own number 1
 unfoldable pub opens : ℕ → Arguments
-opens n = record { n = n; ta = 0; ts = 0; own = 1; session = 7; input = 5; coins = coinWords n; weights = onesGiven n; boxed = 0 }
+opens n = arguments n 0 0 1 7 5 (coinWords n) (onesGiven n) 0
 
 -- f 1 to f n, one after another, after the calls cs
 unfoldable pub each : (ℕ → List Step → List Step) → ℕ → List Step → List Step

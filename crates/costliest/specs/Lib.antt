@@ -1,11 +1,3 @@
 pub mod Calls
 pub mod Statement
-pub mod Packs
-pub mod One
-pub mod Saying
-pub mod Hearing
-pub mod Idle
-pub mod Acting
-pub mod Costliest
-pub mod Five
-pub mod Sent
+pub mod laws

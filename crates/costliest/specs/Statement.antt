@@ -5,10 +5,12 @@ use mathlib.Core.List.{List, [], _∷_}
 use mathlib.Core.Path.{_≡_}
 use lib.Dec.{eqb}
 use lib.ListN.{length}
+use Rattle.opening.specs.Arguments.{Arguments, settingsBy}
+use Rattle.opening.specs.Opening.{openAnswer, opened}
 use Rattle.turn.specs.Turn.{sentLength, turnOutcome}
 use Rattle.turn.specs.declared.Outcome.{Outcome}
 use Rattle.turn.specs.declared.Outcome.the-variants.{Refused, Idle, Sent, MovedOut, InForce}
-use Rattle.turn_bound.specs.TurnBound.{Arguments, answer, openedBy, settingsBy, Step, opening, delivery, turn, report, recording, after, current}
+use Rattle.turn_bound.specs.TurnBound.{Step, opening, delivery, turn, report, recording, after, current}
 use Rattle.turn_bound.specs.Calls.{Call, openNumberBy, begun, turnsSince, settingsSince}
 use Rattle.turn_bound.specs.Calls as call
 use Rattle.turn_bound.specs.Lined.{lineLent, lined}
@@ -48,7 +50,7 @@ sentOne InForce = 0
 -- what f makes of the turns since the last accepted opening, summed up
 unfoldable pub summed : (Outcome → ℕ) → List ℕ → List Step → ℕ
 summed f s [] = 0
-summed f s (opening o ∷ cs) = cond (eqb (answer (after s cs) o) 0) 0 (summed f s cs)
+summed f s (opening o ∷ cs) = cond (eqb (openAnswer (length (after s cs)) o) 0) 0 (summed f s cs)
 summed f s (delivery link b ∷ cs) = summed f s cs
 summed f s (turn out ∷ cs) = f (turnOutcome (after s cs) (length out)) + summed f s cs
 summed f s (report ∷ cs) = summed f s cs
@@ -63,5 +65,5 @@ pub record Sends (n : ℕ) (s : List ℕ) (cs : List Step) : Type 0 where
 -- sends nothing.
 unfoldable pub AtMostSent : Type 0
 AtMostSent =
-    (s : List ℕ) (o : Arguments) → answer s o ≡ 0 →
-    (cs : List Step) → Sends (current (settingsBy o) (openedBy s o) cs .n) (openedBy s o) cs
+    (s : List ℕ) (o : Arguments) → openAnswer (length s) o ≡ 0 →
+    (cs : List Step) → Sends (current (settingsBy o) (opened s o) cs .n) (opened s o) cs

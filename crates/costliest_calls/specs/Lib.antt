@@ -1,7 +1,3 @@
 pub mod Numbered
 pub mod Answers
-pub mod Sections
-pub mod Adding
-pub mod Numbering
-pub mod Places
-pub mod Cases
+pub mod laws

@@ -5,7 +5,8 @@ use mathlib.Core.List.{List, [], _∷_}
 use mathlib.Core.Option.{Option, none, some}
 use lib.Dec.{eqb}
 use lib.ListN.{length, getD}
-use Rattle.turn_bound.specs.TurnBound.{Arguments, Step}
+use Rattle.opening.specs.Arguments.{Arguments}
+use Rattle.turn_bound.specs.TurnBound.{Step}
 
 -- call k of a list of calls, from 1 on, in the order in which they are made: the newest stands first in the list
 unfoldable pub callAt : List Step → ℕ → Option Step

@@ -9,7 +9,7 @@ ghost use lib.ListN.{length};
 ghost use Rattle.costliest.specs.Calls.{opens};
 ghost use Rattle.costliest_calls.specs.Numbered.{settingAt};
 ghost use Rattle.costliest_calls.specs.Answers.{callNumber, callBytes, callRefusal, costliestAnswer, costliestBytes};
-ghost use Rattle.costliest_calls.specs.Sections.{stepOf, valuesBeside};
+ghost use Rattle.costliest_calls.specs.laws.Sections.{stepOf, valuesBeside};
 
 // A call: none, the message of a concentrator over its link, or a turn.
 pub enum Call {

@@ -4,7 +4,7 @@ use crate::INPUT;
 use wire::Message;
 ghost use mathlib.Core.Path.{_≡_};
 ghost use Prim.Native.Nat.{_<_, _*_};
-ghost use Rattle.costliest_calls.specs.Sections.{Few, sendCall, readyCall, estCall, auxCall, laterCall, callOfMany, callOfOne, callOf};
+ghost use Rattle.costliest_calls.specs.laws.Sections.{Few, sendCall, readyCall, estCall, auxCall, laterCall, callOfMany, callOfOne, callOf};
 
 // A SEND of each.
 fn send_call(j: u64) -> Call

@@ -1,18 +1,13 @@
 -- Delivery: the verdict on a message, and the words after it. "A delivery names the link's concentrator and records one message."
 use Prim.Native.Nat.{ℕ}
-use mathlib.Core.Bool.{Bool, _||_, cond}
+use mathlib.Core.Bool.{Bool, _||_, not, cond}
 use mathlib.Core.List.{List}
 use lib.ListN.{drop}
 use Rattle.settings.specs.Refusals.{NO-STATE, CLOSED, HELD}
-use Rattle.records.specs.Layout.{sendMarksAt, sendValueAt, echoMarksAt, echoValueAt, readyMarksAt, readyValueAt, voteAt, estMark, auxMark, commitCountAt, commitRowAt}
-use Rattle.records.specs.Words.{put, setMark}
 use Rattle.records.specs.Records.{closed, sendHeld, echoHeld, readyHeld, estHeld, auxHeld}
-use Rattle.records.specs.Fill.{storeOf}
+use Rattle.records.specs.Writing.{withSend, withEcho, withReady, withEst, withAux, withCommit}
 use Rattle.commits.specs.Commits.{commitHeld}
-use Rattle.session.specs.Session.{stored}
-use Rattle.session.specs.declared.Session.{Session}
-use Rattle.session.specs.declared.Stored.{Stored}
-use Rattle.session.specs.declared.Stored.the-variants.{NoState, Held}
+use Rattle.session.specs.Session.{isState, sessionOf}
 use Rattle.wire.specs.Bytes.{valueAt}
 use Rattle.wire.specs.Reading.{readMessage}
 use Rattle.wire.specs.declared.Message.{Message}
@@ -37,26 +32,21 @@ unfoldable pub judged : List ℕ → ℕ → Parsed → Verdict
 judged s p (parsed.Refused k) = Refused k
 judged s p (parsed.Taken m) = cond (placeHeld s p m) (Refused HELD) (Accepted m)
 
--- "10 CLOSED: delivery or turn after closing", then the message
-unfoldable pub verdictIn : Session → List ℕ → ℕ → List ℕ → Verdict
-verdictIn x s link b = cond (closed s) (Refused CLOSED) (judged s link (readMessage (x .settings .n) (x .number) link b))
-
-unfoldable pub verdictFor : Stored → List ℕ → ℕ → List ℕ → Verdict
-verdictFor NoState s link b = Refused NO-STATE
-verdictFor (Held x) s link b = verdictIn x s link b
-
--- "Delivery 9, 10, 2 to 7, 11."
+-- "Delivery 9, 10, 2 to 7, 11.": the first refusal, or the message
 unfoldable pub verdict : List ℕ → ℕ → List ℕ → Verdict
-verdict s link b = verdictFor (stored s) s link b
+verdict s link b =
+    cond (not (isState s)) (Refused NO-STATE)
+    (cond (closed s) (Refused CLOSED)
+    (judged s link (readMessage (sessionOf s .settings .n) (sessionOf s .number) link b)))
 
 -- the state with a message of sender p recorded; the values of a COMMIT are in the part v that starts at byte 12
 unfoldable pub recorded : List ℕ → ℕ → Message → List ℕ → List ℕ
-recorded s p (Send i x) v = setMark (put s (sendValueAt i) x) sendMarksAt i
-recorded s p (Echo i x) v = setMark (put s (echoValueAt i p) x) (echoMarksAt i) p
-recorded s p (Ready i x) v = setMark (put s (readyValueAt i p) x) (readyMarksAt i) p
-recorded s p (Est i r b) v = setMark s (voteAt i r) (estMark b p)
-recorded s p (Aux i r b) v = setMark s (voteAt i r) (auxMark b p)
-recorded s p (Commit k) v = put (storeOf (valueAt v) (commitRowAt p) s k) (commitCountAt p) k
+recorded s p (Send i x) v = withSend s i x
+recorded s p (Echo i x) v = withEcho s i p x
+recorded s p (Ready i x) v = withReady s i p x
+recorded s p (Est i r b) v = withEst s i r b p
+recorded s p (Aux i r b) v = withAux s i r b p
+recorded s p (Commit k) v = withCommit s p (valueAt v) k
 
 -- the number of a verdict: 0 is accepted
 unfoldable pub answerOf : Verdict → ℕ

@@ -1,8 +1,2 @@
 pub mod Delivery
-pub mod Cases
-pub mod Accepting
-pub mod Frame
-pub mod Answers
-pub mod Values
-pub mod Kept
-pub mod Held
+pub mod laws

@@ -1,38 +1,22 @@
 // Delivery: the verdict on a message, then its record.
 use records::layout;
+use records::writing;
 use session::Session;
 use session::Stored;
 use settings::refusal;
 use wire::Message;
 use wire::Parsed;
 ghost use mathlib.Core.Path.{_≡_};
-ghost use mathlib.Core.Bool.{_||_};
-ghost use Rattle.records.specs.Layout.{commitRowAt, commitCountAt};
-ghost use Rattle.records.specs.Words.{put, setMark};
-ghost use Rattle.records.specs.Records.{estHeld, auxHeld};
-ghost use Rattle.records.specs.Fill.{storeOf};
+ghost use Rattle.records.specs.Writing.{withCommitValues, withCommit};
 ghost use Rattle.wire.specs.Bytes.{valueAt};
-ghost use Rattle.delivery.specs.Delivery.{placeHeld, judged, verdictIn, verdict, recorded, answerOf, deliverAnswer, delivered};
+ghost use Rattle.delivery.specs.Delivery.{placeHeld, judged, verdict, recorded, answerOf, deliverAnswer, delivered};
+ghost use Rattle.session.specs.declared.Stored.the-variants.{Held};
+ghost use Rattle.delivery.specs.laws.Stored.{verdictFor};
 
 // What a delivery comes to: the number of the refusal, or the message to be recorded.
 pub enum Verdict {
     Refused(u64),
     Accepted(Message),
-}
-
-// Whether EST b of sender p is held in round r of vote i.
-fn est_held(s: &[u64], i: u8, r: u8, b: u8, p: u8) -> bool
-    ensures { λ c. ⌜ c ≡ estHeld (now (s .entry)) i r b p ⌝ }
-{
-    quorum::mark(records::votes(s, i, r), 16 * b as u64 + p as u64)
-}
-
-// Whether an AUX of sender p is held in round r of vote i.
-fn aux_held(s: &[u64], i: u8, r: u8, p: u8) -> bool
-    ensures { λ c. ⌜ c ≡ (auxHeld (now (s .entry)) i r 0 p || auxHeld (now (s .entry)) i r 1 p) ⌝ }
-{
-    let w = records::votes(s, i, r);
-    quorum::mark(w, 32 + p as u64) | quorum::mark(w, 48 + p as u64)
 }
 
 // Whether the place of a message of sender p is taken.
@@ -41,29 +25,25 @@ fn place_held(s: &[u64], p: u8, m: Message) -> bool
 {
     match m {
         Message::Send { instance, value: _ } => records::send_held(s, instance),
-        Message::Echo { instance, value: _ } => {
-            records::marked(s, layout::ECHO_MARKS + instance as usize, p as u64)
-        }
-        Message::Ready { instance, value: _ } => {
-            records::marked(s, layout::READY_MARKS + instance as usize, p as u64)
-        }
+        Message::Echo { instance, value: _ } => records::echo_held(s, instance, p),
+        Message::Ready { instance, value: _ } => records::ready_held(s, instance, p),
         Message::Est {
             instance,
             round,
             value,
-        } => est_held(s, instance, round, value, p),
+        } => records::est_held(s, instance, round, value, p),
         Message::Aux {
             instance,
             round,
             value: _,
-        } => aux_held(s, instance, round, p),
+        } => records::aux_held(s, instance, round, p),
         Message::Commit { count: _ } => commits::commit_held(s, p),
     }
 }
 
 // The verdict in a session.
 fn verdict_in(s: &[u64], x: Session, link: u64, bytes: &[u8]) -> Verdict
-    ensures { λ r. ⌜ r ≡ verdictIn x (now (s .entry)) link (now (bytes .entry)) ⌝ }
+    ensures { λ r. ⌜ r ≡ verdictFor (Held x) (now (s .entry)) link (now (bytes .entry)) ⌝ }
 {
     if records::closed(s) {
         return Verdict::Refused(refusal::CLOSED);
@@ -89,38 +69,29 @@ pub fn judge(s: &[u64], link: u64, bytes: &[u8]) -> Verdict
     if s.len() != layout::STATE_WORDS {
         return Verdict::Refused(refusal::NO_STATE);
     }
-    let held = session::state_of(s);
-    match held {
+    let stored = session::state_of(s);
+    match stored {
         Stored::NoState => Verdict::Refused(refusal::NO_STATE),
         Stored::Held(x) => verdict_in(s, x, link, bytes),
     }
 }
 
-// Puts a value at a word, and sets mark p of another.
-fn record_value(s: &mut [u64], at: usize, v: u64, marks: usize, p: u64)
-    ensures { λ _. ⌜ now (s .exit) ≡ setMark (put (now (s .entry)) at v) marks p ⌝ }
-{
-    records::put(s, at, v);
-    records::set_mark(s, marks, p);
-}
-
 // Stores the first count values of a COMMIT of sender p.
 fn record_values(s: &mut [u64], p: u8, count: u8, part: &[u8])
-    ensures { λ _. ⌜ now (s .exit) ≡ storeOf (valueAt (now (part .entry))) (commitRowAt p) (now (s .entry)) count ⌝ }
+    ensures { λ _. ⌜ now (s .exit) ≡ withCommitValues (now (s .entry)) p (valueAt (now (part .entry))) count ⌝ }
 {
-    let base = layout::COMMIT_VALUES + 16 * p as usize;
     let mut k: u8 = 0;
     while k < count {
         k += 1;
-        records::put(s, base + k as usize, wire::value_at(part, k));
+        writing::put_commit_value(s, p, k, wire::value_at(part, k));
     }
 }
 
 fn record_commit(s: &mut [u64], p: u8, count: u8, part: &[u8])
-    ensures { λ _. ⌜ now (s .exit) ≡ put (storeOf (valueAt (now (part .entry))) (commitRowAt p) (now (s .entry)) count) (commitCountAt p) count ⌝ }
+    ensures { λ _. ⌜ now (s .exit) ≡ withCommit (now (s .entry)) p (valueAt (now (part .entry))) count ⌝ }
 {
     record_values(s, p, count, part);
-    records::put(s, layout::COMMIT_COUNTS + p as usize, count as u64);
+    writing::hold_commit(s, p, count);
 }
 
 // Records a message of sender p; the values of a COMMIT are in the part that starts at byte 12.
@@ -128,55 +99,19 @@ fn record(s: &mut [u64], p: u8, m: Message, part: &[u8])
     ensures { λ _. ⌜ now (s .exit) ≡ recorded (now (s .entry)) p m (now (part .entry)) ⌝ }
 {
     match m {
-        Message::Send { instance, value } => {
-            record_value(
-                s,
-                layout::SEND_VALUES + instance as usize,
-                value,
-                layout::SEND_MARKS,
-                instance as u64,
-            );
-        }
-        Message::Echo { instance, value } => {
-            record_value(
-                s,
-                layout::ECHO_VALUES + 16 * instance as usize + p as usize,
-                value,
-                layout::ECHO_MARKS + instance as usize,
-                p as u64,
-            );
-        }
-        Message::Ready { instance, value } => {
-            record_value(
-                s,
-                layout::READY_VALUES + 16 * instance as usize + p as usize,
-                value,
-                layout::READY_MARKS + instance as usize,
-                p as u64,
-            );
-        }
+        Message::Send { instance, value } => writing::hold_send(s, instance, value),
+        Message::Echo { instance, value } => writing::hold_echo(s, instance, p, value),
+        Message::Ready { instance, value } => writing::hold_ready(s, instance, p, value),
         Message::Est {
             instance,
             round,
             value,
-        } => {
-            records::set_mark(
-                s,
-                layout::VOTES + 32 * instance as usize + round as usize,
-                16 * value as u64 + p as u64,
-            );
-        }
+        } => writing::hold_est(s, instance, round, value, p),
         Message::Aux {
             instance,
             round,
             value,
-        } => {
-            records::set_mark(
-                s,
-                layout::VOTES + 32 * instance as usize + round as usize,
-                32 + 16 * value as u64 + p as u64,
-            );
-        }
+        } => writing::hold_aux(s, instance, round, value, p),
         Message::Commit { count } => record_commit(s, p, count, part),
     }
 }

@@ -3,16 +3,16 @@ use Prim.Native.Nat.{ℕ, _+_, _%_, _^_}
 use mathlib.Core.Bool.{true, false, cond}
 use mathlib.Core.List.{List, [], _∷_}
 use lib.Dec.{eqb}
-use Rattle.records.specs.Fill.{blank}
-use Rattle.drill_lines.specs.Automaton as lines
+use Rattle.records.specs.Words.{blank}
 use Rattle.text.specs.Fields.{LF}
 use Rattle.drill_core.specs.Judging.{isBad}
 use Rattle.drill_core.specs.Preparing.{noneGiven}
 use Rattle.drill_core.specs.Acting.{begun, World, world, taken}
 use Rattle.drill_core.specs.declared.Phase.{Phase}
-use Rattle.drill_core.specs.declared.Phase.the-variants as phase
 use Rattle.drill_core.specs.declared.State.{State}
 use Rattle.drill_core.specs.declared.Drill.{Drill}
+use Rattle.drill_lines.specs.Automaton as lines
+use Rattle.drill_core.specs.declared.Phase.the-variants as phase
 
 -- before the input: line 1 is read next
 unfoldable pub startDrill : Drill
@@ -38,12 +38,6 @@ withByte d c = record { state = d .state; number = d .number; begun = true; read
 -- a drill with the words of its sessions and the bytes of its messages
 pub data Drilling : Type 0 where
   drilling : (words store : List ℕ) (drill : Drill) → Drilling
-
-unfoldable pub wordsOf : Drilling → List ℕ
-wordsOf (drilling w m d) = w
-
-unfoldable pub storeOf : Drilling → List ℕ
-storeOf (drilling w m d) = m
 
 unfoldable pub settled : ℕ → World → Drilling
 settled number (world w m s) = drilling w m (nextLine s number)

@@ -4,13 +4,12 @@ use mathlib.Core.Bool.{Bool, true, false, _&&_, not, cond}
 use lib.Dec.{eqb, leb, ltb}
 use Rattle.quorum.specs.Marks.{mark}
 use Rattle.records.specs.Layout.{stateWords}
-use Rattle.records.specs.Fill.{blank}
+use Rattle.records.specs.Words.{blank}
 use Rattle.session.specs.Session.{numbered}
-use Rattle.opening.specs.Given.{weightsWord}
-use Rattle.opening.specs.Ones.{onesGiven}
 use Rattle.opening.specs.Opening.{openAnswer}
 use Rattle.drill_lines.specs.declared.Line.{Line}
 use Rattle.drill_lines.specs.declared.Line.the-variants as line
+use Rattle.drill_feeder.specs.Lines.{drillArguments}
 use Rattle.drill_feeder.specs.declared.Members.{Members}
 use Rattle.drill_core.specs.declared.Phase.{Phase}
 use Rattle.drill_core.specs.declared.Phase.the-variants as phase
@@ -56,9 +55,9 @@ isHonest g p = numbered (g .n) p && mark (g .honest) p
 unfoldable pub isLiar : Members → ℕ → Bool
 isLiar g p = numbered (g .n) p && not (mark (g .honest) p)
 
--- opening takes the settings: 2,048 words, weights of 1, number 1, n coin words of 0, printed
+-- opening takes the settings: 2,048 words, number 1, session and input 0, n coin words of 0
 unfoldable pub settingsOpen : (n ta ts : ℕ) → Bool
-settingsOpen n ta ts = eqb (openAnswer stateWords n ta ts (weightsWord n (onesGiven n)) 1 (blank n) 0) 0
+settingsOpen n ta ts = eqb (openAnswer stateWords (drillArguments n ta ts 1 0 0 (blank n))) 0
 
 -- not "an N that opening refuses or with n above 4"; the session number has 32 bits
 unfoldable pub settingsTaken : (n ta ts session : ℕ) → Bool

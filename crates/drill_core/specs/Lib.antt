@@ -1,12 +1,7 @@
 pub mod Judging
-pub mod Tests
-pub mod JudgingCases
 pub mod Preparing
-pub mod PreparingCases
 pub mod Acting
-pub mod ActingCases
 pub mod Feeding
 pub mod Output
-pub mod FeedingCases
-pub mod OutputCases
-pub mod Laws
+pub mod Parts
+pub mod laws

@@ -3,11 +3,11 @@ use Prim.Native.Nat.{ℕ, _-_}
 use mathlib.Core.Bool.{cond}
 use mathlib.Core.List.{List, [], _∷_}
 use lib.ListN.{take}
-use lib.Dec.{ltb}
 use Rattle.quorum.specs.Marks.{mark, withMark}
 use Rattle.records.specs.Words.{word, put}
+use Rattle.opening.specs.Arguments.{Arguments}
 use Rattle.drill_feeder.specs.Steps.{steps}
-use Rattle.drill_feeder.specs.Lines.{openedAt}
+use Rattle.drill_feeder.specs.Lines.{drillArguments, openedAt}
 use Rattle.drill_core.specs.declared.Given.{Given}
 
 -- "`N n ta ts session`"; "a missing C is 00000000", and "one without P lies"
@@ -49,12 +49,12 @@ inputGiven g p value = record {
   inputs = put (g .inputs) (p - 1) value;
 }
 
-unfoldable pub fewer : ℕ → ℕ → ℕ
-fewer n count = cond (ltb n count) n count
+-- the arguments of the opening of session p with an input and "n coin words"
+abbrev pub argumentsWith : Given → (p input : ℕ) → List ℕ → Arguments
+argumentsWith g p input coins = drillArguments (g .members .n) (g .ta) (g .ts) p (g .session) input (take (g .members .n) coins)
 
--- session p opened with an input and "n coin words"
 unfoldable pub openedWith : Given → (p input : ℕ) → List ℕ → List ℕ → List ℕ
-openedWith g p input coins w = openedAt w p (g .members .n) (g .ta) (g .ts) (g .session) input (take (g .members .n) coins)
+openedWith g p input coins w = openedAt w (argumentsWith g p input coins)
 
 unfoldable pub openIf : Given → ℕ → List ℕ → List ℕ
 openIf g p w = cond (mark (g .members .honest) p) (openedWith g p (word (g .inputs) (p - 1)) (g .coins) w) w

@@ -10,7 +10,7 @@ use settings::Checked;
 use settings::Settings;
 ghost use mathlib.Core.Path.{_≡_};
 ghost use Rattle.opening.specs.Given.{weightsWord};
-ghost use Rattle.opening.specs.Ones.{onesGiven};
+ghost use Rattle.opening.specs.Given.{onesGiven};
 ghost use Rattle.drill_core.specs.Judging.{isFirst, isSetup, afterSettings, isBad, isHonest, isLiar, settingsOpen, settingsTaken, judgedN, judgedC, judgedP, judgedT, judgedD, bytesFit, judgedL, judgedR, judged};
 
 fn is_first(x: Phase) -> bool

@@ -4,7 +4,8 @@ use drill_feeder::Members;
 ghost use mathlib.Core.Path.{_≡_};
 ghost use Prim.Native.Nat.{_-_};
 ghost use Rattle.records.specs.Words.{put};
-ghost use Rattle.drill_core.specs.Preparing.{noneGiven, settingsGiven, coinGiven, inputGiven, fewer, openedWith, openIf, openedAll};
+ghost use Rattle.drill_core.specs.Preparing.{noneGiven, settingsGiven, coinGiven, inputGiven, openedWith, openIf, openedAll};
+ghost use Rattle.drill_core.specs.laws.Preparing.{fewer};
 
 // Before line 1.
 pub fn none_given() -> Given

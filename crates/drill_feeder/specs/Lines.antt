@@ -7,8 +7,8 @@ use lib.ListN.{length}
 use lib.Dec.{ltb}
 use Rattle.quorum.specs.Marks.{mark}
 use Rattle.wire.specs.Message.{headerWith, messageBytes}
-use Rattle.opening.specs.Given.{weightsWord}
-use Rattle.opening.specs.Ones.{onesGiven}
+use Rattle.opening.specs.Given.{onesGiven}
+use Rattle.opening.specs.Arguments.{Arguments, arguments}
 use Rattle.opening.specs.Opening.{opened}
 use Rattle.delivery.specs.Delivery.{delivered}
 use Rattle.turn.specs.Turn.{turnOutcome, turnWords, turnBytes}
@@ -20,9 +20,13 @@ use Rattle.drill_feeder.specs.declared.Counts.{Counts}
 use Rattle.drill_feeder.specs.declared.Members.{Members}
 use Rattle.drill_feeder.specs.declared.Lie.{Lie}
 
--- the words after the opening of session p; "Drills stay printed, with weights 1."
-unfoldable pub openedAt : List ℕ → (p n ta ts session input : ℕ) → List ℕ → List ℕ
-openedAt w p n ta ts session input coins = withState w p (opened (stateOf w p) n ta ts (weightsWord n (onesGiven n)) p session input coins 0)
+-- the arguments of an opening: "Drills stay printed, with weights 1."
+abbrev pub drillArguments : (n ta ts p session input : ℕ) → List ℕ → Arguments
+drillArguments n ta ts p session input coins = arguments n ta ts p session input coins (onesGiven n) 0
+
+-- the words after the opening of a session, at its own number
+unfoldable pub openedAt : List ℕ → Arguments → List ℕ
+openedAt w o = withState w (o .own) (opened (stateOf w (o .own)) o)
 
 -- the words after bytes b were delivered to q over a link; "What the engine refuses of T, D, L or R prints nothing.", and changes nothing
 unfoldable pub deliveredTo : List ℕ → (q link : ℕ) → List ℕ → List ℕ

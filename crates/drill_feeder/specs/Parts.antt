@@ -1,11 +1,9 @@
 -- The memory of a drill: the words of its sessions, and the bytes of the messages sent.
-use Prim.Native.Nat.{ℕ, _+_, _*_, _-_, _≤_}
+use Prim.Native.Nat.{ℕ, _+_, _*_, _-_}
 use mathlib.Core.Bool.{cond}
 use mathlib.Core.List.{List, [], _++_}
-use mathlib.Core.Path.{_≡_}
 use lib.ListN.{length, getD, take, drop}
 use lib.Dec.{leb}
-use Rattle.drill_feeder.specs.declared.parts.Part.{Part}
 
 -- the k elements of l from place a; none where l has fewer
 unfoldable pub part : List ℕ → ℕ → ℕ → List ℕ
@@ -14,13 +12,6 @@ part l a k = cond (leb (a + k) (length l)) (take k (drop a l)) []
 -- l with new in the place of those elements; l itself where it has fewer
 unfoldable pub withPart : List ℕ → ℕ → ℕ → List ℕ → List ℕ
 withPart l a k new = cond (leb (a + k) (length l)) (take a l ++ (new ++ drop (a + k) l)) l
-
--- the bounds of a part
-pub record PartOf (n a k : ℕ) (r : Part) : Type 0 where
-  pub first : r .start ≡ cond (leb (a + k) n) a 0
-  pub last : r .end ≡ cond (leb (a + k) n) (a + k) 0
-  pub ordered : r .start ≤ r .end
-  pub within : r .end ≤ n
 
 -- "The state is a lent buffer of exactly 2,048 words": that of session p follows those of the sessions below
 abbrev pub stateAt : ℕ → ℕ

@@ -6,13 +6,13 @@ use turn::Outcome;
 ghost use mathlib.Core.Path.{_≡_};
 ghost use lib.ListN.{length};
 ghost use Rattle.records.specs.Records.{closed};
-ghost use Rattle.opening.specs.Given.{weightsWord};
+ghost use Rattle.opening.specs.Arguments.{arguments};
 ghost use Rattle.opening.specs.Opening.{opened};
 ghost use Rattle.delivery.specs.Delivery.{delivered};
 ghost use Rattle.turn.specs.Turn.{turnOutcome, turnWords, turnBytes};
 ghost use Rattle.report.specs.Report.{reportAnswer, reportNamed, reportInForce};
 ghost use Rattle.drill_feeder.specs.Parts.{stateOf, withState, roomFor, withRoom};
-ghost use Rattle.drill_feeder.specs.Lines.{openedAt, deliveredTo};
+ghost use Rattle.drill_feeder.specs.Lines.{drillArguments, openedAt, deliveredTo};
 
 // A turn, an opening and a delivery, lent bytes for a line that a drill does not keep.
 fn take_turn(state: &mut [u64], out: &mut [u8]) -> Outcome
@@ -43,7 +43,7 @@ fn open(
     coins: &[u32],
     weights: &[u8],
 )
-    ensures { λ _. ⌜ now (state .exit) ≡ opened (now (state .entry)) n ta ts (weightsWord n (now (weights .entry))) own session input (now (coins .entry)) 0 ⌝ }
+    ensures { λ _. ⌜ now (state .exit) ≡ opened (now (state .entry)) (arguments n ta ts own session input (now (coins .entry)) (now (weights .entry)) 0) ⌝ }
 {
     let mut line = [0u8; 512];
     journal::open(
@@ -97,7 +97,7 @@ pub fn open_at(
     input: u64,
     coins: &[u32],
 )
-    ensures { λ _. ⌜ now (words .exit) ≡ openedAt (now (words .entry)) p n ta ts session input (now (coins .entry)) ⌝ }
+    ensures { λ _. ⌜ now (words .exit) ≡ openedAt (now (words .entry)) (drillArguments n ta ts p session input (now (coins .entry))) ⌝ }
 {
     let a = parts::part_of(words.len(), parts::state_at(p), layout::STATE_WORDS);
     let from = a.start;

@@ -1,7 +1,8 @@
 // Parts of the lent memory: the states of the sessions, and the places of the sent messages.
 ghost use mathlib.Core.Path.{_≡_};
 ghost use Prim.Native.Nat.{_*_, _-_};
-ghost use Rattle.drill_feeder.specs.Parts.{PartOf, byteAt, stateAt, placeAt};
+ghost use Rattle.drill_feeder.specs.laws.Parts.{PartOf};
+ghost use Rattle.drill_feeder.specs.Parts.{byteAt, stateAt, placeAt};
 
 // A part of a slice, from start to before end.
 pub struct Part {

@@ -1,5 +1,5 @@
 // Laws of the drill. The functions do nothing: their contracts state what is proved in specs/.
-ghost use Rattle.drill_core.specs.Laws.{PartsJoined};
+ghost use Rattle.drill_core.specs.Parts.{PartsJoined};
 ghost use Rattle.drill_laws.specs.ByLines.{ByLines};
 ghost use Rattle.drill_laws.specs.Demands.{OpeningsAccepted, MessagesKept, RoundsEnd};
 ghost use Rattle.drill_laws.specs.OutputLength.{OutputWhole};

@@ -28,8 +28,8 @@ unfoldable pub room : (form digits : ℕ) → Bool
 room form digits = eqb form DECIMAL || ltb digits form
 
 -- the digits with one more; in a decimal 1 stands for one or more
-unfoldable pub counted : (form digits : ℕ) → ℕ
-counted form digits = cond (eqb form DECIMAL) 1 (cond (ltb digits form) (digits + 1) digits)
+unfoldable pub digitCount : (form digits : ℕ) → ℕ
+digitCount form digits = cond (eqb form DECIMAL) 1 (cond (ltb digits form) (digits + 1) digits)
 
 -- the last six numbers
 unfoldable pub pushed : Numbers → ℕ → Numbers
@@ -72,7 +72,7 @@ parted r =
 unfoldable pub extendedAs : ℕ → Reader → ℕ → Reader
 extendedAs w r c =
     cond (room w (r .digits) && (ltb (digitOf c) (baseOf w) && ltb (r .value * baseOf w + digitOf c) (2 ^ 64)))
-    (reading (r .kind) (r .field) (counted w (r .digits)) (r .value * baseOf w + digitOf c) (r .numbers))
+    (reading (r .kind) (r .field) (digitCount w (r .digits)) (r .value * baseOf w + digitOf c) (r .numbers))
     wrong
 
 unfoldable pub extended : Reader → ℕ → Reader
@@ -81,16 +81,6 @@ extended r c = extendedAs (formOf (r .kind) (r .field)) r c
 -- one more byte is read
 unfoldable pub fed : Reader → ℕ → Reader
 fed r c = cond (r .bad) r (cond (eqb (r .kind) 0) (lettered c) (cond (eqb c TAB) (parted r) (extended r c)))
-
--- the line of a letter that may stand after the N, C and P lines
-unfoldable pub laterLine : ℕ → Numbers → Line
-laterLine kind x =
-    byKind kind Bad Bad Bad
-    (T (x .sixth))
-    (D (x .fifth) (x .sixth))
-    (L (x .first) (x .second) (x .third) (x .fourth) (x .fifth) (x .sixth))
-    R
-    Bad
 
 -- the line of a letter and the last six numbers
 unfoldable pub lineWith : ℕ → Numbers → Line

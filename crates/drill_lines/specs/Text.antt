@@ -3,7 +3,7 @@ use Prim.Native.Nat.{ℕ}
 use mathlib.Core.List.{List, [], _∷_, _++_}
 use Rattle.text.specs.Fields.{TAB, LF}
 use Rattle.text.specs.Numbers.{decimalText, hexText}
-use Rattle.text.specs.Each.{eachText}
+use Rattle.text.specs.Fields.{eachText}
 
 abbrev pub COMMA : ℕ
 COMMA = 44

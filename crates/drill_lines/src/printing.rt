@@ -3,7 +3,7 @@
 ghost use lib.ListN.{take};
 ghost use Rattle.drill_lines.specs.Text.{commaText, valuesText, fieldText, resultLine, endText, sentLine, badLine};
 ghost use Rattle.text.specs.Paste.{Wrote};
-ghost use Rattle.text.specs.Each.{eachText};
+ghost use Rattle.text.specs.Fields.{eachText};
 
 const TAB: u8 = 9;
 

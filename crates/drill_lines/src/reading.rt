@@ -3,7 +3,8 @@ use crate::Line;
 use crate::Numbers;
 use crate::Reader;
 ghost use mathlib.Core.Path.{_≡_};
-ghost use Rattle.drill_lines.specs.Automaton.{countOf, formOf, room, counted, pushed, noNumbers, reading, start, wrong, lettered, parted, extendedAs, fed, laterLine, lineWith, finished};
+ghost use Rattle.drill_lines.specs.Automaton.{countOf, formOf, room, digitCount, pushed, noNumbers, reading, start, wrong, lettered, parted, extendedAs, fed, lineWith, finished};
+ghost use Rattle.drill_lines.specs.laws.Automaton.{laterLine};
 
 const TAB: u8 = 9;
 
@@ -77,8 +78,8 @@ fn room(form: u8, digits: u8) -> bool
 }
 
 // The digits with one more.
-fn counted(form: u8, digits: u8) -> u8
-    ensures { λ r. ⌜ r ≡ counted form digits ⌝ }
+fn digit_count(form: u8, digits: u8) -> u8
+    ensures { λ r. ⌜ r ≡ digitCount form digits ⌝ }
 {
     if form == text::DECIMAL {
         return 1;
@@ -191,7 +192,7 @@ fn extended_as(form: u8, r: Reader, byte: u8) -> Reader
         return wrong();
     }
     let value = text::appended(r.value, b, d);
-    let digits = counted(form, r.digits);
+    let digits = digit_count(form, r.digits);
     reading(r.kind, r.field, digits, value, r.numbers)
 }
 

@@ -1,14 +1,4 @@
 pub mod Exits
-pub mod Table
-pub mod Votes
-pub mod Leads
-pub mod Early
-pub mod Insert
-pub mod Having
 pub mod Stated
-pub mod Rising
-pub mod Ways
-pub mod Laws
-pub mod Agree
-pub mod Fair
-pub mod Now
+pub mod Exactly
+pub mod laws

@@ -6,7 +6,7 @@ use mathlib.Core.List.{List}
 use lib.Dec.{eqb, ltb}
 use lib.ListN.{length}
 use Rattle.settings.specs.Refusals.{SHORT}
-use Rattle.opening.specs.Given.{weightsWord}
+use Rattle.opening.specs.Arguments.{Arguments}
 use Rattle.opening.specs.Opening.{openAnswer, opened}
 use Rattle.delivery.specs.Delivery.{deliverAnswer, delivered}
 use Rattle.recording.specs.Recording.{recordAnswer, recordedWords}
@@ -39,19 +39,17 @@ unfoldable pub lineEntry : ℕ → List ℕ → Entry
 lineEntry k line = cond (eqb k 0) (entry.Line (length line)) (entry.Refused k)
 
 -- Opening. Number, words after it, bytes lent for the line after it, answer.
-unfoldable pub openNumber : (words n ta ts own : ℕ) (coins weights : List ℕ) (boxed room : ℕ) → ℕ
-openNumber words n ta ts own coins weights boxed room = lineAnswer (openAnswer words n ta ts (weightsWord n weights) own coins boxed) room
+unfoldable pub openNumber : (words : ℕ) → Arguments → (room : ℕ) → ℕ
+openNumber words o room = lineAnswer (openAnswer words o) room
 
-unfoldable pub openedWords : List ℕ → (n ta ts own session input : ℕ) (coins weights : List ℕ) (boxed room : ℕ) → List ℕ
-openedWords s n ta ts own session input coins weights boxed room = lineWords room s (opened s n ta ts (weightsWord n weights) own session input coins boxed)
+unfoldable pub openedWords : List ℕ → Arguments → (room : ℕ) → List ℕ
+openedWords s o room = lineWords room s (opened s o)
 
-unfoldable pub openedBytes : (words n ta ts own session input : ℕ) (coins weights : List ℕ) (boxed : ℕ) (lent : List ℕ) → List ℕ
-openedBytes words n ta ts own session input coins weights boxed lent =
-    lineBytes (openNumber words n ta ts own coins weights boxed (length lent)) (openingLine n ta ts own session input coins weights boxed) lent
+unfoldable pub openedBytes : (words : ℕ) → Arguments → (lent : List ℕ) → List ℕ
+openedBytes words o lent = lineBytes (openNumber words o (length lent)) (openingLine o) lent
 
-unfoldable pub openEntry : (words n ta ts own session input : ℕ) (coins weights : List ℕ) (boxed room : ℕ) → Entry
-openEntry words n ta ts own session input coins weights boxed room =
-    lineEntry (openNumber words n ta ts own coins weights boxed room) (openingLine n ta ts own session input coins weights boxed)
+unfoldable pub openEntry : (words : ℕ) → Arguments → (room : ℕ) → Entry
+openEntry words o room = lineEntry (openNumber words o room) (openingLine o)
 
 -- Delivery, likewise.
 unfoldable pub deliverNumber : List ℕ → ℕ → List ℕ → ℕ → ℕ

@@ -1,6 +1,3 @@
 pub mod Lines
 pub mod Journal
-pub mod Laws
-pub mod Parts
-pub mod Fitting
-pub mod Cases
+pub mod laws

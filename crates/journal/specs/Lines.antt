@@ -7,6 +7,7 @@ use lib.ListN.{length, replicate}
 use Rattle.io.specs.Digits.{digits, glyph}
 use Rattle.text.specs.Fields.{TAB, LF}
 use Rattle.text.specs.Numbers.{DECIMAL, WORD, PACK, decimalText}
+use Rattle.opening.specs.Arguments.{Arguments}
 
 -- the letters, in ASCII
 abbrev pub LETTER-O : ℕ
@@ -46,14 +47,19 @@ openingForms coins figures =
 
 -- the decimals after the coin words: "`O` lines carry [the weights] after the coin words", and "`O` ends with 0 for printed or 1 for boxed"
 -- (requests N11, N12)
-abbrev pub figures : List ℕ → ℕ → List ℕ
-figures weights boxed = weights ++ (boxed ∷ [])
+abbrev pub figures : Arguments → List ℕ
+figures o = o .weights ++ (o .boxed ∷ [])
+
+-- the numbers of an opening line, and their forms
+abbrev pub numbersOf : Arguments → List ℕ
+numbersOf o = VERSION ∷ o .n ∷ o .ta ∷ o .ts ∷ o .own ∷ o .session ∷ o .input ∷ (o .coins ++ figures o)
+
+abbrev pub formsOf : Arguments → List ℕ
+formsOf o = openingForms (length (o .coins)) (length (figures o))
 
 -- an accepted opening, ta as it is given; without its LF
-unfoldable pub openingText : (n ta ts own session input : ℕ) (coins weights : List ℕ) (boxed : ℕ) → List ℕ
-openingText n ta ts own session input coins weights boxed =
-    tabbed (LETTER-O ∷ [])
-    (numberTexts (openingForms (length coins) (length (figures weights boxed))) (VERSION ∷ n ∷ ta ∷ ts ∷ own ∷ session ∷ input ∷ (coins ++ figures weights boxed)))
+unfoldable pub openingText : Arguments → List ℕ
+openingText o = tabbed (LETTER-O ∷ []) (numberTexts (formsOf o) (numbersOf o))
 
 -- bytes in lower-case hexadecimal
 unfoldable pub hexBytes : List ℕ → List ℕ
@@ -79,8 +85,8 @@ recordingText i r b = tabbed (LETTER-K ∷ []) (numberTexts recordingForms (i �
 unfoldable pub withEnd : List ℕ → List ℕ
 withEnd b = b ++ (LF ∷ [])
 
-abbrev pub openingLine : (n ta ts own session input : ℕ) (coins weights : List ℕ) (boxed : ℕ) → List ℕ
-openingLine n ta ts own session input coins weights boxed = withEnd (openingText n ta ts own session input coins weights boxed)
+abbrev pub openingLine : Arguments → List ℕ
+openingLine o = withEnd (openingText o)
 
 abbrev pub deliveryLine : ℕ → List ℕ → List ℕ
 deliveryLine link b = withEnd (deliveryText link b)

@@ -6,6 +6,7 @@ use settings::refusal;
 use turn::Outcome;
 ghost use mathlib.Core.Path.{_≡_};
 ghost use lib.ListN.{length};
+ghost use Rattle.opening.specs.Arguments.{arguments};
 ghost use Rattle.journal.specs.Journal.{lineAnswer, acts, openEntry, openedWords, openedBytes, deliverEntry, deliveredWords, deliveredBytes, recordEntry, recordWords, recordBytes, turnRoom, turnedMessage, turnedLine};
 ghost use Rattle.turn.specs.Turn.{turnOutcome, turnWords};
 ghost use Rattle.delivery.specs.Delivery.{deliverAnswer};
@@ -40,9 +41,9 @@ pub fn open(
     boxed: u64,
     line: &mut [u8],
 ) -> Entry
-    ensures answer { λ r. ⌜ r ≡ openEntry (length (now (state .entry))) n ta ts own session input (now (coins .entry)) (now (weights .entry)) boxed (length (now (line .entry))) ⌝ }
-    ensures words { λ _. ⌜ now (state .exit) ≡ openedWords (now (state .entry)) n ta ts own session input (now (coins .entry)) (now (weights .entry)) boxed (length (now (line .entry))) ⌝ }
-    ensures bytes { λ _. ⌜ now (line .exit) ≡ openedBytes (length (now (state .entry))) n ta ts own session input (now (coins .entry)) (now (weights .entry)) boxed (now (line .entry)) ⌝ }
+    ensures answer { λ r. ⌜ r ≡ openEntry (length (now (state .entry))) (arguments n ta ts own session input (now (coins .entry)) (now (weights .entry)) boxed) (length (now (line .entry))) ⌝ }
+    ensures words { λ _. ⌜ now (state .exit) ≡ openedWords (now (state .entry)) (arguments n ta ts own session input (now (coins .entry)) (now (weights .entry)) boxed) (length (now (line .entry))) ⌝ }
+    ensures bytes { λ _. ⌜ now (line .exit) ≡ openedBytes (length (now (state .entry))) (arguments n ta ts own session input (now (coins .entry)) (now (weights .entry)) boxed) (now (line .entry)) ⌝ }
 {
     if line.len() < LINE_BYTES {
         let k = opening::answer(state.len(), n, ta, ts, own, coins, weights, boxed);

@@ -1,9 +1,10 @@
 // The lines, written at the front of the lent bytes. Each function of a part writes from a place on, as far as the bytes go, and answers the
 // place after it.
 ghost use Rattle.text.specs.Paste.{Wrote};
-ghost use Rattle.text.specs.Each.{eachText};
+ghost use Rattle.text.specs.Fields.{eachText};
+ghost use Rattle.opening.specs.Arguments.{arguments};
 ghost use Rattle.journal.specs.Lines.{openingLine, deliveryLine, recordingLine, turnLine};
-ghost use Rattle.journal.specs.Parts.{tabDecimal, tabWord, tabPack, settingsPart, inputPart, listsPart};
+ghost use Rattle.journal.specs.laws.Parts.{tabDecimal, tabWord, tabPack, settingsPart, inputPart, listsPart};
 
 const TAB: u8 = 9;
 
@@ -113,7 +114,7 @@ pub fn put_opening(
     weights: &[u8],
     boxed: u64,
 ) -> usize
-    ensures { λ r. ⌜ Wrote (openingLine n ta ts own session input (now (coins .entry)) (now (weights .entry)) boxed) (now (out .entry)) 0 r (now (out .exit)) ⌝ }
+    ensures { λ r. ⌜ Wrote (openingLine (arguments n ta ts own session input (now (coins .entry)) (now (weights .entry)) boxed)) (now (out .entry)) 0 r (now (out .exit)) ⌝ }
 {
     let second = put_settings(out, n, ta, ts);
     let third = put_input(out, second, own, session, input);

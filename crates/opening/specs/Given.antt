@@ -2,8 +2,9 @@
 use Prim.Native.Nat.{ℕ, _-_}
 use mathlib.Core.Bool.{Bool, _&&_, _||_, cond}
 use mathlib.Core.List.{List}
-use lib.ListN.{length}
+use lib.ListN.{length, replicate}
 use lib.Dec.{eqb, leb}
+use Rattle.settings.specs.Settings.{maxConcentrators}
 use Rattle.quorum.specs.Every.{every}
 use Rattle.quorum.specs.Packed.{packed}
 use Rattle.records.specs.Words.{word}
@@ -18,7 +19,7 @@ coinZero coins i = eqb (item coins i) 0
 
 -- "n coin words", n being at most 16; printed (0) or boxed (1), as the opening says (request N12), and "boxed sessions give coin words of 0"
 unfoldable pub coinsGiven : ℕ → List ℕ → ℕ → Bool
-coinsGiven n coins boxed = leb n 16 && eqb (length coins) n && leb boxed 1 && (eqb boxed 0 || every (coinZero coins) n)
+coinsGiven n coins boxed = leb n maxConcentrators && eqb (length coins) n && leb boxed 1 && (eqb boxed 0 || every (coinZero coins) n)
 
 -- "Every concentrator gets a weight from 1 to 4"
 unfoldable pub weightGiven : List ℕ → ℕ → Bool
@@ -26,8 +27,12 @@ weightGiven weights p = leb 1 (item weights p) && leb (item weights p) 4
 
 -- .. exactly n of them, and n is at most 16
 unfoldable pub weightsGiven : ℕ → List ℕ → Bool
-weightsGiven n weights = leb n 16 && eqb (length weights) n && every (weightGiven weights) n
+weightsGiven n weights = leb n maxConcentrators && eqb (length weights) n && every (weightGiven weights) n
 
 -- the weights as they are stored; a list that is not right is the word 0, by which nobody has a weight, and so refused as 1
 unfoldable pub weightsWord : ℕ → List ℕ → ℕ
 weightsWord n weights = cond (weightsGiven n weights) (packed (item weights) n) 0
+
+-- n weights of 1
+unfoldable pub onesGiven : ℕ → List ℕ
+onesGiven n = replicate n 1

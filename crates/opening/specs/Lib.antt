@@ -1,8 +1,4 @@
 pub mod Given
+pub mod Arguments
 pub mod Opening
-pub mod GivenCases
-pub mod Cases
-pub mod Laws
-pub mod GivenLaws
-pub mod Ones
-pub mod Unnamed
+pub mod laws

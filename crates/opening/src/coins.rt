@@ -1,5 +1,6 @@
 // The coin words that an opening is given: checked, and put into the state.
 use records::layout;
+use settings::Settings;
 ghost use mathlib.Core.Path.{_≡_};
 ghost use Rattle.quorum.specs.Every.{every};
 ghost use Rattle.opening.specs.Opening.{withCoins};
@@ -46,7 +47,7 @@ fn all_zero(coins: &[u32], n: u8) -> bool
 pub fn coins_given(coins: &[u32], n: u64, boxed: u64) -> bool
     ensures { λ r. ⌜ r ≡ coinsGiven n (now (coins .entry)) boxed ⌝ }
 {
-    if 16 < n {
+    if Settings::MAX_CONCENTRATORS < n {
         return false;
     }
     if coins.len() as u64 != n {

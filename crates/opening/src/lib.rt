@@ -9,9 +9,10 @@ use settings::refusal;
 ghost use mathlib.Core.Path.{_≡_};
 ghost use lib.ListN.{length};
 ghost use Rattle.settings.specs.Settings.{validSettings, namedTa};
-ghost use Rattle.records.specs.Fill.{blank};
-ghost use Rattle.opening.specs.Opening.{openAnswer, withSettings, opened};
-ghost use Rattle.opening.specs.Given.{weightsWord};
+ghost use Rattle.records.specs.Words.{blank};
+ghost use Rattle.opening.specs.Arguments.{arguments};
+ghost use Rattle.opening.specs.Opening.{openAnswer, opened};
+ghost use Rattle.opening.specs.laws.WeightsWord.{answerWith, settingsWith, openedWith};
 
 // Whether the numbers and the word of weights are settings of a session, ta as it is given.
 pub fn settings_valid(n: u64, ta: u64, ts: u64, weights: u64) -> bool
@@ -35,7 +36,7 @@ fn open_answer(
     coins: &[u32],
     boxed: u64,
 ) -> u64
-    ensures { λ r. ⌜ r ≡ openAnswer words n ta ts weights own (now (coins .entry)) boxed ⌝ }
+    ensures { λ r. ⌜ r ≡ answerWith words n ta ts weights own (now (coins .entry)) boxed ⌝ }
 {
     if words != layout::STATE_WORDS {
         return refusal::NO_STATE;
@@ -52,7 +53,7 @@ fn open_answer(
     0
 }
 
-// The answer of an opening with a list of weights.
+// The answer of an opening with a list of weights; session number and input, here 0, have no part in it.
 pub fn answer(
     words: usize,
     n: u64,
@@ -63,7 +64,7 @@ pub fn answer(
     weights: &[u8],
     boxed: u64,
 ) -> u64
-    ensures { λ r. ⌜ r ≡ openAnswer words n ta ts (weightsWord n (now (weights .entry))) own (now (coins .entry)) boxed ⌝ }
+    ensures { λ r. ⌜ r ≡ openAnswer words (arguments n ta ts own 0 0 (now (coins .entry)) (now (weights .entry)) boxed) ⌝ }
 {
     open_answer(
         words,
@@ -99,7 +100,7 @@ fn put_settings(
     input: u64,
     boxed: u64,
 )
-    ensures { λ _. ⌜ now (s .exit) ≡ withSettings (now (s .entry)) n ta ts weights own session input boxed ⌝ }
+    ensures { λ _. ⌜ now (s .exit) ≡ settingsWith (now (s .entry)) n ta ts weights own session input boxed ⌝ }
 {
     records::put(s, layout::N, n);
     records::put(s, layout::TA, ta);
@@ -124,8 +125,8 @@ fn open_weighted(
     coins: &[u32],
     boxed: u64,
 ) -> u64
-    ensures answer { λ r. ⌜ r ≡ openAnswer (length (now (state .entry))) n ta ts weights own (now (coins .entry)) boxed ⌝ }
-    ensures words { λ _. ⌜ now (state .exit) ≡ opened (now (state .entry)) n ta ts weights own session input (now (coins .entry)) boxed ⌝ }
+    ensures answer { λ r. ⌜ r ≡ answerWith (length (now (state .entry))) n ta ts weights own (now (coins .entry)) boxed ⌝ }
+    ensures words { λ _. ⌜ now (state .exit) ≡ openedWith (now (state .entry)) n ta ts weights own session input (now (coins .entry)) boxed ⌝ }
 {
     let answer = open_answer(state.len(), n, ta, ts, weights, own, coins, boxed);
     if answer == 0 {
@@ -160,8 +161,8 @@ pub fn open(
     weights: &[u8],
     boxed: u64,
 ) -> u64
-    ensures answer { λ r. ⌜ r ≡ openAnswer (length (now (state .entry))) n ta ts (weightsWord n (now (weights .entry))) own (now (coins .entry)) boxed ⌝ }
-    ensures words { λ _. ⌜ now (state .exit) ≡ opened (now (state .entry)) n ta ts (weightsWord n (now (weights .entry))) own session input (now (coins .entry)) boxed ⌝ }
+    ensures answer { λ r. ⌜ r ≡ openAnswer (length (now (state .entry))) (arguments n ta ts own session input (now (coins .entry)) (now (weights .entry)) boxed) ⌝ }
+    ensures words { λ _. ⌜ now (state .exit) ≡ opened (now (state .entry)) (arguments n ta ts own session input (now (coins .entry)) (now (weights .entry)) boxed) ⌝ }
 {
     let w = weights::weights_word(n, weights);
     open_weighted(state, n, ta, ts, w, own, session, input, coins, boxed)

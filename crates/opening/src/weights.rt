@@ -1,4 +1,5 @@
 // The weights that an opening is given, checked one by one and put into one word.
+use settings::Settings;
 ghost use mathlib.Core.Path.{_≡_};
 ghost use Rattle.quorum.specs.Every.{every};
 ghost use Rattle.quorum.specs.Packed.{markIf, withWeight, packed};
@@ -51,7 +52,7 @@ fn all_given(weights: &[u8], n: u8) -> bool
 fn weights_given(weights: &[u8], n: u64) -> bool
     ensures { λ r. ⌜ r ≡ weightsGiven n (now (weights .entry)) ⌝ }
 {
-    if 16 < n {
+    if Settings::MAX_CONCENTRATORS < n {
         return false;
     }
     if weights.len() as u64 != n {

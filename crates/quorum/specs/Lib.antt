@@ -1,15 +1,9 @@
-pub mod Bools
 pub mod Marks
-pub mod MarkLaws
 pub mod Total
-pub mod TotalLaws
 pub mod Lowest
 pub mod Every
-pub mod MarkMasks
-pub mod Ones
 pub mod Weights
-pub mod WeighLaws
 pub mod Whole
 pub mod Packed
-pub mod RightMasks
 pub mod Marking
+pub mod laws

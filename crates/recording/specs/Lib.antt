@@ -1,3 +1,2 @@
 pub mod Recording
-pub mod Laws
-pub mod Cases
+pub mod laws

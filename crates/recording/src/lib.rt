@@ -5,7 +5,7 @@ use settings::Settings;
 use settings::refusal;
 ghost use mathlib.Core.Path.{_≡_};
 ghost use Rattle.recording.specs.Recording.{bitMark, otherMark, inLayout, unopposed, recordable, recordAnswer, withBit, recordedWords};
-ghost use Rattle.recording.specs.Cases.{runningAnswer};
+ghost use Rattle.recording.specs.laws.Cases.{runningAnswer};
 
 // Whether the session is boxed, and vote, round and bit are within the layout.
 fn in_layout(s: &[u64], n: u8, i: u64, r: u64, b: u64) -> bool
@@ -72,8 +72,8 @@ fn running_answer(s: &[u64], n: u8, i: u64, r: u64, b: u64) -> u64
 pub fn answer(s: &[u64], vote: u64, round: u64, bit: u64) -> u64
     ensures { λ a. ⌜ a ≡ recordAnswer (now (s .entry)) vote round bit ⌝ }
 {
-    let held = session::state_of(s);
-    match held {
+    let stored = session::state_of(s);
+    match stored {
         Stored::NoState => refusal::NO_STATE,
         Stored::Held(x) => running_answer(s, x.settings.n, vote, round, bit),
     }

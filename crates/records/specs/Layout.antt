@@ -31,10 +31,6 @@
 --                  marks p, 16 + p, 32 + p and 48 + p for EST 0, EST 1, AUX 0 and AUX 1 of sender p
 --     1536 to 2047 free
 use Prim.Native.Nat.{ℕ, _+_, _*_}
-use mathlib.Core.Bool.{Bool, true, _&&_}
-use mathlib.Core.List.{List, [], _∷_}
-use mathlib.Core.Path.{_≡_, refl}
-use lib.Dec.{leb}
 
 abbrev pub stateWords : ℕ
 stateWords = 2048
@@ -142,44 +138,16 @@ zeroMark r = 32 + r
 abbrev pub estSentMark : ℕ → ℕ → ℕ
 estSentMark r b = 32 * b + r
 
+-- a round's word has 16 marks for EST b, one for each sender, and 16 for AUX b: so many marks stand below them
+abbrev pub estGroup : ℕ → ℕ
+estGroup b = 16 * b
+
+abbrev pub auxGroup : ℕ → ℕ
+auxGroup b = 32 + 16 * b
+
 -- the marks of EST b and AUX b held from sender p
 abbrev pub estMark : ℕ → ℕ → ℕ
-estMark b p = 16 * b + p
+estMark b p = estGroup b + p
 
 abbrev pub auxMark : ℕ → ℕ → ℕ
-auxMark b p = 32 + 16 * b + p
-
--- The regions of the layout: first word and number of words, in rising order.
-pub record Region : Type 0 where
-  pub first : ℕ
-  pub words : ℕ
-
-region : ℕ → ℕ → Region
-region a k = record { first = a; words = k }
-
-pub regions : List Region
-regions =
-    region 0 8
-    ∷ region (coinAt 1) 16
-    ∷ region (roundAt 1) 16
-    ∷ region (estSentAt 1) 16
-    ∷ region (auxSentAt 1) 16
-    ∷ region (sendValueAt 1) 16
-    ∷ region (echoMarksAt 1) 16
-    ∷ region (readyMarksAt 1) 16
-    ∷ region (commitCountAt 1) 16
-    ∷ region echoSentAt 7
-    ∷ region (echoValueAt 1 1) 256
-    ∷ region (readyValueAt 1 1) 256
-    ∷ region (commitValueAt 1 1) 256
-    ∷ region (voteAt 1 1) 512
-    ∷ []
-
--- each region starts where the one before it has ended, or later, and all end within the state
-pub apart : ℕ → List Region → Bool
-apart k [] = leb k stateWords
-apart k (r ∷ rs) = leb k (r .first) && apart (r .first + r .words) rs
-
-pub regions-apart : apart 0 regions ≡ true
-unfolding apart regions region
-regions-apart = refl
+auxMark b p = auxGroup b + p

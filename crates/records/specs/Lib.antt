@@ -1,7 +1,5 @@
 pub mod Words
 pub mod Layout
 pub mod Records
-pub mod Fill
-pub mod Copy
-pub mod Bounds
-pub mod Cases
+pub mod Writing
+pub mod laws

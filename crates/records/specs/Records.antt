@@ -4,8 +4,17 @@ use mathlib.Core.Bool.{Bool, _||_}
 use mathlib.Core.List.{List}
 use lib.Dec.{eqb}
 use lib.ListN.{take, drop}
-use Rattle.records.specs.Layout.{flagsAt, closedMark, sendSentMark, commitSentMark, boxedAt, coinAt, zeroMark, roundAt, estSentAt, estSentMark, auxSentAt, sendMarksAt, sendValueAt, echoMarksAt, echoValueAt, readyMarksAt, readyValueAt, echoSentAt, readySentAt, decidedZeroAt, decidedOneAt, commitCountAt, commitValueAt, voteAt, estMark, auxMark}
+use Rattle.settings.specs.Settings.{maxConcentrators, movedOutRound}
+use Rattle.records.specs.Layout.{inputAt, turnsAt, flagsAt, closedMark, sendSentMark, commitSentMark, boxedAt, coinAt, zeroMark, roundAt, estSentAt, estSentMark, auxSentAt, sendMarksAt, sendValueAt, echoMarksAt, echoValueAt, readyMarksAt, readyValueAt, echoSentAt, readySentAt, decidedZeroAt, decidedOneAt, commitCountAt, commitValueAt, voteAt, estMark, auxMark}
 use Rattle.records.specs.Words.{word, marked}
+
+-- the own input, given at the opening
+abbrev pub ownInput : List ℕ → ℕ
+ownInput s = word s inputAt
+
+-- the turns since the opening that did not answer idle
+abbrev pub turnCount : List ℕ → ℕ
+turnCount s = word s turnsAt
 
 -- delivery and turn after closing are refused
 unfoldable pub closed : List ℕ → Bool
@@ -69,7 +78,7 @@ coinKnown s i r = printed s || coinRecorded s i r
 
 -- "Starting enters round 1 (before that the round is 0)"; 33 means moved out of round 32, and a higher one is no state
 unfoldable pub round : List ℕ → ℕ → ℕ
-round s i = min (word s (roundAt i)) 33
+round s i = min (word s (roundAt i)) movedOutRound
 
 unfoldable pub estSent : List ℕ → ℕ → ℕ → ℕ → Bool
 estSent s i r b = marked s (estSentAt i) (estSentMark r b)
@@ -88,7 +97,7 @@ decided s i = decidedZero s i || decidedOne s i
 
 -- the number of values in the COMMIT of sender p, 0 where none is held; one above n is no state, and 16 is all that has room
 unfoldable pub commitCount : List ℕ → ℕ → ℕ
-commitCount s p = min (word s (commitCountAt p)) 16
+commitCount s p = min (word s (commitCountAt p)) maxConcentrators
 
 unfoldable pub commitValue : List ℕ → ℕ → ℕ → ℕ
 commitValue s p k = word s (commitValueAt p k)

@@ -1,16 +1,12 @@
 -- The state as a list of words: one word read, one word put, one mark set.
-use Prim.Native.Nat.{ℕ, _+_, _-_, _≤_, _<_}
-use mathlib.Core.Bool.{Bool, true, false≢true}
-use mathlib.Core.List.{List}
-use mathlib.Core.Logic.{_≢_}
-use mathlib.Core.Path.{_≡_, refl, sym, ap, _∙_}
-use native.Mathlib.Omega.{arith}
-use native.Mathlib.Decide.{decLe, ℕ-discrete}
+-- The front of a list written over with the front of another, and what the loop that does so keeps.
+-- Lists of zeros, runs of stores, the front of a list written over, and what the loops that do so keep.
+use Prim.Native.Nat.{ℕ, _+_, _-_, zero, suc}
+use mathlib.Core.Bool.{Bool}
+use mathlib.Core.List.{List, _++_}
 use lib.Dec.{eqb}
-use lib.ListN.{length, getD, set, length-set, List·getD-eq-default}
-use lib.Seq.{set-out, getD-set-same, getD-set-other}
+use lib.ListN.{getD, set, take, drop, replicate}
 use Rattle.quorum.specs.Marks.{mark, withMark}
-use Rattle.quorum.specs.MarkLaws.{mark-same, mark-kept, mark-zero}
 
 -- the word at k, and 0 past the end
 unfoldable pub word : List ℕ → ℕ → ℕ
@@ -28,82 +24,19 @@ marked s k p = mark (word s k) p
 unfoldable pub equalAt : List ℕ → ℕ → ℕ → ℕ → Bool
 equalAt s b v p = eqb (word s (b + (p - 1))) v
 
--- a word has a mark for each of n words from b on, and all these are there
-pub record Reached (s : List ℕ) (b n : ℕ) : Type 0 where
-  pub few : n ≤ 64
-  pub there : b + n ≤ length s
-
 -- the state with mark p of word k set
 unfoldable pub setMark : List ℕ → ℕ → ℕ → List ℕ
 setMark s k p = put s k (withMark (word s k) p)
 
--- what was put is read back, and nothing else changes
+-- b with its first k elements those of a
+unfoldable pub copied : List ℕ → List ℕ → ℕ → List ℕ
+copied a b k = take k a ++ drop k b
 
-pub length-put : (s : List ℕ) (k v : ℕ) → length (put s k v) ≡ length s
-unfolding put
-length-put s k v = length-set s k v
+-- n words of 0
+unfoldable pub blank : ℕ → List ℕ
+blank n = replicate n 0
 
-pub word-put-same : (s : List ℕ) (k v : ℕ) → k < length s → word (put s k v) k ≡ v
-unfolding put word
-word-put-same s k v h = getD-set-same s k v 0 h
-
-pub word-put-other : (s : List ℕ) (k v j : ℕ) → j ≢ k → word (put s k v) j ≡ word s j
-unfolding put word
-word-put-other s k v j h = getD-set-other s k j v 0 h
-
-pub length-setMark : (s : List ℕ) (k p : ℕ) → length (setMark s k p) ≡ length s
-unfolding setMark
-length-setMark s k p = length-put s k (withMark (word s k) p)
-
-pub word-setMark-same : (s : List ℕ) (k p : ℕ) → k < length s → word (setMark s k p) k ≡ withMark (word s k) p
-unfolding setMark
-word-setMark-same s k p h = word-put-same s k (withMark (word s k) p) h
-
-pub word-setMark-other : (s : List ℕ) (k p j : ℕ) → j ≢ k → word (setMark s k p) j ≡ word s j
-unfolding setMark
-word-setMark-other s k p j h = word-put-other s k (withMark (word s k) p) j h
-
--- the cases of the code
-
-pub word-within : (s : List ℕ) (k : ℕ) → getD s k 0 ≡ word s k
-unfolding word
-word-within s k = refl
-
-pub word-past-end : (s : List ℕ) (k : ℕ) → length s ≤ k → 0 ≡ word s k
-unfolding word
-word-past-end s k h = sym (List·getD-eq-default s 0 h)
-
-pub put-within : (s : List ℕ) (k v : ℕ) → set s k v ≡ put s k v
-unfolding put
-put-within s k v = refl
-
-pub put-past-end : (s : List ℕ) (k v : ℕ) → length s ≤ k → s ≡ put s k v
-unfolding put
-put-past-end s k v h = sym (set-out s k v h)
-
-pub equal-inside : (s : List ℕ) (b v p : ℕ) → eqb (getD s (b + (p - 1)) 0) v ≡ equalAt s b v p
-unfolding equalAt word
-equal-inside s b v p = refl
-
-pub equal-test : (s : List ℕ) (b v p r : ℕ) → r ≡ word s (b + (p - 1)) → eqb r v ≡ equalAt s b v p
-unfolding equalAt
-equal-test s b v p r e = rw e
-
-pub ruleset words = (word-within, word-past-end, put-within, put-past-end)
-
--- a mark that is set is there, and all that were there stay
-
-pub marked-new : (s : List ℕ) (k p : ℕ) → k < length s → 1 ≤ p → p ≤ 64 → marked (setMark s k p) k p ≡ true
-unfolding marked
-marked-new s k p l lo hi = ap (λ (w : ℕ). mark w p) (word-setMark-same s k p l) ∙ mark-same (word s k) p lo hi
-
-pub marked-kept : (s : List ℕ) (j q k p : ℕ) → marked s k p ≡ true → marked (setMark s j q) k p ≡ true
-unfolding marked
-marked-kept s j q k p h = at (ℕ-discrete k j) (decLe (length s) k)
-  where
-    at : Dec (k ≡ j) → Dec (length s ≤ k) → mark (word (setMark s j q) k) p ≡ true
-    at (no ne) d = ap (λ (w : ℕ). mark w p) (word-setMark-other s j q k ne) ∙ h
-    at (yes e) (yes past) = absurd (false≢true (sym (mark-zero p) ∙ ap (λ (w : ℕ). mark w p) (word-past-end s k past) ∙ h))
-    at (yes e) (no within) =
-        let is : word (setMark s j q) k ≡ withMark (word s k) q = rw (← e) (word-setMark-same s k q (omega arith)) in
-        ap (λ (w : ℕ). mark w p) is ∙ mark-kept (word s k) q p h
+-- s with f k at a + k, for each k of 1 to n
+unfoldable pub storeOf : (ℕ → ℕ) → ℕ → List ℕ → ℕ → List ℕ
+storeOf f a s zero = s
+storeOf f a s (suc n) = put (storeOf f a s n) (a + suc n) (f (suc n))

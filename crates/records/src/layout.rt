@@ -66,3 +66,10 @@ pub const READY_VALUES: usize = 495;
 pub const COMMIT_VALUES: usize = 751;
 // Rows of 32 words: for each vote by round.
 pub const VOTES: usize = 991;
+
+// The groups of marks in such a word, 16 each: EST 0 and EST 1, then AUX 0 and AUX 1.
+pub const GROUP: u64 = 16;
+
+pub const AUX_ZERO: u64 = 32;
+
+pub const AUX_ONE: u64 = 48;

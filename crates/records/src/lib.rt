@@ -1,14 +1,22 @@
 // The state: 2,048 lent words, the place of each record among them, and total readers and writers.
 pub mod layout;
+pub mod writing;
 
+use settings::Settings;
+ghost use mathlib.Core.Bool.{_||_};
 ghost use mathlib.Core.Path.{_≡_};
-ghost use Prim.Native.Nat.{_≤_};
+ghost use Prim.Native.Nat.{_/_, _^_, _≤_};
 ghost use lib.ListN.{length};
 ghost use Rattle.quorum.specs.Marking.{MarksOf};
-ghost use Rattle.records.specs.Copy.{copied};
-ghost use Rattle.records.specs.Layout.{voteAt};
-ghost use Rattle.records.specs.Records.{closed, sendSent, commitSent, echoSent, readySent, sendHeld, sendValue, coin, printed, coinKnown, round, estSent, auxSent, decided, commitCount, commitValue};
-ghost use Rattle.records.specs.Words.{word, put, marked, equalAt, Reached, setMark};
+ghost use Rattle.quorum.specs.Weights.{weigh};
+ghost use Rattle.records.specs.Words.{copied};
+ghost use Rattle.records.specs.Records.{ownInput, turnCount, closed, sendSent, commitSent, echoSent, readySent, coin, printed, coinKnown, round, estSent, auxSent, decided};
+ghost use Rattle.records.specs.Records.{sendHeld, sendValue, echoHeld, readyHeld, estHeld, auxHeld, commitCount, commitValue};
+ghost use Rattle.records.specs.Layout.{auxGroup};
+ghost use Rattle.records.specs.Words.{word, put, marked, equalAt, setMark};
+ghost use Rattle.records.specs.laws.Words.{Reached};
+ghost use Rattle.records.specs.laws.MarkWords.{decidedZeroMarks, decidedOneMarks, voteMarks};
+ghost use Rattle.records.specs.laws.Sets.{SetRoom, SetCopied};
 
 // The word at k, and 0 past the end.
 pub fn word(s: &[u64], k: usize) -> u64
@@ -82,6 +90,19 @@ pub fn set_mark(s: &mut [u64], k: usize, p: u64)
     put(s, k, w);
 }
 
+pub fn own_input(s: &[u64]) -> u64
+    ensures { λ r. ⌜ r ≡ ownInput (now (s .entry)) ⌝ }
+{
+    word(s, layout::INPUT)
+}
+
+// The turns since the opening that were not idle.
+pub fn turn_count(s: &[u64]) -> u64
+    ensures { λ r. ⌜ r ≡ turnCount (now (s .entry)) ⌝ }
+{
+    word(s, layout::TURNS)
+}
+
 pub fn closed(s: &[u64]) -> bool
     ensures { λ r. ⌜ r ≡ closed (now (s .entry)) ⌝ }
 {
@@ -124,6 +145,20 @@ pub fn send_value(s: &[u64], i: u8) -> u64
     word(s, layout::SEND_VALUES + i as usize)
 }
 
+// Whether the ECHO of sender p is held in instance i.
+pub fn echo_held(s: &[u64], i: u8, p: u8) -> bool
+    ensures { λ r. ⌜ r ≡ echoHeld (now (s .entry)) i p ⌝ }
+{
+    marked(s, layout::ECHO_MARKS + i as usize, p as u64)
+}
+
+// Whether the READY of sender p is held in instance i.
+pub fn ready_held(s: &[u64], i: u8, p: u8) -> bool
+    ensures { λ r. ⌜ r ≡ readyHeld (now (s .entry)) i p ⌝ }
+{
+    marked(s, layout::READY_MARKS + i as usize, p as u64)
+}
+
 // The coin of vote i in round r.
 pub fn coin(s: &[u64], i: u8, r: u8) -> bool
     ensures { λ c. ⌜ c ≡ coin (now (s .entry)) i r ⌝ }
@@ -153,7 +188,11 @@ pub fn round(s: &[u64], i: u8) -> u8
     ensures { λ r. ⌜ r ≡ round (now (s .entry)) i ⌝ }
 {
     let r = word(s, layout::ROUNDS + i as usize);
-    if r < 33 { r as u8 } else { 33 }
+    if r < Settings::MOVED_OUT_ROUND as u64 {
+        r as u8
+    } else {
+        Settings::MOVED_OUT_ROUND
+    }
 }
 
 // Whether EST b was sent in round r of vote i.
@@ -170,6 +209,20 @@ pub fn aux_sent(s: &[u64], i: u8, r: u8) -> bool
     marked(s, layout::AUX_SENT + i as usize, r as u64)
 }
 
+// The votes decided 0: mark i for vote i.
+pub fn decided_zero_marks(s: &[u64]) -> u64
+    ensures { λ r. ⌜ r ≡ decidedZeroMarks (now (s .entry)) ⌝ }
+{
+    word(s, layout::DECIDED_ZERO)
+}
+
+// The votes decided 1.
+pub fn decided_one_marks(s: &[u64]) -> u64
+    ensures { λ r. ⌜ r ≡ decidedOneMarks (now (s .entry)) ⌝ }
+{
+    word(s, layout::DECIDED_ONE)
+}
+
 // Whether a decision stands in vote i.
 pub fn decided(s: &[u64], i: u8) -> bool
     ensures { λ r. ⌜ r ≡ decided (now (s .entry)) i ⌝ }
@@ -178,10 +231,63 @@ pub fn decided(s: &[u64], i: u8) -> bool
 }
 
 // The ESTs and AUXs held in round r of vote i, four groups of 16 marks.
-pub fn votes(s: &[u64], i: u8, r: u8) -> u64
-    ensures { λ w. ⌜ w ≡ word (now (s .entry)) (voteAt i r) ⌝ }
+pub fn vote_marks(s: &[u64], i: u8, r: u8) -> u64
+    ensures { λ w. ⌜ w ≡ voteMarks (now (s .entry)) i r ⌝ }
 {
     word(s, layout::VOTES + 32 * i as usize + r as usize)
+}
+
+// Whether EST b of sender p is held in round r of vote i.
+pub fn est_held(s: &[u64], i: u8, r: u8, b: u8, p: u8) -> bool
+    ensures { λ c. ⌜ c ≡ estHeld (now (s .entry)) i r b p ⌝ }
+{
+    quorum::mark(vote_marks(s, i, r), layout::GROUP * b as u64 + p as u64)
+}
+
+// Whether an AUX of sender p is held in round r of vote i.
+pub fn aux_held(s: &[u64], i: u8, r: u8, p: u8) -> bool
+    ensures { λ c. ⌜ c ≡ (auxHeld (now (s .entry)) i r 0 p || auxHeld (now (s .entry)) i r 1 p) ⌝ }
+{
+    let w = vote_marks(s, i, r);
+    quorum::mark(w, layout::AUX_ZERO + p as u64) | quorum::mark(w, layout::AUX_ONE + p as u64)
+}
+
+// The weight of the senders 1 to n whose ESTs of b are held in round r of vote i.
+pub fn est_weight(s: &[u64], i: u8, r: u8, b: u8, n: u8, weights: u64) -> u64
+    ensures { λ c. ⌜ c ≡ weigh weights (estHeld (now (s .entry)) i r b) n ⌝ }
+{
+    quorum::weigh_marks(
+        vote_marks(s, i, r),
+        layout::GROUP as u16 * b as u16,
+        n,
+        weights,
+    )
+}
+
+// The weight of the senders 1 to n whose held AUXs carry b.
+pub fn aux_weight(s: &[u64], i: u8, r: u8, b: u8, n: u8, weights: u64) -> u64
+    ensures { λ c. ⌜ c ≡ weigh weights (auxHeld (now (s .entry)) i r b) n ⌝ }
+{
+    quorum::weigh_marks(
+        vote_marks(s, i, r),
+        layout::AUX_ZERO as u16 + layout::GROUP as u16 * b as u16,
+        n,
+        weights,
+    )
+}
+
+// The AUXs of 0 in a round's word, mark p for sender p; marks above 16 mean nothing.
+pub fn aux_zero_marks(w: u64) -> u64
+    ensures { λ m. ⌜ m ≡ w / 2 ^ auxGroup 0 ⌝ }
+{
+    w >> layout::AUX_ZERO
+}
+
+// The AUXs of 1, likewise.
+pub fn aux_one_marks(w: u64) -> u64
+    ensures { λ m. ⌜ m ≡ w / 2 ^ auxGroup 1 ⌝ }
+{
+    w >> layout::AUX_ONE
 }
 
 // How many values the COMMIT of sender p has, and 0 where none is held.
@@ -189,7 +295,11 @@ pub fn commit_count(s: &[u64], p: u8) -> u8
     ensures { λ r. ⌜ r ≡ commitCount (now (s .entry)) p ⌝ }
 {
     let k = word(s, layout::COMMIT_COUNTS + p as usize);
-    if k < 16 { k as u8 } else { 16 }
+    if k < Settings::MAX_CONCENTRATORS {
+        k as u8
+    } else {
+        Settings::MAX_CONCENTRATORS as u8
+    }
 }
 
 // Value k of the COMMIT of sender p.
@@ -210,4 +320,15 @@ pub fn copy_front(from: &[u64], count: u8, out: &mut [u64])
         out[k] = from[k];
         k += 1;
     }
+}
+
+// Writes the set in the COMMIT of sender p at the front of out, and answers how many values it has.
+pub fn copy_commit(s: &[u64], p: u8, out: &mut [u64]) -> u8
+    requires { ⌜ SetRoom (now s) p (now out) ⌝ }
+    ensures { λ r. ⌜ SetCopied (now (s .entry)) p (now (out .entry)) (now (out .exit)) r ⌝ }
+{
+    let count = commit_count(s, p);
+    let from = layout::COMMIT_VALUES + 16 * p as usize + 1;
+    copy_front(&s[from..], count, out);
+    count
 }

@@ -1,3 +1,2 @@
 pub mod Report
-pub mod Laws
-pub mod Cases
+pub mod laws

@@ -1,21 +1,17 @@
 -- The report: "The report gives the exit, its set, the turn count, and the set in force or none."
 use Prim.Native.Nat.{ℕ}
-use mathlib.Core.Bool.{Bool, _||_, cond}
-use mathlib.Core.List.{List, [], _++_}
-use lib.ListN.{length, drop}
+use mathlib.Core.Bool.{_||_, not, cond}
+use mathlib.Core.List.{List, []}
+use lib.ListN.{length}
 use lib.Dec.{ltb}
 use Rattle.settings.specs.Refusals.{SHORT, NO-STATE}
-use Rattle.settings.specs.Settings.{quorum}
+use Rattle.settings.specs.Settings.{maxConcentrators, quorum}
 use Rattle.settings.specs.declared.Settings.{Settings}
-use Rattle.records.specs.Layout.{turnsAt}
-use Rattle.records.specs.Words.{word}
-use Rattle.records.specs.Records.{closed}
+use Rattle.records.specs.Records.{turnCount, closed}
 use Rattle.commits.specs.Commits.{leadingSet}
-use Rattle.exits.specs.Now.{exitNow}
-use Rattle.session.specs.Session.{stored}
-use Rattle.session.specs.declared.Session.{Session}
-use Rattle.session.specs.declared.Stored.{Stored}
-use Rattle.session.specs.declared.Stored.the-variants.{NoState, Held}
+use Rattle.exits.specs.Exits.{exitNow}
+use Rattle.session.specs.Session.{isState, settingsOf}
+use Rattle.wire.specs.Message.{atFront}
 use Rattle.report.specs.declared.Figures.{Figures}
 use Rattle.report.specs.declared.Admitted.{Admitted}
 use Rattle.report.specs.declared.Admitted.the-variants as admitted
@@ -35,30 +31,26 @@ figuresOf g s =
       exit = exitNow g s .number;
       named = length (exitNow g s .names);
       in_force = length (inForceSet g s);
-      turns = word s turnsAt;
+      turns = turnCount s;
     }
 
--- "8 SHORT: .. a report lent under 16 words for either set"
-unfoldable pub admittedIn : Settings → ℕ → ℕ → Admitted
-admittedIn g namedWords inForceWords = cond (ltb namedWords 16 || ltb inForceWords 16) (admitted.Refused SHORT) (admitted.Open g)
+-- the words lent for a set, which has at most one pack of each concentrator
+abbrev pub setWords : ℕ
+setWords = maxConcentrators
 
-unfoldable pub admittedFor : Stored → ℕ → ℕ → Admitted
-admittedFor NoState namedWords inForceWords = admitted.Refused NO-STATE
-admittedFor (Held x) namedWords inForceWords = admittedIn (x .settings) namedWords inForceWords
-
--- "Report 9, 8."
+-- "Report 9, 8.": the first refusal, or the settings. "8 SHORT: .. a report lent under 16 words for either set"
 unfoldable pub admits : List ℕ → ℕ → ℕ → Admitted
-admits s namedWords inForceWords = admittedFor (stored s) namedWords inForceWords
-
--- "a success writes .. a set's own words, and no others"
-unfoldable pub atFront : List ℕ → List ℕ → List ℕ
-atFront xs old = xs ++ drop (length xs) old
+admits s namedWords inForceWords =
+    cond (not (isState s)) (admitted.Refused NO-STATE)
+    (cond (ltb namedWords setWords || ltb inForceWords setWords) (admitted.Refused SHORT)
+    (admitted.Open (settingsOf s)))
 
 -- "A refusal yields its number and nothing else; state and buffers are untouched."
 unfoldable pub answerFor : Admitted → List ℕ → Answer
 answerFor (admitted.Refused k) s = Refused k
 answerFor (admitted.Open g) s = Given (figuresOf g s)
 
+-- "a success writes .. a set's own words, and no others"
 unfoldable pub namedFor : Admitted → List ℕ → List ℕ → List ℕ
 namedFor (admitted.Refused k) s old = old
 namedFor (admitted.Open g) s old = atFront (exitNow g s .names) old

@@ -7,13 +7,15 @@ use settings::refusal;
 ghost use mathlib.Core.Path.{_≡_};
 ghost use Prim.Native.Nat.{_≤_};
 ghost use lib.ListN.{length};
-ghost use Rattle.settings.specs.Laws.{Ruled};
-ghost use Rattle.records.specs.Copy.{copied};
+ghost use Rattle.settings.specs.Rules.{Ruled};
+ghost use Rattle.records.specs.Words.{copied};
 ghost use Rattle.commits.specs.Commits.{setOf};
-ghost use Rattle.exits.specs.Now.{exitNow};
+ghost use Rattle.exits.specs.Exits.{exitNow};
 ghost use Rattle.exits.specs.Stated.{Stated};
-ghost use Rattle.report.specs.Report.{admittedIn, admits, figuresOf, inForceSet, reportAnswer, reportNamed, reportInForce};
-ghost use Rattle.report.specs.Cases.{inForceSender, SetRoom, SetWritten, Room, Written};
+ghost use Rattle.report.specs.Report.{admits, figuresOf, inForceSet, reportAnswer, reportNamed, reportInForce};
+ghost use Rattle.records.specs.laws.Sets.{SetRoom};
+ghost use Rattle.report.specs.laws.Cases.{inForceSender, SetWritten, Room, Written};
+ghost use Rattle.report.specs.laws.Stored.{admittedIn};
 
 // What a report tells beside the sets, which stand at the front of the lent words: the exit, 0 for none, the number of
 // values named and in force, and the turns that were not idle.
@@ -36,7 +38,7 @@ pub enum Admitted {
 }
 
 // The words that a report must be lent for each set.
-pub const SET_WORDS: usize = 16;
+pub const SET_WORDS: usize = Settings::MAX_CONCENTRATORS as usize;
 
 // Whether there is room for both sets.
 fn admit_in(g: Settings, named: usize, in_force: usize) -> Admitted
@@ -56,8 +58,8 @@ fn admit(s: &[u64], named: usize, in_force: usize) -> Admitted
     if s.len() != layout::STATE_WORDS {
         return Admitted::Refused(refusal::NO_STATE);
     }
-    let held = session::state_of(s);
-    match held {
+    let stored = session::state_of(s);
+    match stored {
         Stored::NoState => Admitted::Refused(refusal::NO_STATE),
         Stored::Held(x) => admit_in(x.settings, named, in_force),
     }
@@ -69,10 +71,10 @@ fn exit_now(s: &[u64], g: Settings) -> Named
     ensures { λ r. ⌜ Stated r (exitNow g (now (s .entry))) ⌝ }
 {
     let mut values = [0u64; 16];
-    let held = broadcasts::outputs(s, g, &mut values);
-    let zero = records::word(s, layout::DECIDED_ZERO);
-    let one = records::word(s, layout::DECIDED_ONE);
-    exits::exit_of(g, held, &values, zero, one)
+    let outputs = broadcasts::outputs(s, g, &mut values);
+    let zero = records::decided_zero_marks(s);
+    let one = records::decided_one_marks(s);
+    exits::exit_of(g, outputs, &values, zero, one)
 }
 
 // The lowest sender that holds the set in force, and 0 if none is.
@@ -93,10 +95,7 @@ fn write_set(s: &[u64], p: u8, out: &mut [u64]) -> u8
     if p == 0 {
         return 0;
     }
-    let count = records::commit_count(s, p);
-    let from = layout::COMMIT_VALUES + 16 * p as usize + 1;
-    records::copy_front(&s[from..], count, out);
-    count
+    records::copy_commit(s, p, out)
 }
 
 // Writes the set in force, as `write_set` does.
@@ -129,7 +128,7 @@ fn write_report(s: &[u64], g: Settings, named: &mut [u64], in_force: &mut [u64])
         exit: x.exit,
         named: count,
         in_force: k,
-        turns: records::word(s, layout::TURNS),
+        turns: records::turn_count(s),
     }
 }
 

@@ -5,6 +5,7 @@ use mathlib.Core.List.{List, [], _∷_}
 use lib.Dec.{eqb, ltb}
 use lib.ListN.{length, replicate, take, drop, getD}
 use Rattle.text.specs.Numbers.{DECIMAL, digitOf, right}
+use Rattle.opening.specs.Arguments.{Arguments, arguments}
 use Rattle.journal.specs.Lines.{openingForms}
 
 -- a decimal of more than one digit that starts with 0
@@ -44,6 +45,11 @@ weightsFrom n xs = cond (eqb (length xs) (7 + n)) (replicate n 1) (take n (drop 
 -- whether coins are boxed, the last number: "older ones without it are printed"
 unfoldable pub boxedFrom : ℕ → List ℕ → ℕ
 boxedFrom n xs = getD xs (7 + n + n) 0
+
+-- the arguments of the opening of n concentrators that the numbers of its line stand for, from the third on
+abbrev pub argumentsFrom : ℕ → List ℕ → Arguments
+argumentsFrom n xs =
+    arguments n (getD xs 2 0) (getD xs 3 0) (getD xs 4 0) (getD xs 5 0) (getD xs 6 0) (take n (drop 7 xs)) (weightsFrom n xs) (boxedFrom n xs)
 
 -- a field of bytes, each two lower-case hexadecimal digits
 unfoldable pub hexRight : List ℕ → Bool

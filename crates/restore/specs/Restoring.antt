@@ -4,10 +4,10 @@ use mathlib.Core.Bool.{Bool, true, false, cond, _&&_, not}
 use mathlib.Core.List.{List, [], _∷_}
 use mathlib.Core.Option.{Option, none, some}
 use lib.Dec.{eqb, leb, ltb}
-use lib.ListN.{length, take, drop, getD}
+use lib.ListN.{length, getD}
 use Rattle.settings.specs.Refusals.{SHORT, NO-STATE}
 use Rattle.records.specs.Layout.{stateWords}
-use Rattle.opening.specs.Given.{weightsWord}
+use Rattle.opening.specs.Arguments.{Arguments}
 use Rattle.opening.specs.Opening.{openAnswer, openWords}
 use Rattle.delivery.specs.Delivery.{deliverAnswer, delivered}
 use Rattle.recording.specs.Recording.{recordAnswer, recordedWords}
@@ -17,7 +17,7 @@ use Rattle.text.specs.Numbers.{DECIMAL, valueOf, valuesOf}
 use Rattle.journal.specs.Lines.{LETTER-O, LETTER-D, LETTER-T, LETTER-K, VERSION, recordingForms}
 use Rattle.journal.specs.Journal.{acts}
 use Rattle.restore.specs.Complete.{linesOf, joined}
-use Rattle.restore.specs.Reading.{proper, allProper, fieldAt, formsFor, weightsFrom, boxedFrom, hexRight, bytesOf}
+use Rattle.restore.specs.Reading.{proper, allProper, fieldAt, formsFor, argumentsFrom, hexRight, bytesOf}
 use Rattle.restore.specs.declared.Restored.{Restored}
 use Rattle.restore.specs.declared.Restored.the-variants as answer
 
@@ -30,19 +30,13 @@ pub record Point : Type 0 where
   pub words : List ℕ
   pub turned : Option (List ℕ)
 
--- An `O` line of the numbers xs: version, n, ta, ts, own number, session, own input, coin words, weights, whether coins are
--- boxed. Its opening is accepted, or the line cannot be applied.
-unfoldable pub openedFrom : (n : ℕ) → List ℕ → (coins weights : List ℕ) (boxed : ℕ) → Option Point
-openedFrom n xs coins weights boxed =
-    cond (eqb (openAnswer stateWords n (getD xs 2 0) (getD xs 3 0) (weightsWord n weights) (getD xs 4 0) coins boxed) 0)
-    (some (record { words = openWords n (getD xs 2 0) (getD xs 3 0) (weightsWord n weights) (getD xs 4 0) (getD xs 5 0) (getD xs 6 0) coins boxed; turned = none }))
-    none
+-- An `O` line of these arguments. Its opening is accepted, or the line cannot be applied.
+unfoldable pub openedFrom : Arguments → Option Point
+openedFrom o = cond (eqb (openAnswer stateWords o) 0) (some (record { words = openWords o; turned = none })) none
 
+-- .. of the numbers xs: version, n, ta, ts, own number, session, own input, coin words, weights, whether coins are boxed
 unfoldable pub openingFrom : (n : ℕ) → List ℕ → Option Point
-openingFrom n xs =
-    cond (eqb (getD xs 0 0) VERSION && ltb (getD xs 5 0) (2 ^ 32))
-    (openedFrom n xs (take n (drop 7 xs)) (weightsFrom n xs) (boxedFrom n xs))
-    none
+openingFrom n xs = cond (eqb (getD xs 0 0) VERSION && ltb (getD xs 5 0) (2 ^ 32)) (openedFrom (argumentsFrom n xs)) none
 
 -- n stands in the second field; above 16 its opening is refused, whatever follows
 unfoldable pub openingRead : (n : ℕ) → List (List ℕ) → Option Point

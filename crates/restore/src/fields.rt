@@ -5,9 +5,9 @@ ghost use Prim.Native.Nat.{_≤_, _<_};
 ghost use lib.ListN.{length};
 ghost use Rattle.text.specs.Fields.{letter};
 ghost use Rattle.restore.specs.Reading.{zeroLed};
-ghost use Rattle.restore.specs.Parts.{Field};
-ghost use Rattle.restore.specs.Numbers.{digitsFrom, numberOf};
-ghost use Rattle.restore.specs.Hex.{byteOf, HexRead};
+ghost use Rattle.restore.specs.laws.Parts.{Field};
+ghost use Rattle.restore.specs.laws.Numbers.{digitsFrom, numberOf};
+ghost use Rattle.restore.specs.laws.Hex.{byteOf, HexRead};
 
 const TAB: u8 = 9;
 

@@ -7,14 +7,14 @@ ghost use lib.ListN.{length, getD, take};
 ghost use Rattle.restore.specs.Restoring.{openedFrom, openingFrom, openingRead, firstLine};
 ghost use Rattle.text.specs.Numbers.{valueOf};
 ghost use Rattle.restore.specs.Reading.{fieldAt, boxedFrom};
-ghost use Rattle.restore.specs.Parts.{fieldsAt};
-ghost use Rattle.restore.specs.Numbers.{numberOf};
-ghost use Rattle.restore.specs.Forms.{formAt, countRight, countedFrom};
-ghost use Rattle.restore.specs.Filling.{Stored, FieldsRead};
-ghost use Rattle.restore.specs.Opened.{CoinsFit, Copied, Weighed, WeightsAsked, WeightsRead};
-ghost use Rattle.restore.specs.Applying.{Tried};
-ghost use Rattle.restore.specs.Given.{OpenGiven};
-ghost use Rattle.restore.specs.First.{CountGiven};
+ghost use Rattle.restore.specs.laws.Parts.{fieldsAt};
+ghost use Rattle.restore.specs.laws.Numbers.{numberOf};
+ghost use Rattle.restore.specs.laws.Forms.{formAt, countRight, countedFrom};
+ghost use Rattle.restore.specs.laws.Filling.{Stored, FieldsRead};
+ghost use Rattle.restore.specs.laws.Opened.{CoinsFit, Copied, Weighed, WeightsAsked, WeightsRead};
+ghost use Rattle.restore.specs.laws.Applying.{Tried};
+ghost use Rattle.restore.specs.laws.Given.{argumentsWith, OpenGiven};
+ghost use Rattle.restore.specs.laws.First.{CountGiven};
 
 const WORD: u8 = 8;
 
@@ -145,7 +145,7 @@ fn open_with(
     boxed: u64,
 ) -> bool
     requires { ⌜ (7 ≤ length (now values)) × (getD (now values) 5 0 < 4294967296) × (length (now copy) ≡ 2048) ⌝ }
-    ensures { λ r. ⌜ Tried (openedFrom n (now (values .entry)) (now (coins .entry)) (now (weights .entry)) boxed) (now (copy .entry)) r (now (copy .exit)) ⌝ }
+    ensures { λ r. ⌜ Tried (openedFrom (argumentsWith n (now (values .entry)) (now (coins .entry)) (now (weights .entry)) boxed)) (now (copy .entry)) r (now (copy .exit)) ⌝ }
 {
     let answer = opening::open(
         copy,

@@ -12,7 +12,7 @@ ghost use Prim.Native.Nat.{_≤_};
 ghost use lib.ListN.{length};
 ghost use Rattle.restore.specs.Complete.{linesOf, joined};
 ghost use Rattle.restore.specs.Restoring.{replay, restoreAnswer, restoredWords, restoredBytes};
-ghost use Rattle.restore.specs.Restored.{Restores};
+ghost use Rattle.restore.specs.laws.Restored.{Restores};
 
 // The answer of a restore.
 pub enum Restored {

@@ -10,10 +10,10 @@ ghost use mathlib.Core.List.{[], _∷_};
 ghost use lib.ListN.{length, take};
 ghost use mathlib.Core.Path.{_≡_};
 ghost use Rattle.restore.specs.Restoring.{deliveredFrom, turnedFrom, recordedFrom, nextLine};
-ghost use Rattle.restore.specs.Parts.{fieldsAt};
-ghost use Rattle.restore.specs.Applying.{deliveredHex, Tried};
-ghost use Rattle.restore.specs.Recorded.{countedRecording, RecordGiven};
-ghost use Rattle.restore.specs.Turning.{Took, outcomeApplied, takenApplied};
+ghost use Rattle.restore.specs.laws.Parts.{fieldsAt};
+ghost use Rattle.restore.specs.laws.Applying.{deliveredHex, Tried};
+ghost use Rattle.restore.specs.laws.Recorded.{countedRecording, RecordGiven};
+ghost use Rattle.restore.specs.laws.Turning.{Took, outcomeApplied, takenApplied};
 
 const LETTER_D: u8 = 68;
 

@@ -1,7 +1,7 @@
 // A journal and a place in it. The borrow checker covers no function over such a struct, so each is proved by hand, and all other code calls
 // `line_end`, which has plain parameters.
 ghost use mathlib.Core.Path.{_≡_};
-ghost use Rattle.restore.specs.Places.{placeOf, lineEnd};
+ghost use Rattle.restore.specs.laws.Places.{placeOf, lineEnd};
 
 const LF: u8 = 10;
 

@@ -9,9 +9,9 @@ ghost use Prim.Native.Nat.{_≤_, _<_};
 ghost use lib.ListN.{length};
 ghost use Rattle.restore.specs.Complete.{linesOf, joined};
 ghost use Rattle.restore.specs.Restoring.{nextLine, appliedOr, replay};
-ghost use Rattle.restore.specs.Places.{lineEnd};
-ghost use Rattle.restore.specs.Applying.{Tried};
-ghost use Rattle.restore.specs.Replaying.{lineOf, Replays, Begun, Placed};
+ghost use Rattle.restore.specs.laws.Places.{lineEnd};
+ghost use Rattle.restore.specs.laws.Applying.{Tried};
+ghost use Rattle.restore.specs.laws.Replaying.{lineOf, Replays, Begun, Placed};
 
 // How far the lines but the last have been applied: the number of one that cannot be, or where the last one starts and ends, and its number.
 pub enum Place {

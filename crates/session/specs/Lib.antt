@@ -1,3 +1,2 @@
 pub mod Session
-pub mod Cases
-pub mod Laws
+pub mod laws

@@ -4,7 +4,7 @@ use mathlib.Core.Bool.{Bool, _&&_, cond}
 use mathlib.Core.List.{List}
 use lib.ListN.{length}
 use lib.Dec.{eqb, leb}
-use Rattle.settings.specs.Settings.{validSettings, settingsFrom, turnBound}
+use Rattle.settings.specs.Settings.{validSettings, settingsFrom, turnBound, movedOutRound}
 use Rattle.settings.specs.declared.Settings.{Settings}
 use Rattle.quorum.specs.Every.{every}
 use Rattle.records.specs.Layout.{stateWords, nAt, taAt, tsAt, ownAt, sessionAt, weightsAt, boxedAt, turnsAt, roundAt, commitCountAt}
@@ -19,7 +19,7 @@ numbered n own = leb 1 own && leb own n
 
 -- "a stored round above 33": none of votes 1 to n has one
 unfoldable pub roundsRight : List ℕ → ℕ → Bool
-roundsRight s n = every (λ i. leb (word s (roundAt i)) 33) n
+roundsRight s n = every (λ i. leb (word s (roundAt i)) movedOutRound) n
 
 -- "more than n values in a COMMIT": no sender 1 to n has so many
 unfoldable pub commitsRight : List ℕ → ℕ → Bool
@@ -45,9 +45,6 @@ sessionWith g s = record { settings = g; own = word s ownAt; number = word s ses
 
 unfoldable pub sessionOf : List ℕ → Session
 sessionOf s = sessionWith (settingsOf s) s
-
-unfoldable pub storedWith : Settings → List ℕ → Stored
-storedWith g s = cond (numbersRight g s) (Held (sessionWith g s)) NoState
 
 unfoldable pub stored : List ℕ → Stored
 stored s = cond (isState s) (Held (sessionOf s)) NoState

@@ -4,7 +4,8 @@ use settings::Checked;
 use settings::Settings;
 ghost use mathlib.Core.Path.{_≡_};
 ghost use Prim.Native.Nat.{_+_, _<_};
-ghost use Rattle.session.specs.Session.{numbered, numbersRight, sessionWith, storedWith, stored};
+ghost use Rattle.session.specs.Session.{numbered, numbersRight, sessionWith, stored};
+ghost use Rattle.session.specs.laws.Session.{storedWith};
 ghost use Rattle.records.specs.Words.{word};
 ghost use Rattle.records.specs.Layout.{ownAt};
 ghost use Rattle.quorum.specs.Every.{every};
@@ -66,7 +67,12 @@ fn numbers_right(s: &[u64], g: Settings) -> bool
     if g.turn_bound() < records::word(s, layout::TURNS) {
         return false;
     }
-    if !all_limited(s, layout::ROUNDS as u8, 33, g.n) {
+    if !all_limited(
+        s,
+        layout::ROUNDS as u8,
+        Settings::MOVED_OUT_ROUND as u64,
+        g.n,
+    ) {
         return false;
     }
     all_limited(s, layout::COMMIT_COUNTS as u8, g.n as u64, g.n)

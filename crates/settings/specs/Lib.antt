@@ -1,6 +1,4 @@
 pub mod Refusals
 pub mod Settings
-pub mod Laws
-pub mod Thresholds
-pub mod Cases
-pub mod Unnamed
+pub mod Rules
+pub mod laws

@@ -5,12 +5,14 @@ use mathlib.Core.Bool.{Bool, _&&_, cond}
 use lib.Dec.{eqb, ltb, leb}
 use Rattle.quorum.specs.Whole.{wholeOf, weightsRight}
 use Rattle.settings.specs.declared.Settings.{Settings}
-use Rattle.settings.specs.declared.Checked.{Checked}
-use Rattle.settings.specs.declared.Checked.the-variants.{Valid, Invalid}
+
+-- the most concentrators of a session
+abbrev pub maxConcentrators : ℕ
+maxConcentrators = 16
 
 -- "n from 1 to 16, with ta ≤ ts and 2·ts + ta < n", the last n being the sum of the weights; a weight of 0 or over 4 is against the rules
 unfoldable pub validSettings : ℕ → ℕ → ℕ → ℕ → Bool
-validSettings n ta ts w = leb 1 n && leb n 16 && weightsRight w n && leb ta ts && ltb (2 * ts + ta) (wholeOf w n)
+validSettings n ta ts w = leb 1 n && leb n maxConcentrators && weightsRight w n && leb ta ts && ltb (2 * ts + ta) (wholeOf w n)
 
 -- "ta given as 255 means unnamed"
 abbrev pub UNNAMED : ℕ
@@ -33,17 +35,13 @@ settingsFrom n ta ts w = record { n = n; ta = ta; ts = ts; whole = wholeOf w n; 
 abbrev pub settingsNamed : ℕ → ℕ → ℕ → ℕ → Settings
 settingsNamed n ta ts w = settingsFrom n (namedTa n ta ts w) ts w
 
--- settings within the rules; ta is taken as it is, so that a stored 255 is refused
-unfoldable pub checkSettings : ℕ → ℕ → ℕ → ℕ → Checked
-checkSettings n ta ts w = cond (validSettings n ta ts w) (Valid (settingsFrom n ta ts w)) Invalid
-
 -- "n−ts senders' COMMITs", "n−ts ECHOs", "n−ts senders' READYs", "at least n−ts broadcasts"
 unfoldable pub quorum : Settings → ℕ
 quorum g = g .whole - g .ts
 
 -- "ts+1 READYs", "a set held from ts+1 senders"
-unfoldable pub copy : Settings → ℕ
-copy g = g .ts + 1
+unfoldable pub repeat : Settings → ℕ
+repeat g = g .ts + 1
 
 -- "s ≥ n−ta", "at least n−ta held AUXs carry accepted values"
 unfoldable pub voteQuorum : Settings → ℕ
@@ -64,3 +62,7 @@ turnBound g = 99 * g .n + 3
 -- "the round, 1 to 32"
 abbrev pub roundLimit : ℕ
 roundLimit = 32
+
+-- the round of a vote that has moved out of round 32
+abbrev pub movedOutRound : ℕ
+movedOutRound = 33

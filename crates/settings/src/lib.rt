@@ -3,8 +3,9 @@ pub mod refusal;
 
 ghost use mathlib.Core.Path.{_≡_};
 ghost use Prim.Native.Nat.{_-_};
-ghost use Rattle.settings.specs.Settings.{largestTa, namedTa, checkSettings};
-ghost use Rattle.settings.specs.Settings.{quorum, copy, voteQuorum, relay, accept, turnBound};
+ghost use Rattle.settings.specs.Settings.{largestTa, namedTa};
+ghost use Rattle.settings.specs.laws.Settings.{checkSettings};
+ghost use Rattle.settings.specs.Settings.{quorum, repeat, voteQuorum, relay, accept, turnBound};
 
 // u8 fields: no threshold can wrap, so none has a `requires`. `whole` is the sum of the weights, which are one word.
 pub struct Settings {
@@ -44,8 +45,12 @@ fn largest_ta(whole: u64, ts: u64) -> u64
 }
 
 impl Settings {
+    // The most concentrators of a session.
+    pub const MAX_CONCENTRATORS: u64 = 16;
     // The last round of a vote.
     pub const ROUND_LIMIT: u8 = 32;
+    // The round of a vote that has moved out of the last.
+    pub const MOVED_OUT_ROUND: u8 = 33;
     // The ta that leaves it unnamed.
     pub const UNNAMED: u64 = 255;
 
@@ -64,7 +69,7 @@ impl Settings {
     pub fn check_named(n: u64, ta: u64, ts: u64, weights: u64) -> Checked
         ensures { λ r. ⌜ r ≡ checkSettings n (namedTa n ta ts weights) ts weights ⌝ }
     {
-        if 16 < n {
+        if Settings::MAX_CONCENTRATORS < n {
             return Checked::Invalid;
         }
         let meant = Settings::named_ta(n as u8, ta, ts, weights);
@@ -78,7 +83,7 @@ impl Settings {
         if n < 1 {
             return Checked::Invalid;
         }
-        if 16 < n {
+        if Settings::MAX_CONCENTRATORS < n {
             return Checked::Invalid;
         }
         let m = n as u8;
@@ -113,8 +118,8 @@ impl Settings {
     }
 
     // ts + 1: a READY or a COMMIT that is repeated.
-    pub fn copy(self) -> u64
-        ensures { λ r. ⌜ r ≡ copy self ⌝ }
+    pub fn repeat(self) -> u64
+        ensures { λ r. ⌜ r ≡ repeat self ⌝ }
     {
         self.ts as u64 + 1
     }

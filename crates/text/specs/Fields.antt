@@ -1,7 +1,8 @@
 -- A line as its fields.
-use Prim.Native.Nat.{ℕ}
+-- The texts of the items of a list, one after the other, and a loop that writes them.
+use Prim.Native.Nat.{ℕ, _+_}
 use mathlib.Core.Bool.{cond}
-use mathlib.Core.List.{List, [], _∷_}
+use mathlib.Core.List.{List, [], _∷_, _++_}
 use lib.Dec.{eqb}
 
 abbrev pub TAB : ℕ
@@ -26,3 +27,7 @@ unfoldable pub letter : List ℕ → ℕ
 letter [] = 0
 letter (c ∷ []) = c
 letter (c ∷ d ∷ f) = 0
+
+unfoldable pub eachText : (ℕ → List ℕ) → List ℕ → List ℕ
+eachText f [] = []
+eachText f (x ∷ xs) = f x ++ eachText f xs

@@ -1,7 +1,4 @@
 pub mod Fields
 pub mod Numbers
 pub mod Paste
-pub mod Each
-pub mod Digits
-pub mod DigitCases
-pub mod Lengths
+pub mod laws

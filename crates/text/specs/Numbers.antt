@@ -4,7 +4,7 @@ use mathlib.Core.Bool.{Bool, true, false, cond, _&&_}
 use mathlib.Core.List.{List, [], _∷_, _++_}
 use lib.ListN.{length}
 use lib.Dec.{eqb, leb, ltb}
-use Rattle.io.specs.Digits.{digits, glyph}
+use Rattle.io.specs.Digits.{digits}
 
 -- the value of a digit, `0` to `9` and then `a` to `f`, and 16 for any other byte
 unfoldable pub digitOf : ℕ → ℕ
@@ -76,11 +76,3 @@ decimalText n = decimalIn 20 n
 -- "16 lower-case hexadecimal digits"
 unfoldable pub hexText : ℕ → List ℕ
 hexText n = digits 16 16 n
-
--- 8 of them
-unfoldable pub wordText : ℕ → List ℕ
-wordText n = digits 16 8 n
-
--- a byte, as 2
-unfoldable pub byteText : ℕ → List ℕ
-byteText b = glyph (b / 16) ∷ glyph (b % 16) ∷ []

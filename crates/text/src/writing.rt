@@ -1,13 +1,14 @@
 // Text written into lent bytes. Each function writes from a place on, as far as the bytes go, and answers the place after it.
 ghost use mathlib.Core.List.{[], _∷_};
-ghost use Rattle.text.specs.Numbers.{decimalText, hexText, wordText, byteText};
+ghost use Rattle.text.specs.Numbers.{decimalText, hexText};
+ghost use Rattle.text.specs.laws.Numbers.{wordText, byteText};
 ghost use Rattle.io.specs.Digits.{glyph};
 ghost use Prim.Native.Nat.{_+_, _*_, _<_, _≤_};
 ghost use lib.ListN.{length};
 ghost use lib.Dec.{leb};
 ghost use mathlib.Core.Path.{_≡_};
 ghost use Rattle.text.specs.Paste.{Wrote};
-ghost use Rattle.text.specs.Each.{eachText};
+ghost use Rattle.text.specs.Fields.{eachText};
 
 pub fn put_byte(out: &mut [u8], at: usize, byte: u8) -> usize
     ensures { λ r. ⌜ Wrote (byte ∷ []) (now (out .entry)) at r (now (out .exit)) ⌝ }

@@ -4,18 +4,16 @@ use mathlib.Core.Bool.{cond}
 use mathlib.Core.List.{List, [], _∷_}
 use lib.ListN.{length}
 use lib.Dec.{eqb}
-use Rattle.settings.specs.Settings.{quorum, copy}
+use Rattle.settings.specs.Settings.{quorum, repeat}
 use Rattle.settings.specs.declared.Settings.{Settings}
-use Rattle.records.specs.Layout.{inputAt}
-use Rattle.records.specs.Words.{word}
-use Rattle.records.specs.Records.{sendSent, commitSent}
-use Rattle.acts.specs.Acts.{orAct, firstAct}
+use Rattle.records.specs.Records.{ownInput, sendSent, commitSent}
+use Rattle.acts.specs.Acts.{orAct}
 use Rattle.acts.specs.declared.Act.{Act}
 use Rattle.acts.specs.declared.Act.the-variants.{Idle, InForce, Commit, Send}
 use Rattle.broadcasts.specs.Leading.{present}
 use Rattle.broadcasts.specs.Broadcasts.{output, echoRule, readyRule}
-use Rattle.votes.specs.Votes.{votesDecidedOne, voteAct}
-use Rattle.exits.specs.Now.{exitNow}
+use Rattle.votes.specs.Votes.{voteRule}
+use Rattle.exits.specs.Exits.{exitNow}
 use Rattle.commits.specs.Commits.{setLeader, leadingSet}
 
 -- 1. "In force: n−ts senders' COMMITs hold the same set."
@@ -29,7 +27,7 @@ orSet (x ∷ xs) ys = x ∷ xs
 
 -- 2. "the set the exits name, else a set held from ts+1 senders (of several, the lowest sender's)"; none is []
 unfoldable pub commitDue : Settings → List ℕ → List ℕ
-commitDue g s = orSet (exitNow g s .names) (leadingSet (g .weights) s (g .n) (copy g))
+commitDue g s = orSet (exitNow g s .names) (leadingSet (g .weights) s (g .n) (repeat g))
 
 unfoldable pub commitOf : List ℕ → Act
 commitOf [] = Idle
@@ -41,13 +39,11 @@ commitRule g s = cond (commitSent s) Idle (commitOf (commitDue g s))
 
 -- 3. "SEND of the own input, once."
 unfoldable pub sendRule : List ℕ → Act
-sendRule s = cond (sendSent s) Idle (Send (word s inputAt))
+sendRule s = cond (sendSent s) Idle (Send (ownInput s))
 
 -- 6. "Votes, unless Exit 1 holds."
 unfoldable pub votesRule : Settings → List ℕ → Act
-votesRule g s =
-    cond (eqb (exitNow g s .number) 1) Idle
-    (firstAct (λ i. voteAct g s (present (output g s i)) (votesDecidedOne g s) i) (g .n))
+votesRule g s = cond (eqb (exitNow g s .number) 1) Idle (voteRule g s (λ i. present (output g s i)))
 
 -- the rules in their order
 unfoldable pub due : Settings → List ℕ → Act

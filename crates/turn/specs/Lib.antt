@@ -1,13 +1,3 @@
 pub mod Due
 pub mod Turn
-pub mod Told
-pub mod DueLaws
-pub mod Choosing
-pub mod Deciding
-pub mod Applying
-pub mod Admitting
-pub mod Taking
-pub mod Frame
-pub mod Marks
-pub mod Decisions
-pub mod Laws
+pub mod laws

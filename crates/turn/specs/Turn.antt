@@ -3,21 +3,18 @@ use Prim.Native.Nat.{ℕ, _+_}
 use mathlib.Core.Bool.{Bool, _&&_, not, cond}
 use mathlib.Core.List.{List}
 use lib.ListN.{length}
-use lib.Dec.{eqb, ltb}
+use lib.Dec.{ltb}
 use Rattle.settings.specs.Refusals.{SHORT, NO-STATE, CLOSED}
 use Rattle.settings.specs.Settings.{roundLimit}
-use Rattle.records.specs.Layout.{turnsAt, flagsAt, closedMark, sendSentMark, commitSentMark, echoSentAt, readySentAt, roundAt, estSentAt, estSentMark, auxSentAt, decidedZeroAt, decidedOneAt}
-use Rattle.records.specs.Words.{word, put, setMark}
-use Rattle.records.specs.Records.{closed, coin, decided}
+use Rattle.records.specs.Records.{turnCount, closed, coin, decided}
+use Rattle.records.specs.Writing.{withTurnCount, withRound, withDecision, withClosed, withCommitSent, withSendSent, withEchoSent, withReadySent, withEstSent, withAuxSent}
 use Rattle.acts.specs.Acts.{isDue}
 use Rattle.acts.specs.declared.Act.{Act}
 use Rattle.acts.specs.declared.Act.the-variants.{Idle, InForce, Commit, Send, Echo, Ready, Start, Relay, Aux, Move}
 use Rattle.acts.specs.declared.View.{View}
 use Rattle.votes.specs.Votes.{estimate, decides}
-use Rattle.session.specs.Session.{stored}
+use Rattle.session.specs.Session.{isState, sessionOf}
 use Rattle.session.specs.declared.Session.{Session}
-use Rattle.session.specs.declared.Stored.{Stored}
-use Rattle.session.specs.declared.Stored.the-variants.{NoState, Held}
 use Rattle.wire.specs.Message.{lengthOf, encode, atFront}
 use Rattle.wire.specs.declared.Message.the-variants as message
 use Rattle.turn.specs.Due.{due, commitDue}
@@ -53,56 +50,48 @@ sentLength outcome.MovedOut = 0
 sentLength outcome.InForce = 0
 
 -- "The count stored and reported is the number of turns since opening that did not answer idle"
-unfoldable pub counted : List ℕ → List ℕ
-counted s = put s turnsAt (word s turnsAt + 1)
+unfoldable pub withTurnCounted : List ℕ → List ℕ
+withTurnCounted s = withTurnCount s (turnCount s + 1)
 
 -- round r of vote i is entered, and its EST is sent: round 33 has none
 unfoldable pub entered : List ℕ → ℕ → ℕ → ℕ → List ℕ
-entered s i r b = cond (ltb roundLimit r) (put s (roundAt i) r) (setMark (put s (roundAt i) r) (estSentAt i) (estSentMark r b))
-
--- vote i is decided b
-unfoldable pub decidedAs : List ℕ → ℕ → ℕ → List ℕ
-decidedAs s i b = setMark s (cond (eqb b 0) decidedZeroAt decidedOneAt) i
+entered s i r b = cond (ltb roundLimit r) (withRound s i r) (withEstSent (withRound s i r) i r b)
 
 -- "vote i is decided b if b equals the coin and no decision stands"
 unfoldable pub newDecision : List ℕ → ℕ → ℕ → View → Bool
 newDecision s i r v = not (decided s i) && decides (coin s i r) v
 
 unfoldable pub moveDecided : List ℕ → ℕ → ℕ → View → List ℕ
-moveDecided s i r v = cond (newDecision s i r v) (decidedAs s i (estimate (coin s i r) v)) s
+moveDecided s i r v = cond (newDecision s i r v) (withDecision s i (estimate (coin s i r) v)) s
 
 -- "Moving enters the next round and sends its EST."
 unfoldable pub moved : List ℕ → ℕ → ℕ → View → List ℕ
 moved s i r v = entered (moveDecided s i r v) i (r + 1) (estimate (coin s i r) v)
 
 -- the state in which an act is marked as done
-unfoldable pub marked : List ℕ → Act → List ℕ
-marked s Idle = s
-marked s InForce = setMark s flagsAt closedMark
-marked s (Commit k) = setMark s flagsAt commitSentMark
-marked s (Send v) = setMark s flagsAt sendSentMark
-marked s (Echo i v) = setMark s echoSentAt i
-marked s (Ready i v) = setMark s readySentAt i
-marked s (Start i b) = entered s i 1 b
-marked s (Relay i r b) = setMark s (estSentAt i) (estSentMark r b)
-marked s (Aux i r b) = setMark s (auxSentAt i) r
-marked s (Move i r v) = moved s i r v
+unfoldable pub done : List ℕ → Act → List ℕ
+done s Idle = s
+done s InForce = withClosed s
+done s (Commit k) = withCommitSent s
+done s (Send v) = withSendSent s
+done s (Echo i v) = withEchoSent s i
+done s (Ready i v) = withReadySent s i
+done s (Start i b) = entered s i 1 b
+done s (Relay i r b) = withEstSent s i r b
+done s (Aux i r b) = withAuxSent s i r
+done s (Move i r v) = moved s i r v
 
 -- the state after an act; an idle turn is not counted
 unfoldable pub applied : List ℕ → Act → List ℕ
-applied s a = cond (isDue a) (marked (counted s) a) s
+applied s a = cond (isDue a) (done (withTurnCounted s) a) s
 
--- "10 CLOSED: delivery or turn after closing." "8 SHORT: a turn lent under 140 bytes"
-unfoldable pub admittedIn : Session → List ℕ → ℕ → Admitted
-admittedIn x s room = cond (closed s) (admitted.Refused CLOSED) (cond (ltb room 140) (admitted.Refused SHORT) (admitted.Open x))
-
-unfoldable pub admittedFor : Stored → List ℕ → ℕ → Admitted
-admittedFor NoState s room = admitted.Refused NO-STATE
-admittedFor (Held x) s room = admittedIn x s room
-
--- "Turn 9, 10, 8."
+-- "Turn 9, 10, 8.": the first refusal, or the session. "8 SHORT: a turn lent under 140 bytes"
 unfoldable pub admits : List ℕ → ℕ → Admitted
-admits s room = admittedFor (stored s) s room
+admits s room =
+    cond (not (isState s)) (admitted.Refused NO-STATE)
+    (cond (closed s) (admitted.Refused CLOSED)
+    (cond (ltb room 140) (admitted.Refused SHORT)
+    (admitted.Open (sessionOf s))))
 
 -- the bytes after an outcome: "a success writes a message's own bytes .. and no others"; the values of a COMMIT are its set
 unfoldable pub bytesAfter : Session → List ℕ → Outcome → List ℕ → List ℕ

@@ -1,17 +1,16 @@
 // What is due, by the turn order.
 use acts::Act;
 use exits::Named;
-use records::layout;
 use settings::Settings;
 ghost use mathlib.Core.Path.{_≡_};
-ghost use Rattle.settings.specs.Laws.{Ruled};
-ghost use Rattle.settings.specs.Settings.{copy};
+ghost use Rattle.settings.specs.Rules.{Ruled};
+ghost use Rattle.settings.specs.Settings.{repeat};
 ghost use Rattle.broadcasts.specs.Outputs.{Outputs};
 ghost use Rattle.exits.specs.Stated.{Stated};
 ghost use Rattle.commits.specs.Commits.{leadingSet};
 ghost use Rattle.turn.specs.Due.{inForceRule, commitDue, commitOf, commitRule, sendRule, due};
-ghost use Rattle.exits.specs.Now.{exitNow};
-ghost use Rattle.turn.specs.Choosing.{Readable, Chosen, lastRules, laterRules};
+ghost use Rattle.exits.specs.Exits.{exitNow};
+ghost use Rattle.turn.specs.laws.Choosing.{Readable, Chosen, lastRules, laterRules};
 
 // Rule 1: the COMMITs of senders of weight n − ts hold the same set.
 fn in_force_rule(s: &[u64], g: Settings) -> Act
@@ -26,15 +25,13 @@ fn in_force_rule(s: &[u64], g: Settings) -> Act
 // The COMMIT of a set that senders of weight ts + 1 hold, with the set beside it.
 fn repeated_commit(s: &[u64], g: Settings, set: &mut [u64; 16]) -> Act
     requires { ⌜ Readable g (now s) (now set) ⌝ }
-    ensures { λ r. ⌜ Chosen (commitOf (leadingSet (g .weights) (now (s .entry)) (g .n) (copy g))) (leadingSet (g .weights) (now (s .entry)) (g .n) (copy g)) r (now (set .exit)) ⌝ }
+    ensures { λ r. ⌜ Chosen (commitOf (leadingSet (g .weights) (now (s .entry)) (g .n) (repeat g))) (leadingSet (g .weights) (now (s .entry)) (g .n) (repeat g)) r (now (set .exit)) ⌝ }
 {
-    let p = commits::set_leader(s, g.weights, g.n, g.copy());
+    let p = commits::set_leader(s, g.weights, g.n, g.repeat());
     if p == 0 {
         return Act::Idle;
     }
-    let count = records::commit_count(s, p);
-    let from = layout::COMMIT_VALUES + 16 * p as usize + 1;
-    records::copy_front(&s[from..], count, set);
+    let count = records::copy_commit(s, p, set);
     Act::Commit(count)
 }
 
@@ -62,12 +59,12 @@ fn send_rule(s: &[u64]) -> Act
     if records::send_sent(s) {
         return Act::Idle;
     }
-    Act::Send(records::word(s, layout::INPUT))
+    Act::Send(records::own_input(s))
 }
 
-// Rules 5 and 6: `held` has mark i where broadcast i has output, `first` tells whether Exit 1 holds.
-fn last_rules(s: &[u64], g: Settings, held: u64, first: bool) -> Act
-    ensures { λ r. ⌜ r ≡ lastRules g (now (s .entry)) held first ⌝ }
+// Rules 5 and 6: `outputs` has mark i where broadcast i has output, `first` tells whether Exit 1 holds.
+fn last_rules(s: &[u64], g: Settings, outputs: u64, first: bool) -> Act
+    ensures { λ r. ⌜ r ≡ lastRules g (now (s .entry)) outputs first ⌝ }
 {
     let a = broadcasts::ready_rule(s, g);
     if acts::is_due(a) {
@@ -76,12 +73,12 @@ fn last_rules(s: &[u64], g: Settings, held: u64, first: bool) -> Act
     if first {
         return Act::Idle;
     }
-    votes::vote_rule(s, g, held, votes::votes_decided_one(s, g))
+    votes::vote_rule(s, g, outputs)
 }
 
 // Rules 3 to 6.
-fn later_rules(s: &[u64], g: Settings, held: u64, first: bool) -> Act
-    ensures { λ r. ⌜ r ≡ laterRules g (now (s .entry)) held first ⌝ }
+fn later_rules(s: &[u64], g: Settings, outputs: u64, first: bool) -> Act
+    ensures { λ r. ⌜ r ≡ laterRules g (now (s .entry)) outputs first ⌝ }
 {
     let a = send_rule(s);
     if acts::is_due(a) {
@@ -91,17 +88,17 @@ fn later_rules(s: &[u64], g: Settings, held: u64, first: bool) -> Act
     if acts::is_due(b) {
         return b;
     }
-    last_rules(s, g, held, first)
+    last_rules(s, g, outputs, first)
 }
 
 // The exit of a state, from the outputs of its broadcasts.
-fn exit_now(s: &[u64], g: Settings, held: u64, values: &[u64; 16]) -> Named
-    requires { ⌜ (Ruled g) × (Outputs g (now s) (g .n) held (now values)) ⌝ }
+fn exit_now(s: &[u64], g: Settings, outputs: u64, values: &[u64; 16]) -> Named
+    requires { ⌜ (Ruled g) × (Outputs g (now s) (g .n) outputs (now values)) ⌝ }
     ensures { λ r. ⌜ Stated r (exitNow g (now (s .entry))) ⌝ }
 {
-    let zero = records::word(s, layout::DECIDED_ZERO);
-    let one = records::word(s, layout::DECIDED_ONE);
-    exits::exit_of(g, held, values, zero, one)
+    let zero = records::decided_zero_marks(s);
+    let one = records::decided_one_marks(s);
+    exits::exit_of(g, outputs, values, zero, one)
 }
 
 // The first thing due; the set of a COMMIT stands at the front of `set`.
@@ -114,11 +111,11 @@ pub fn due(s: &[u64], g: Settings, set: &mut [u64; 16]) -> Act
         return a;
     }
     let mut values = [0u64; 16];
-    let held = broadcasts::outputs(s, g, &mut values);
-    let named = exit_now(s, g, held, &values);
+    let outputs = broadcasts::outputs(s, g, &mut values);
+    let named = exit_now(s, g, outputs, &values);
     let b = commit_rule(s, g, named, set);
     if acts::is_due(b) {
         return b;
     }
-    later_rules(s, g, held, named.exit == 1)
+    later_rules(s, g, outputs, named.exit == 1)
 }

@@ -14,8 +14,8 @@ ghost use mathlib.Core.Path.{_≡_};
 ghost use lib.ListN.{length};
 ghost use Rattle.turn.specs.Due.{due};
 ghost use Rattle.turn.specs.Turn.{moveOutcome, outcomeOf, applied, admits, bytesAfter, turnOutcome, turnWords, turnBytes};
-ghost use Rattle.turn.specs.Admitting.{Admitting};
-ghost use Rattle.turn.specs.Taking.{writtenFor};
+ghost use Rattle.turn.specs.laws.Admitting.{Admitting};
+ghost use Rattle.turn.specs.laws.Taking.{writtenFor};
 
 // The answer of a turn.
 pub enum Outcome {
@@ -44,8 +44,8 @@ fn admit(s: &[u64], room: usize) -> Admitted
     if s.len() != layout::STATE_WORDS {
         return Admitted::Refused(refusal::NO_STATE);
     }
-    let held = session::state_of(s);
-    match held {
+    let stored = session::state_of(s);
+    match stored {
         Stored::NoState => Admitted::Refused(refusal::NO_STATE),
         Stored::Held(x) => {
             if records::closed(s) {

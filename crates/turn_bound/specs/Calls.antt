@@ -12,6 +12,7 @@ use Rattle.settings.specs.declared.Settings.{Settings}
 use Rattle.records.specs.Layout.{turnsAt}
 use Rattle.records.specs.Words.{word}
 use Rattle.session.specs.Session.{settingsOf, isState}
+use Rattle.opening.specs.Arguments.{Arguments, settingsBy}
 use Rattle.turn.specs.Turn.{turnOutcome, turnWords}
 use Rattle.text.specs.Fields.{fields, letter}
 use Rattle.journal.specs.Lines.{LETTER-T}
@@ -19,7 +20,7 @@ use Rattle.journal.specs.Journal.{acts, openNumber, openedWords, deliveredWords
 use Rattle.restore.specs.Complete.{linesOf}
 use Rattle.restore.specs.Reading.{fieldAt}
 use Rattle.restore.specs.Restoring.{Point, firstLine, restoreAnswer, restoredWords, accepted}
-use Rattle.turn_bound.specs.TurnBound.{Arguments, settingsBy, Reports}
+use Rattle.turn_bound.specs.TurnBound.{Reports}
 
 -- a call with what it is lent: the bytes for its line come last; a restore is lent a journal and bytes for a message; "each accepted recording, a
 -- repeat too, becomes a `K` line of the journal (vote, round, bit)"
@@ -32,14 +33,14 @@ pub data Call : Type 0 where
   recording : ℕ → ℕ → ℕ → List ℕ → Call
 
 abbrev pub openNumberBy : List ℕ → Arguments → List ℕ → ℕ
-openNumberBy s o line = openNumber (length s) (o .n) (o .ta) (o .ts) (o .own) (o .coins) (o .weights) (o .boxed) (length line)
+openNumberBy s o line = openNumber (length s) o (length line)
 
 abbrev pub restoreTaken : List ℕ → (journal out : List ℕ) → Bool
 restoreTaken s journal out = accepted (restoreAnswer s journal (length out))
 
 -- the words after a call on the words s
 unfoldable pub called : List ℕ → Call → List ℕ
-called s (opening o line) = openedWords s (o .n) (o .ta) (o .ts) (o .own) (o .session) (o .input) (o .coins) (o .weights) (o .boxed) (length line)
+called s (opening o line) = openedWords s o (length line)
 called s (delivery link b line) = deliveredWords s link b (length line)
 called s (turn out line) = turnWords s (turnRoom (length out) (length line))
 called s report = s

@@ -1,52 +1,19 @@
 -- The count of turns after an opening, and its bound, as a claim about a whole list of calls at one concentrator.
-use Prim.Native.Nat.{ℕ, _+_, _≤_}
-use mathlib.Core.Bool.{true, cond}
+use Prim.Native.Nat.{ℕ}
+use mathlib.Core.Bool.{cond}
 use mathlib.Core.List.{List, [], _∷_}
 use mathlib.Core.Path.{_≡_}
 use lib.Dec.{eqb}
 use lib.ListN.{length}
-use Rattle.settings.specs.Settings.{settingsNamed, turnBound}
 use Rattle.settings.specs.declared.Settings.{Settings}
-use Rattle.records.specs.Layout.{turnsAt}
-use Rattle.records.specs.Words.{word}
-use Rattle.session.specs.Session.{isState}
-use Rattle.opening.specs.Given.{weightsWord}
+use Rattle.opening.specs.Arguments.{Arguments, settingsBy}
 use Rattle.opening.specs.Opening.{openAnswer, opened}
 use Rattle.delivery.specs.Delivery.{delivered}
 use Rattle.recording.specs.Recording.{recordedWords}
-use Rattle.turn.specs.Turn.{turnOutcome, turnWords}
+use Rattle.turn.specs.Turn.{turnWords}
 use Rattle.report.specs.Report.{reportAnswer}
 use Rattle.report.specs.declared.Figures.{Figures}
 use Rattle.report.specs.declared.Answer.the-variants.{Given}
-use Rattle.journal.specs.Journal.{acts}
-
--- the arguments of an opening
-pub record Arguments : Type 0 where
-  pub n : ℕ
-  pub ta : ℕ
-  pub ts : ℕ
-  pub own : ℕ
-  pub session : ℕ
-  pub input : ℕ
-  pub coins : List ℕ
-  pub weights : List ℕ
-  -- "Opening says whether coins are printed or boxed" (request N12): 0 or 1
-  pub boxed : ℕ
-
--- the weights as one word
-abbrev pub weightsBy : Arguments → ℕ
-weightsBy o = weightsWord (o .n) (o .weights)
-
--- the answer of an opening of the words s: 0 is accepted
-abbrev pub answer : List ℕ → Arguments → ℕ
-answer s o = openAnswer (length s) (o .n) (o .ta) (o .ts) (weightsBy o) (o .own) (o .coins) (o .boxed)
-
--- the words after it
-abbrev pub openedBy : List ℕ → Arguments → List ℕ
-openedBy s o = opened s (o .n) (o .ta) (o .ts) (weightsBy o) (o .own) (o .session) (o .input) (o .coins) (o .boxed)
-
-abbrev pub settingsBy : Arguments → Settings
-settingsBy o = settingsNamed (o .n) (o .ta) (o .ts) (weightsBy o)
 
 -- a call: an opening, a delivery of any bytes from any link, a turn lent any bytes, a report, or "the host has recorded that round's bit in the
 -- state" (request N12): a recording of any vote, round and bit
@@ -60,25 +27,16 @@ pub data Step : Type 0 where
 -- the words after a list of calls, newest first, on the words s; a report writes none of them
 unfoldable pub after : List ℕ → List Step → List ℕ
 after s [] = s
-after s (opening o ∷ cs) = openedBy (after s cs) o
+after s (opening o ∷ cs) = opened (after s cs) o
 after s (delivery link b ∷ cs) = delivered (after s cs) link b
 after s (turn out ∷ cs) = turnWords (after s cs) (length out)
 after s (report ∷ cs) = after s cs
 after s (recording i r b ∷ cs) = recordedWords (after s cs) i r b
 
--- "the number of turns since opening that did not answer idle": an accepted opening starts anew, a recording is no turn
-unfoldable pub acting : List ℕ → List Step → ℕ
-acting s [] = 0
-acting s (opening o ∷ cs) = cond (eqb (answer (after s cs) o) 0) 0 (acting s cs)
-acting s (delivery link b ∷ cs) = acting s cs
-acting s (turn out ∷ cs) = cond (acts (turnOutcome (after s cs) (length out))) (acting s cs + 1) (acting s cs)
-acting s (report ∷ cs) = acting s cs
-acting s (recording i r b ∷ cs) = acting s cs
-
 -- the settings of the last accepted opening, g before any
 unfoldable pub current : Settings → List ℕ → List Step → Settings
 current g s [] = g
-current g s (opening o ∷ cs) = cond (eqb (answer (after s cs) o) 0) (settingsBy o) (current g s cs)
+current g s (opening o ∷ cs) = cond (eqb (openAnswer (length (after s cs)) o) 0) (settingsBy o) (current g s cs)
 current g s (delivery link b ∷ cs) = current g s cs
 current g s (turn out ∷ cs) = current g s cs
 current g s (report ∷ cs) = current g s cs
@@ -89,19 +47,3 @@ pub record Reports (w : List ℕ) (k : ℕ) : Type 0 where
   pub figures : Figures
   pub given : reportAnswer w 16 16 ≡ Given figures
   pub count : figures .turns ≡ k
-
--- what holds after the calls cs, where the last accepted opening has settings g; s are the words after the first one
-pub record Counted (g : Settings) (s : List ℕ) (cs : List Step) : Type 0 where
-  -- "The count stored and reported is the number of turns since opening that did not answer idle"
-  pub stored : word (after s cs) turnsAt ≡ acting s cs
-  pub reported : Reports (after s cs) (acting s cs)
-  -- "Apart from idle, a session takes at most 99·n+3 turns, whatever was delivered."
-  pub bounded : acting s cs ≤ turnBound g
-  -- so no call after an accepted opening makes the words "9 NO STATE"
-  pub state : isState (after s cs) ≡ true
-
--- for every accepted opening of any buffer and every list of calls after it, further openings, accepted or refused, among them
-unfoldable pub TurnCount : Type 0
-TurnCount =
-    (s : List ℕ) (o : Arguments) → answer s o ≡ 0 →
-    (cs : List Step) → Counted (current (settingsBy o) (openedBy s o) cs) (openedBy s o) cs

@@ -13,7 +13,7 @@ use Rattle.acts.specs.declared.Act.the-variants.{Idle}
 use Rattle.broadcasts.specs.Broadcasts.{echoAct, readyOf}
 use Rattle.broadcasts.specs.Leading.{valueOf, orOutput}
 use Rattle.broadcasts.specs.declared.Output.{Output}
-use Rattle.unweighted.specs.Settings.{Settings, quorum, copy}
+use Rattle.unweighted.specs.Settings.{Settings, quorum, repeat}
 
 -- how many senders hold v
 unfoldable pub holders : (ℕ → Bool) → (ℕ → ℕ) → ℕ → ℕ → ℕ
@@ -34,7 +34,7 @@ output g s i = leading (readyHeld s i) (readyValue s i) (g .n) (quorum g)
 -- "a value with n−ts ECHOs, else one with ts+1 READYs (of several, the lowest sender's)"
 unfoldable pub readyDue : Settings → List ℕ → ℕ → Output
 readyDue g s i =
-    orOutput (leading (echoHeld s i) (echoValue s i) (g .n) (quorum g)) (leading (readyHeld s i) (readyValue s i) (g .n) (copy g))
+    orOutput (leading (echoHeld s i) (echoValue s i) (g .n) (quorum g)) (leading (readyHeld s i) (readyValue s i) (g .n) (repeat g))
 
 -- "READY, once for each instance"
 unfoldable pub readyAct : Settings → List ℕ → ℕ → Act

@@ -9,7 +9,7 @@ use Rattle.acts.specs.declared.Act.{Act}
 use Rattle.acts.specs.declared.Act.the-variants.{Idle, InForce}
 use Rattle.broadcasts.specs.Leading.{present}
 use Rattle.turn.specs.Due.{orSet, commitOf, sendRule}
-use Rattle.unweighted.specs.Settings.{Settings, quorum, copy}
+use Rattle.unweighted.specs.Settings.{Settings, quorum, repeat}
 use Rattle.unweighted.specs.Broadcasts.{output, echoRule, readyRule}
 use Rattle.unweighted.specs.Votes.{votesDecidedOne, voteAct}
 use Rattle.unweighted.specs.Exits.{exitNow}
@@ -21,7 +21,7 @@ inForceRule g s = cond (eqb (setLeader s (g .n) (quorum g)) 0) Idle InForce
 
 -- 2. "the set the exits name, else a set held from ts+1 senders (of several, the lowest sender's)"; none is []
 unfoldable pub commitDue : Settings → List ℕ → List ℕ
-commitDue g s = orSet (exitNow g s .names) (leadingSet s (g .n) (copy g))
+commitDue g s = orSet (exitNow g s .names) (leadingSet s (g .n) (repeat g))
 
 -- 2. "COMMIT, if none sent"
 unfoldable pub commitRule : Settings → List ℕ → Act

@@ -8,7 +8,6 @@ use Rattle.settings.specs.Refusals.{SHORT, NO-STATE}
 use Rattle.records.specs.Layout.{turnsAt}
 use Rattle.records.specs.Words.{word}
 use Rattle.records.specs.Records.{closed}
-use Rattle.report.specs.Report.{atFront}
 use Rattle.report.specs.declared.Figures.{Figures}
 use Rattle.report.specs.declared.Answer.{Answer}
 use Rattle.report.specs.declared.Answer.the-variants.{Refused, Given}
@@ -16,6 +15,7 @@ use Rattle.unweighted.specs.Settings.{Settings, quorum}
 use Rattle.unweighted.specs.Session.{settingsOf, isState}
 use Rattle.unweighted.specs.Exits.{exitNow}
 use Rattle.unweighted.specs.Commits.{leadingSet}
+use Rattle.wire.specs.Message.{atFront}
 
 -- "n−ts senders' COMMITs hold the same set. The set is in force; the session is closed here."; [] is none
 unfoldable pub inForceSet : Settings → List ℕ → List ℕ

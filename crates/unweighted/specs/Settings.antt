@@ -23,8 +23,8 @@ unfoldable pub quorum : Settings → ℕ
 quorum g = g .n - g .ts
 
 -- "ts+1 READYs", "a set held from ts+1 senders"
-unfoldable pub copy : Settings → ℕ
-copy g = g .ts + 1
+unfoldable pub repeat : Settings → ℕ
+repeat g = g .ts + 1
 
 -- "s ≥ n−ta", "at least n−ta held AUXs carry accepted values"
 unfoldable pub voteQuorum : Settings → ℕ

@@ -10,14 +10,14 @@ use lib.ListN.{length}
 use Rattle.quorum.specs.Weights.{weightOf}
 use Rattle.records.specs.Layout.{nAt, weightsAt}
 use Rattle.records.specs.Words.{word, put}
-use Rattle.opening.specs.Given.{weightsWord}
-use Rattle.opening.specs.Ones.{onesGiven}
+use Rattle.opening.specs.Given.{onesGiven}
+use Rattle.opening.specs.Arguments.{Arguments}
 use Rattle.opening.specs.Opening.{openAnswer, opened}
 use Rattle.delivery.specs.Delivery.{deliverAnswer, delivered}
 use Rattle.recording.specs.Recording.{recordAnswer, recordedWords}
 use Rattle.turn.specs.Turn.{turnOutcome, turnWords, turnBytes}
 use Rattle.report.specs.Report.{reportAnswer, reportNamed, reportInForce}
-use Rattle.turn_bound.specs.TurnBound.{Arguments, answer, openedBy, Step, opening, delivery, turn, report, recording, after}
+use Rattle.turn_bound.specs.TurnBound.{Step, opening, delivery, turn, report, recording, after}
 use Rattle.unweighted.specs.Opening as unweighted-opening
 use Rattle.unweighted.specs.Delivery as unweighted-delivery
 use Rattle.unweighted.specs.Recording as unweighted-recording
@@ -26,19 +26,20 @@ use Rattle.unweighted.specs.Report as unweighted-report
 
 -- ---- an opening that is given n weights of 1
 
+unfoldable pub GivenOnes : Arguments → Type 0
+GivenOnes o = o .weights ≡ onesGiven (o .n)
+
 -- its answer, where the buffer has so many words; coins are printed or boxed
 unfoldable pub AnswersAlike : Type 0
-AnswersAlike =
-    (words n ta ts own : ℕ) (coins : List ℕ) (boxed : ℕ) →
-    openAnswer words n ta ts (weightsWord n (onesGiven n)) own coins boxed ≡ unweighted-opening.openAnswer words n ta ts own coins boxed
+AnswersAlike = (words : ℕ) (o : Arguments) → GivenOnes o → openAnswer words o ≡ unweighted-opening.openAnswer words o
 
 -- the words after it, on any words s
-pub record OpensAlike (s : List ℕ) (n ta ts own session input : ℕ) (coins : List ℕ) (boxed : ℕ) : Type 0 where
+pub record OpensAlike (s : List ℕ) (o : Arguments) : Type 0 where
   -- accepted: the unweighted words but for the word of the weights
-  pub accepted : unweighted-opening.openAnswer (length s) n ta ts own coins boxed ≡ 0 → opened s n ta ts (weightsWord n (onesGiven n)) own session input coins boxed ≡ put (unweighted-opening.opened s n ta ts own session input coins boxed) weightsAt (2 ^ n - 1)
+  pub accepted : unweighted-opening.openAnswer (length s) o ≡ 0 → opened s o ≡ put (unweighted-opening.opened s o) weightsAt (2 ^ o .n - 1)
   -- refused: the words are untouched
-  pub refused : unweighted-opening.openAnswer (length s) n ta ts own coins boxed ≢ 0 → opened s n ta ts (weightsWord n (onesGiven n)) own session input coins boxed ≡ s
-  pub unweighted-refused : unweighted-opening.openAnswer (length s) n ta ts own coins boxed ≢ 0 → unweighted-opening.opened s n ta ts own session input coins boxed ≡ s
+  pub refused : unweighted-opening.openAnswer (length s) o ≢ 0 → opened s o ≡ s
+  pub unweighted-refused : unweighted-opening.openAnswer (length s) o ≢ 0 → unweighted-opening.opened s o ≡ s
 
 -- ---- the other calls, on words in which all weights are 1
 
@@ -61,11 +62,7 @@ pub record Alike (s : List ℕ) : Type 0 where
 
 -- ---- lists of calls
 
--- an opening is given n weights of 1
-unfoldable pub GivenOnes : Arguments → Type 0
-GivenOnes o = o .weights ≡ onesGiven (o .n)
-
--- so is each opening of a list of calls
+-- each opening of a list of calls is given weights of 1
 unfoldable pub EachGivenOnes : List Step → Type 0
 EachGivenOnes [] = Unit
 EachGivenOnes (opening o ∷ cs) = GivenOnes o × EachGivenOnes cs
@@ -74,17 +71,10 @@ EachGivenOnes (turn out ∷ cs) = EachGivenOnes cs
 EachGivenOnes (report ∷ cs) = EachGivenOnes cs
 EachGivenOnes (recording i r b ∷ cs) = EachGivenOnes cs
 
--- an unweighted opening takes the same arguments but the weights
-abbrev pub unweightedAnswer : List ℕ → Arguments → ℕ
-unweightedAnswer s o = unweighted-opening.openAnswer (length s) (o .n) (o .ta) (o .ts) (o .own) (o .coins) (o .boxed)
-
-abbrev pub unweightedOpenedBy : List ℕ → Arguments → List ℕ
-unweightedOpenedBy s o = unweighted-opening.opened s (o .n) (o .ta) (o .ts) (o .own) (o .session) (o .input) (o .coins) (o .boxed)
-
 -- the words after a list of calls of an unweighted session, newest first, on the words s; a report writes none of them
 unfoldable pub unweightedAfter : List ℕ → List Step → List ℕ
 unweightedAfter s [] = s
-unweightedAfter s (opening o ∷ cs) = unweightedOpenedBy (unweightedAfter s cs) o
+unweightedAfter s (opening o ∷ cs) = unweighted-opening.opened (unweightedAfter s cs) o
 unweightedAfter s (delivery link b ∷ cs) = unweighted-delivery.delivered (unweightedAfter s cs) link b
 unweightedAfter s (turn out ∷ cs) = unweighted-turn.turnWords (unweightedAfter s cs) (length out)
 unweightedAfter s (report ∷ cs) = unweightedAfter s cs
@@ -97,7 +87,7 @@ pub record SideBySide (w u : List ℕ) : Type 0 where
   -- .. and gives each of 1 to n the weight 1 in the other
   pub weights : AllOne w
   -- a further opening, given weights of 1, has the same answer
-  pub opening-answer : (o : Arguments) → GivenOnes o → answer w o ≡ unweightedAnswer u o
+  pub opening-answer : (o : Arguments) → GivenOnes o → openAnswer (length w) o ≡ unweighted-opening.openAnswer (length u) o
   -- a further delivery has the same answer
   pub delivery-answer : (link : ℕ) (b : List ℕ) → deliverAnswer w link b ≡ unweighted-delivery.deliverAnswer u link b
   -- a further recording has the same answer
@@ -118,9 +108,10 @@ pub record Unweighted : Type 0 where
   -- an opening given weights of 1 has the unweighted answer ..
   pub openings-answer : AnswersAlike
   -- .. and leaves the unweighted words but for that of the weights, on any words, foreign ones too
-  pub openings : (s : List ℕ) (n ta ts own session input : ℕ) (coins : List ℕ) (boxed : ℕ) → OpensAlike s n ta ts own session input coins boxed
+  pub openings : (s : List ℕ) (o : Arguments) → GivenOnes o → OpensAlike s o
   -- every other call is the unweighted one on any words in which all weights are 1, foreign ones too
   pub calls : (s : List ℕ) → AllOne s → Alike s
   -- after an accepted opening of any words and every list of calls, further openings among them, each given weights of 1, the run
   -- and the unweighted run of the same calls stand side by side
-  pub runs : (s : List ℕ) (o : Arguments) → answer s o ≡ 0 → GivenOnes o → (cs : List Step) → EachGivenOnes cs → SideBySide (after (openedBy s o) cs) (unweightedAfter (unweightedOpenedBy s o) cs)
+  pub runs : (s : List ℕ) (o : Arguments) → openAnswer (length s) o ≡ 0 → GivenOnes o → (cs : List Step) → EachGivenOnes cs →
+      SideBySide (after (opened s o) cs) (unweightedAfter (unweighted-opening.opened s o) cs)

@@ -1,6 +1,6 @@
 -- Rule 6 of the turn order: what is due in a vote. Votes use ta.
 use Prim.Native.Nat.{ℕ, min}
-use mathlib.Core.Bool.{Bool, _&&_, cond}
+use mathlib.Core.Bool.{Bool, _&&_, _||_, cond}
 use mathlib.Core.List.{List}
 use lib.Dec.{eqb, leb, ltb}
 use Rattle.settings.specs.Settings.{roundLimit}
@@ -10,7 +10,7 @@ use Rattle.acts.specs.Acts.{orAct, firstAct}
 use Rattle.acts.specs.declared.Act.{Act}
 use Rattle.acts.specs.declared.Act.the-variants.{Idle, Start, Relay, Aux, Move}
 use Rattle.acts.specs.declared.View.{View}
-use Rattle.votes.specs.Votes.{running, carries, viewOf}
+use Rattle.votes.specs.Votes.{running, viewOf}
 use Rattle.unweighted.specs.Settings.{Settings, voteQuorum, relay, accept}
 
 -- how many senders' ESTs of b are held in round r of vote i
@@ -52,27 +52,31 @@ auxValue g s i r = cond (accepted g s i r 0) (Aux i r 0) (cond (accepted g s i r
 unfoldable pub auxAct : Settings → List ℕ → ℕ → Act
 auxAct g s i = cond (auxSent s i (round s i)) Idle (auxValue g s i (round s i))
 
--- how many held AUXs carry accepted values; a0 and a1 tell which values are accepted
-unfoldable pub carriers : Settings → List ℕ → ℕ → ℕ → Bool → Bool → ℕ
-carriers g s i r a0 a1 = count (carries s i r a0 a1) (g .n)
+-- the AUX held from sender p carries an accepted value
+unfoldable pub carries : Settings → List ℕ → ℕ → ℕ → ℕ → Bool
+carries g s i r p = (accepted g s i r 0 && auxHeld s i r 0 p) || (accepted g s i r 1 && auxHeld s i r 1 p)
 
--- how many held AUXs carry b
-unfoldable pub auxCount : Settings → List ℕ → ℕ → ℕ → ℕ → ℕ
-auxCount g s i r b = count (auxHeld s i r b) (g .n)
+-- how many held AUXs carry accepted values
+unfoldable pub carriers : Settings → List ℕ → ℕ → ℕ → ℕ
+carriers g s i r = count (carries g s i r) (g .n)
+
+-- b is carried: it is accepted, and an AUX of b is held
+unfoldable pub carried : Settings → List ℕ → ℕ → ℕ → ℕ → Bool
+carried g s i r b = accepted g s i r b && ltb 0 (count (auxHeld s i r b) (g .n))
 
 -- the values that the accepted AUXs of a round carry
-unfoldable pub view : Settings → List ℕ → ℕ → ℕ → Bool → Bool → View
-view g s i r a0 a1 = viewOf (a0 && ltb 0 (auxCount g s i r 0)) (a1 && ltb 0 (auxCount g s i r 1))
+unfoldable pub view : Settings → List ℕ → ℕ → ℕ → View
+view g s i r = viewOf (carried g s i r 0) (carried g s i r 1)
 
 -- "when at least n−ta held AUXs carry accepted values"
-unfoldable pub moveValue : Settings → List ℕ → ℕ → ℕ → Bool → Bool → Act
-moveValue g s i r a0 a1 = cond (leb (voteQuorum g) (carriers g s i r a0 a1)) (Move i r (view g s i r a0 a1)) Idle
+unfoldable pub moveValue : Settings → List ℕ → ℕ → ℕ → Act
+moveValue g s i r = cond (leb (voteQuorum g) (carriers g s i r)) (Move i r (view g s i r)) Idle
 
 -- "Move, after the own AUX"; "In a boxed session every move is due only once the host has recorded that round's bit in the state"
 unfoldable pub moveAct : Settings → List ℕ → ℕ → Act
 moveAct g s i =
     cond (auxSent s i (round s i) && coinKnown s i (round s i))
-    (moveValue g s i (round s i) (accepted g s i (round s i) 0) (accepted g s i (round s i) 1))
+    (moveValue g s i (round s i))
     Idle
 
 -- AUX and move of a vote that is in one of its rounds

@@ -1,5 +1,2 @@
 pub mod Votes
-pub mod Cases
-pub mod Told
-pub mod Views
-pub mod Laws
+pub mod laws

@@ -5,7 +5,6 @@ use mathlib.Core.List.{List}
 use lib.Dec.{eqb, leb, ltb}
 use Rattle.settings.specs.Settings.{voteQuorum, relay, accept, roundLimit}
 use Rattle.settings.specs.declared.Settings.{Settings}
-use Rattle.quorum.specs.Marks.{mark}
 use Rattle.quorum.specs.Weights.{weigh}
 use Rattle.records.specs.Records.{estHeld, auxHeld, round, estSent, auxSent, decidedOne, coinKnown}
 use Rattle.acts.specs.Acts.{orAct, firstAct}
@@ -57,17 +56,21 @@ auxValue g s i r = cond (accepted g s i r 0) (Aux i r 0) (cond (accepted g s i r
 unfoldable pub auxAct : Settings → List ℕ → ℕ → Act
 auxAct g s i = cond (auxSent s i (round s i)) Idle (auxValue g s i (round s i))
 
--- the AUX held from sender p carries an accepted value; a0 and a1 tell which values are accepted
-unfoldable pub carries : List ℕ → ℕ → ℕ → Bool → Bool → ℕ → Bool
-carries s i r a0 a1 p = (a0 && auxHeld s i r 0 p) || (a1 && auxHeld s i r 1 p)
+-- the AUX held from sender p carries an accepted value
+unfoldable pub carries : Settings → List ℕ → ℕ → ℕ → ℕ → Bool
+carries g s i r p = (accepted g s i r 0 && auxHeld s i r 0 p) || (accepted g s i r 1 && auxHeld s i r 1 p)
 
 -- the weight of the senders whose held AUXs carry accepted values
-unfoldable pub carriers : Settings → List ℕ → ℕ → ℕ → Bool → Bool → ℕ
-carriers g s i r a0 a1 = weigh (g .weights) (carries s i r a0 a1) (g .n)
+unfoldable pub carriers : Settings → List ℕ → ℕ → ℕ → ℕ
+carriers g s i r = weigh (g .weights) (carries g s i r) (g .n)
 
 -- the weight of the senders whose held AUXs carry b
 unfoldable pub auxCount : Settings → List ℕ → ℕ → ℕ → ℕ → ℕ
 auxCount g s i r b = weigh (g .weights) (auxHeld s i r b) (g .n)
+
+-- b is carried: it is accepted, and an AUX of b is held
+unfoldable pub carried : Settings → List ℕ → ℕ → ℕ → ℕ → Bool
+carried g s i r b = accepted g s i r b && ltb 0 (auxCount g s i r b)
 
 -- "If those carry just one value b .. If they carry both": z and o tell whether 0 and 1 are carried
 abbrev pub viewOf : Bool → Bool → View
@@ -76,18 +79,18 @@ viewOf true false = Only 0
 viewOf false o = Only 1
 
 -- the values that the accepted AUXs of a round carry
-unfoldable pub view : Settings → List ℕ → ℕ → ℕ → Bool → Bool → View
-view g s i r a0 a1 = viewOf (a0 && ltb 0 (auxCount g s i r 0)) (a1 && ltb 0 (auxCount g s i r 1))
+unfoldable pub view : Settings → List ℕ → ℕ → ℕ → View
+view g s i r = viewOf (carried g s i r 0) (carried g s i r 1)
 
 -- "when at least n−ta held AUXs carry accepted values"
-unfoldable pub moveValue : Settings → List ℕ → ℕ → ℕ → Bool → Bool → Act
-moveValue g s i r a0 a1 = cond (leb (voteQuorum g) (carriers g s i r a0 a1)) (Move i r (view g s i r a0 a1)) Idle
+unfoldable pub moveValue : Settings → List ℕ → ℕ → ℕ → Act
+moveValue g s i r = cond (leb (voteQuorum g) (carriers g s i r)) (Move i r (view g s i r)) Idle
 
 -- "Move, after the own AUX"; request N12: where coins are boxed "every move is due only once the host has recorded that round's bit in the state"
 unfoldable pub moveAct : Settings → List ℕ → ℕ → Act
 moveAct g s i =
     cond (auxSent s i (round s i) && coinKnown s i (round s i))
-    (moveValue g s i (round s i) (accepted g s i (round s i) 0) (accepted g s i (round s i) 1))
+    (moveValue g s i (round s i))
     Idle
 
 -- AUX and move of a vote that is in one of its rounds
@@ -98,9 +101,9 @@ roundAct g s i = cond (running s i) (orAct (auxAct g s i) (moveAct g s i)) Idle
 unfoldable pub voteAct : Settings → List ℕ → Bool → ℕ → ℕ → Act
 voteAct g s hasOutput decidedOnes i = orAct (startAct g s hasOutput decidedOnes i) (orAct (relayAct g s i) (roundAct g s i))
 
--- rule 6, lower instances first: `held` has mark i where broadcast i has output
-unfoldable pub voteRule : Settings → List ℕ → ℕ → ℕ → Act
-voteRule g s held decidedOnes = firstAct (λ i. voteAct g s (mark held i) decidedOnes i) (g .n)
+-- rule 6, lower instances first: `hasOutput i` tells whether broadcast i has output
+unfoldable pub voteRule : Settings → List ℕ → (ℕ → Bool) → Act
+voteRule g s hasOutput = firstAct (λ i. voteAct g s (hasOutput i) (votesDecidedOne g s) i) (g .n)
 
 -- the coin as a value: 1 where its bit is set
 abbrev pub coinValue : Bool → ℕ

@@ -1,38 +1,27 @@
 // Votes, rule 6 of the turn order: the start, relay, AUX or move that is due.
 use acts::Act;
-use records::layout;
 use settings::Settings;
 ghost use mathlib.Core.Path.{_≡_};
 ghost use Prim.Native.Nat.{min};
 ghost use Rattle.settings.specs.Settings.{roundLimit};
 ghost use Rattle.records.specs.Records.{round};
 ghost use Rattle.votes.specs.Votes.{estCount, accepted, votesDecidedOne, startAct, relayValue, relayRound, relayAct, running, auxValue, auxAct};
-ghost use Rattle.votes.specs.Votes.{carriers, auxCount, viewOf, view, moveValue, moveAct, roundAct, voteAct, voteRule, coinValue, estimate, decides};
-
-// The groups of marks in a round's word: EST 0 and EST 1, then AUX 0 and AUX 1.
-const AUX_ZERO: u16 = 32;
-
-const AUX_ONE: u16 = 48;
-
-const GROUP: u16 = 16;
+ghost use Rattle.quorum.specs.Marks.{mark};
+ghost use Rattle.votes.specs.Votes.{auxCount, viewOf, moveAct, roundAct, voteAct, voteRule, coinValue, estimate, decides};
+ghost use Rattle.votes.specs.laws.Given.{carriersGiven, viewGiven, moveGiven};
 
 // The weight of the senders whose ESTs of b are held in round r of vote i.
 fn est_count(s: &[u64], g: Settings, i: u8, r: u8, b: u8) -> u64
     ensures { λ c. ⌜ c ≡ estCount g (now (s .entry)) i r b ⌝ }
 {
-    quorum::weigh_marks(records::votes(s, i, r), GROUP * b as u16, g.n, g.weights)
+    records::est_weight(s, i, r, b, g.n, g.weights)
 }
 
 // The weight of the senders whose held AUXs carry b.
 fn aux_count(s: &[u64], g: Settings, i: u8, r: u8, b: u8) -> u64
     ensures { λ c. ⌜ c ≡ auxCount g (now (s .entry)) i r b ⌝ }
 {
-    quorum::weigh_marks(
-        records::votes(s, i, r),
-        AUX_ZERO + GROUP * b as u16,
-        g.n,
-        g.weights,
-    )
+    records::aux_weight(s, i, r, b, g.n, g.weights)
 }
 
 // Whether ESTs of weight 2·ta + 1 hold b in round r of vote i.
@@ -46,7 +35,7 @@ pub fn accepted(s: &[u64], g: Settings, i: u8, r: u8, b: u8) -> bool
 pub fn votes_decided_one(s: &[u64], g: Settings) -> u64
     ensures { λ c. ⌜ c ≡ votesDecidedOne g (now (s .entry)) ⌝ }
 {
-    quorum::weigh_marks(records::word(s, layout::DECIDED_ONE), 0, g.n, g.weights)
+    quorum::weigh_marks(records::decided_one_marks(s), 0, g.n, g.weights)
 }
 
 // The start of vote i, where it is due: `output` tells whether broadcast i has output, `ones` counts the votes decided 1.
@@ -144,11 +133,11 @@ pub fn aux_act(s: &[u64], g: Settings, i: u8) -> Act
 // The weight of the held AUXs that carry accepted values; a0 and a1 tell which values are accepted. A sender counts once, also where a
 // foreign state holds both values of it.
 fn carriers(s: &[u64], g: Settings, i: u8, r: u8, a0: bool, a1: bool) -> u64
-    ensures { λ c. ⌜ c ≡ carriers g (now (s .entry)) i r a0 a1 ⌝ }
+    ensures { λ c. ⌜ c ≡ carriersGiven g (now (s .entry)) i r a0 a1 ⌝ }
 {
-    let w = records::votes(s, i, r);
-    let zero = quorum::share(a0, w >> AUX_ZERO);
-    let one = quorum::share(a1, w >> AUX_ONE);
+    let w = records::vote_marks(s, i, r);
+    let zero = quorum::share(a0, records::aux_zero_marks(w));
+    let one = quorum::share(a1, records::aux_one_marks(w));
     quorum::weigh_marks(zero | one, 0, g.n, g.weights)
 }
 
@@ -169,7 +158,7 @@ fn view_of(zero: bool, one: bool) -> acts::View
 
 // The values that the accepted AUXs of a round carry.
 fn view(s: &[u64], g: Settings, i: u8, r: u8, a0: bool, a1: bool) -> acts::View
-    ensures { λ v. ⌜ v ≡ view g (now (s .entry)) i r a0 a1 ⌝ }
+    ensures { λ v. ⌜ v ≡ viewGiven g (now (s .entry)) i r a0 a1 ⌝ }
 {
     let zero = a0 & (0 < aux_count(s, g, i, r, 0));
     let one = a1 & (0 < aux_count(s, g, i, r, 1));
@@ -178,7 +167,7 @@ fn view(s: &[u64], g: Settings, i: u8, r: u8, a0: bool, a1: bool) -> acts::View
 
 // The move out of round r, where held AUXs of weight n − ta carry accepted values.
 fn move_value(s: &[u64], g: Settings, i: u8, r: u8, a0: bool, a1: bool) -> Act
-    ensures { λ a. ⌜ a ≡ moveValue g (now (s .entry)) i r a0 a1 ⌝ }
+    ensures { λ a. ⌜ a ≡ moveGiven g (now (s .entry)) i r a0 a1 ⌝ }
 {
     if g.vote_quorum() <= carriers(s, g, i, r, a0, a1) {
         return Act::Move(i, r, view(s, g, i, r, a0, a1));
@@ -234,15 +223,16 @@ pub fn vote_act(s: &[u64], g: Settings, output: bool, ones: u64, i: u8) -> Act
     round_act(s, g, i)
 }
 
-// Rule 6, lower votes first: `held` has mark i where broadcast i has output.
-pub fn vote_rule(s: &[u64], g: Settings, held: u64, ones: u64) -> Act
-    ensures { λ a. ⌜ a ≡ voteRule g (now (s .entry)) held ones ⌝ }
+// Rule 6, lower votes first: `outputs` has mark i where broadcast i has output.
+pub fn vote_rule(s: &[u64], g: Settings, outputs: u64) -> Act
+    ensures { λ a. ⌜ a ≡ voteRule g (now (s .entry)) (mark outputs) ⌝ }
 {
+    let ones = votes_decided_one(s, g);
     let n = g.n;
     let mut i: u8 = 0;
     while i < n {
         i += 1;
-        let a = vote_act(s, g, quorum::mark(held, i as u64), ones, i);
+        let a = vote_act(s, g, quorum::mark(outputs, i as u64), ones, i);
         if acts::is_due(a) {
             return a;
         }

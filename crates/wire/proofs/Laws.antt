@@ -1,7 +1,7 @@
 -- Laws of numbers in bytes, of the values of a message, and of what is written.
 use Prim.Native.Nat.{ℕ, zero, suc, _+_, _*_, _-_, _<_, _≤_}
 use mathlib.Core.Path.{_≡_, refl, ap, sym, _∙_}
-use mathlib.Core.Bool.{Bool, true, false, not, false≢true, _&&_}
+use mathlib.Core.Bool.{true, false, _&&_}
 use mathlib.Core.List.{List, [], _∷_, _++_, append-assoc, append-nil}
 use native.Mathlib.Numerals.{add-one}
 use native.Mathlib.Omega.{arith}
@@ -13,7 +13,8 @@ use lib.Dec.{ltb}
 use borrow.Rule.Slice.PartMut.{putMid}
 use borrow.Author.Tests.{lt-ltb, le-ltb, le-leb, lt-leb, eq-eqb, ne-eqb}
 use Rattle.wire.specs.Bytes.{be2, be4, be8, valueAt, values, risesFrom, rises, bytes2, bytes4, bytes8, valueBytes}
-use Rattle.wire.specs.Message.{SEND, ECHO, READY, EST, AUX, byKind, countOf, lengthOf, besides, valuesOf, headerFor, frontBytes, headerBytes, messageBytes, encode, fitting, atFront, written, Wrote}
+use Rattle.wire.specs.Message.{SEND, ECHO, READY, EST, AUX, byKind, countOf, lengthOf, besides, valuesOf, headerFor, frontBytes, headerBytes, messageBytes, encode, atFront}
+use Rattle.wire.specs.laws.Message.{fitting, written, Wrote}
 use Rattle.wire.specs.declared.Message.{Message}
 use Rattle.wire.specs.declared.Message.the-variants.{Send, Echo, Ready, Est, Aux, Commit}
 use Rattle.wire.specs.declared.Header.{Header}
@@ -125,17 +126,17 @@ module _ (v : List ℕ) (count : ℕ) where
 
 pub ruleset rising-laws = (rising-start, rising-next, rising-stop, rising-done)
 
--- P has been written at the front of o, and then Q into the part after it
-pub patch : (P Q o xs ys : List ℕ) (a b : ℕ) → length P ≡ a → length Q ≡ b → a + b ≤ length o →
-    xs ≡ P ++ drop a o → ys ≡ Q ++ drop b (take (length xs - a) (drop a xs)) →
-    putMid a (length xs - a) xs ys ≡ (P ++ Q) ++ drop (a + b) o
-patch P Q o xs ys a b p q h e f =
+-- P has been written at the front of o, and then Q into the part after it: together W, which has c bytes
+pub patch : (P Q W o xs ys : List ℕ) (a b c : ℕ) → c ≤ length o →
+    xs ≡ P ++ drop a o → ys ≡ Q ++ drop b (take (length xs - a) (drop a xs)) → W ≡ P ++ Q → length P ≡ a → length Q ≡ b → a + b ≡ c →
+    putMid a (length xs - a) xs ys ≡ W ++ drop c o
+patch P Q W o xs ys a b c h e f w p q s =
     let t : take a xs ≡ P = rw e (take-at P (drop a o) a p) in
     let d : drop a xs ≡ drop a o = rw e (drop-at P (drop a o) a p) in
-    let n : length xs ≡ length o = omega (arith, p, h, simp length-append at (ap length e), length-drop a o) in
-    let w : take (length o - a) (drop a o) ≡ drop a o = take-all (length o - a) (drop a o) (omega (arith, length-drop a o)) in
+    let n : length xs ≡ length o = omega (arith, p, s, h, simp length-append at (ap length e), length-drop a o) in
+    let v : take (length o - a) (drop a o) ≡ drop a o = take-all (length o - a) (drop a o) (omega (arith, length-drop a o)) in
     let r : drop (length o - a) (drop a o) ≡ [] = drop-of-length-le (drop a o) {i = length o - a} (omega (arith, length-drop a o)) in
-    rw (f, t, d, n, w, r, drop-drop) (simp (append-nil, append-assoc))
+    rw (f, t, d, n, v, r, drop-drop, w, ← s) (simp (append-nil, append-assoc))
 
 pub length-bytes8 : (x : ℕ) → length (bytes8 x) ≡ 8
 unfolding bytes2 bytes4 bytes8

@@ -1,3 +1,4 @@
 pub mod Bytes
 pub mod Message
 pub mod Reading
+pub mod laws

@@ -1,10 +1,9 @@
 -- The layout of a message, and the bytes of one that is written.
 use Prim.Native.Nat.{ℕ, _+_, _*_}
 use mathlib.Core.Bool.{cond}
-use mathlib.Core.Path.{_≡_}
 use mathlib.Core.List.{List, [], _∷_, _++_}
 use lib.ListN.{length, take, drop}
-use lib.Dec.{leb, eqb}
+use lib.Dec.{eqb}
 use Rattle.wire.specs.Bytes.{bytes2, bytes4, valueBytes}
 use Rattle.wire.specs.declared.Message.{Message}
 use Rattle.wire.specs.declared.Message.the-variants.{Send, Echo, Ready, Est, Aux, Commit}
@@ -134,23 +133,6 @@ messageBytes h xs = headerBytes h ++ valueBytes xs
 unfoldable pub encode : Message → (sender session : ℕ) → List ℕ → List ℕ
 encode m sender session xs = messageBytes (headerFor m sender session) (valuesOf m xs)
 
--- what is written of bytes w into the lent bytes out: all of it, or nothing where out is too short
-unfoldable pub fitting : List ℕ → List ℕ → List ℕ
-fitting w out = cond (leb (length w) (length out)) w []
-
 -- "a success writes a message's own bytes, .. and no others": out with w at its front
 unfoldable pub atFront : List ℕ → List ℕ → List ℕ
 atFront w out = w ++ drop (length w) out
-
--- what is written of a header and as many of xs as it counts: nothing where out is too short, or xs are fewer
-unfoldable pub counted : Header → List ℕ → List ℕ → List ℕ
-counted h xs out = cond (leb (h .count) (length xs)) (fitting (messageBytes h (take (h .count) xs)) out) []
-
--- what is written of a message: nothing where out is too short, or xs are fewer than a COMMIT counts
-unfoldable pub written : Message → (sender session : ℕ) → List ℕ → List ℕ → List ℕ
-written m sender session xs out = cond (leb (besides m) (length xs)) (fitting (encode m sender session xs) out) []
-
--- the bytes w were written at the front of out, which is now after, and the answer r is their number
-pub record Wrote (w out : List ℕ) (r : ℕ) (after : List ℕ) : Type 0 where
-  pub answer : r ≡ length w
-  pub bytes : after ≡ atFront w out

@@ -1,6 +1,6 @@
 -- What reading a message answers: the refusals 2 to 7 in their order, or the message.
 use Prim.Native.Nat.{ℕ, _+_, _*_}
-use mathlib.Core.Bool.{Bool, false, cond, _&&_}
+use mathlib.Core.Bool.{Bool, false, cond, not, _&&_}
 use mathlib.Core.List.{List}
 use lib.ListN.{length, getD, drop}
 use lib.Dec.{leb, eqb}
@@ -70,7 +70,7 @@ fieldsRight n h =
 
 -- the message m, if its values are right
 unfoldable pub takenIf : Bool → Message → Parsed
-takenIf right m = cond right (Taken m) (Refused VALUE)
+takenIf right m = cond (not right) (Refused VALUE) (Taken m)
 
 -- the message with the header h and the values in v, by kind: "EST and AUX carry 0 or 1. COMMIT values rise strictly."
 unfoldable pub readValues : Header → List ℕ → Parsed
@@ -86,16 +86,12 @@ readValues h v =
 -- the refusals 3 to 7 in their order, or the message
 unfoldable pub readChecked : (n session link : ℕ) → Header → List ℕ → Parsed
 readChecked n session link h v =
-    cond (kindKnown (h .version) (h .kind))
-    (cond (eqb (h .session) session)
-    (cond (senderRight n link (h .sender))
-    (cond (fieldsRight n h)
-    (readValues h v)
-    (Refused FIELD))
-    (Refused SENDER))
-    (Refused SESSION))
-    (Refused KIND)
+    cond (not (kindKnown (h .version) (h .kind))) (Refused KIND)
+    (cond (not (eqb (h .session) session)) (Refused SESSION)
+    (cond (not (senderRight n link (h .sender))) (Refused SENDER)
+    (cond (not (fieldsRight n h)) (Refused FIELD)
+    (readValues h v))))
 
 -- what the bytes b from the link of concentrator link are at one of n in a session: the refusals 2 to 7 in their order, or the message
 unfoldable pub readMessage : (n session link : ℕ) → List ℕ → Parsed
-readMessage n session link b = cond (lengthRight b) (readChecked n session link (headerOf b) (drop 12 b)) (Refused LENGTH)
+readMessage n session link b = cond (not (lengthRight b)) (Refused LENGTH) (readChecked n session link (headerOf b) (drop 12 b))

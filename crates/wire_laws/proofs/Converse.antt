@@ -1,7 +1,7 @@
 -- What is taken is the bytes of a message that keeps to the layout.
 use Prim.Native.Nat.{ℕ, zero, suc, _+_, _*_, _≤_}
 use mathlib.Core.Path.{_≡_, refl, ap, ap₂, sym, subst, _∙_}
-use mathlib.Core.Bool.{Bool, true, false, cond, false≢true, _&&_}
+use mathlib.Core.Bool.{Bool, true, false, cond, not, false≢true, _&&_}
 use mathlib.Core.List.{List, _++_}
 use native.Mathlib.Omega.{arith}
 use lib.ListN.{length, getD, drop, length-drop, take-append-drop}
@@ -16,13 +16,14 @@ use Rattle.wire.specs.declared.Message.{Message}
 use Rattle.wire.specs.declared.Message.the-variants.{Send, Echo, Ready, Est, Aux, Commit}
 use Rattle.wire.specs.declared.Parsed.{Parsed}
 use Rattle.wire.specs.declared.Parsed.the-variants.{Refused, Taken}
-use Rattle.quorum.specs.Bools.{and-left, and-right}
+use Rattle.quorum.specs.laws.Bools.{and-left, and-right}
 use Rattle.wire_laws.specs.Proper.{Layout}
-use Rattle.wire_laws.specs.Laws.{Form, OnlyEncodings}
+use Rattle.wire_laws.specs.laws.Forms.{Form}
+use Rattle.wire_laws.specs.RoundTrip.{OnlyEncodings}
 use Rattle.wire_laws.proofs.Parts.{length-values, values-fitting, bytes-values, bytes-header, all-drop}
 
 -- where a test stands before a refusal and the message was taken, it was passed
-pub passed : (t : Bool) (p : Parsed) (k : ℕ) (m : Message) → cond t p (Refused k) ≡ Taken m → (t ≡ true) × (p ≡ Taken m)
+pub passed : (t : Bool) (p : Parsed) (k : ℕ) (m : Message) → cond (not t) (Refused k) p ≡ Taken m → (t ≡ true) × (p ≡ Taken m)
 passed true p k m e = (refl, e)
 passed false p k m e = absurd (let z : _≡_ {A = ℕ} 0 1 = cc in omega arith)
 

@@ -15,7 +15,7 @@ use Rattle.wire.specs.declared.Message.the-variants.{Send, Echo, Ready, Est, Au
 use Rattle.wire.specs.declared.Parsed.the-variants.{Taken}
 use Rattle.wire.proofs.Laws.{count-values, length-encode, value-of-values}
 use Rattle.wire_laws.specs.Proper.{Layout, Proper}
-use Rattle.wire_laws.specs.Laws.{RoundTrip}
+use Rattle.wire_laws.specs.RoundTrip.{RoundTrip}
 use Rattle.wire_laws.proofs.Digits.{digits4, value-bytes8, values-valueBytes}
 
 -- the bytes of a message: its header, its values, its length

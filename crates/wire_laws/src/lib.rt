@@ -1,5 +1,5 @@
 // The theorems of the message bytes; their statements are in specs/.
-ghost use Rattle.wire_laws.specs.Laws.{RoundTrip, OnlyEncodings};
+ghost use Rattle.wire_laws.specs.RoundTrip.{RoundTrip, OnlyEncodings};
 
 // What is written is read back, message and values.
 pub fn round_trip()

@@ -1,5 +1,5 @@
 -- `agreement::agreement` states a theorem of specs/Agreement.antt.
-use Rattle.agreement.specs.Agreement.{agree}
+use Rattle.agreement.specs.laws.Agreement.{agree}
 use Rattle.agreement.proofs.agreement.Statement.{statement}
 use Rattle.agreement.proofs.agreement.Tie as tie
 

@@ -1,5 +1,5 @@
--- `agreement::demand_three` states the theorem of specs/EngineDemand.antt.
-use Rattle.agreement.specs.EngineDemand.{engine-agrees}
+-- `agreement::demand_three` states the theorem of specs/laws/EngineDemand.antt.
+use Rattle.agreement.specs.laws.EngineDemand.{engine-agrees}
 use Rattle.agreement.proofs.demand_three.Statement.{statement}
 use Rattle.agreement.proofs.demand_three.Tie as tie
 

@@ -1,5 +1,5 @@
 -- `agreement::named_before` states a theorem of specs/Agreement.antt.
-use Rattle.agreement.specs.Agreement.{named}
+use Rattle.agreement.specs.laws.Agreement.{named}
 use Rattle.agreement.proofs.named_before.Statement.{statement}
 use Rattle.agreement.proofs.named_before.Tie as tie
 

@@ -1,5 +1,5 @@
--- `agreement::printed_sessions` states the theorem of specs/EnginePlain.antt.
-use Rattle.agreement.specs.EnginePlain.{printed-meets}
+-- `agreement::printed_sessions` states the theorem of specs/laws/EnginePlain.antt.
+use Rattle.agreement.specs.laws.EnginePlain.{printed-meets}
 use Rattle.agreement.proofs.printed_sessions.Statement.{statement}
 use Rattle.agreement.proofs.printed_sessions.Tie as tie
 

@@ -1,5 +1,5 @@
 -- `agreement::restore_gives` states the theorem of specs/EngineRestores.antt.
-use Rattle.agreement.specs.EngineRestores.{restore-gives}
+use Rattle.agreement.specs.laws.EngineRestores.{restore-gives}
 use Rattle.agreement.proofs.restore_gives.Statement.{statement}
 use Rattle.agreement.proofs.restore_gives.Tie as tie
 

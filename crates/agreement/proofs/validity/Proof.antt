@@ -1,5 +1,5 @@
 -- `agreement::validity` states a theorem of specs/Agreement.antt.
-use Rattle.agreement.specs.Agreement.{valid}
+use Rattle.agreement.specs.laws.Agreement.{valid}
 use Rattle.agreement.proofs.validity.Statement.{statement}
 use Rattle.agreement.proofs.validity.Tie as tie
 

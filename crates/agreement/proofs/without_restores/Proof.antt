@@ -1,5 +1,5 @@
--- `agreement::without_restores` states the theorem of specs/EnginePlain.antt.
-use Rattle.agreement.specs.EnginePlain.{plain-meets}
+-- `agreement::without_restores` states the theorem of specs/laws/EnginePlain.antt.
+use Rattle.agreement.specs.laws.EnginePlain.{plain-meets}
 use Rattle.agreement.proofs.without_restores.Statement.{statement}
 use Rattle.agreement.proofs.without_restores.Tie as tie
 

@@ -1,5 +1,5 @@
 -- `agreement_example::four_concentrators` states a theorem of specs/Four.antt.
-use Rattle.agreement_example.specs.Four.{four-meet}
+use Rattle.agreement_example.specs.laws.Four.{four-meet}
 use Rattle.agreement_example.proofs.four_concentrators.Statement.{statement}
 use Rattle.agreement_example.proofs.four_concentrators.Tie as tie
 

@@ -1,5 +1,5 @@
 -- `agreement_example::lost_line` states a theorem of specs/LineLost.antt.
-use Rattle.agreement_example.specs.LineLost.{line-missed}
+use Rattle.agreement_example.specs.laws.LineLost.{line-missed}
 use Rattle.agreement_example.proofs.lost_line.Statement.{statement}
 use Rattle.agreement_example.proofs.lost_line.Tie as tie
 

@@ -1,5 +1,5 @@
 -- `agreement_example::one_concentrator` states a theorem of specs/One.antt.
-use Rattle.agreement_example.specs.One.{one-meets}
+use Rattle.agreement_example.specs.laws.One.{one-meets}
 use Rattle.agreement_example.proofs.one_concentrator.Statement.{statement}
 use Rattle.agreement_example.proofs.one_concentrator.Tie as tie
 

@@ -1,5 +1,5 @@
 -- `agreement_example::restored_concentrator` states a theorem of specs/PowerLost.antt.
-use Rattle.agreement_example.specs.PowerLost.{lost-meets}
+use Rattle.agreement_example.specs.laws.PowerLost.{lost-meets}
 use Rattle.agreement_example.proofs.restored_concentrator.Statement.{statement}
 use Rattle.agreement_example.proofs.restored_concentrator.Tie as tie
 

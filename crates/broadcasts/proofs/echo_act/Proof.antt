@@ -1,5 +1,5 @@
 -- The ECHO of an instance: not sent before, and its SEND is held.
-use Rattle.broadcasts.specs.Cases.{echo-cases}
+use Rattle.broadcasts.specs.laws.Cases.{echo-cases}
 use borrow.Author.Needs.{needs}
 use Rattle.broadcasts.proofs.echo_act.Statement.{statement}
 use Rattle.broadcasts.proofs.echo_act.Tie as tie

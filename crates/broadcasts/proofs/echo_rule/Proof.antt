@@ -1,7 +1,7 @@
 -- Rule 4: the first ECHO due of the instances 1 to n.
 use Prim.Native.Nat.{_-_}
 use borrow.Author.Needs.{needs}
-use Rattle.acts.specs.First.{Quiet, firsts}
+use Rattle.acts.specs.laws.First.{Quiet, firsts}
 use Rattle.broadcasts.specs.Broadcasts.{echoAct, echoRule}
 use Rattle.broadcasts.proofs.echo_rule.Statement.{statement}
 use Rattle.broadcasts.proofs.echo_rule.Tie as tie

@@ -1,5 +1,5 @@
 -- The marks of equal words, among the marks held: all of them, or weighed at once.
-use Rattle.broadcasts.specs.Cases.{held-enough}
+use Rattle.broadcasts.specs.laws.Cases.{held-enough}
 use borrow.Author.Needs.{needs}
 use Rattle.broadcasts.proofs.enough_hold.Statement.{statement}
 use Rattle.broadcasts.proofs.enough_hold.Tie as tie

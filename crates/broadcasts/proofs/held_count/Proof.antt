@@ -1,5 +1,5 @@
 -- The marks of a word, counted at once.
-use Rattle.broadcasts.specs.Cases.{held-counted}
+use Rattle.broadcasts.specs.laws.Cases.{held-counted}
 use borrow.Author.Needs.{needs}
 use Rattle.broadcasts.proofs.held_count.Statement.{statement}
 use Rattle.broadcasts.proofs.held_count.Tie as tie

@@ -1,9 +1,9 @@
 -- The value of the lowest sender that leads.
 use Prim.Native.Nat.{_+_, _-_}
-use Rattle.quorum.specs.Lowest.{Passed, finding}
+use Rattle.quorum.specs.laws.Lowest.{Passed, finding}
 use Rattle.records.specs.Words.{word, marked}
 use Rattle.broadcasts.specs.Leading.{leads}
-use Rattle.broadcasts.specs.Cases.{leading-ends}
+use Rattle.broadcasts.specs.laws.Cases.{leading-ends}
 use borrow.Author.Needs.{needs}
 use Rattle.broadcasts.proofs.leading_of.Statement.{statement}
 use Rattle.broadcasts.proofs.leading_of.Tie as tie

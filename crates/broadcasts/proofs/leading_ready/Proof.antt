@@ -1,7 +1,7 @@
 -- The READYs of an instance stand at their own marks and values; where too few are held nobody leads.
 use Rattle.records.specs.Records.{readyHeld, readyValue}
-use Rattle.broadcasts.specs.Leading.{heldCount}
-use Rattle.broadcasts.specs.Cases.{leading-few}
+use Rattle.broadcasts.specs.laws.Leading.{heldCount}
+use Rattle.broadcasts.specs.laws.Cases.{leading-few}
 use borrow.Author.Needs.{needs}
 use Rattle.broadcasts.proofs.leading_ready.Statement.{statement}
 use Rattle.broadcasts.proofs.leading_ready.Tie as tie

@@ -1,5 +1,5 @@
 -- A sender leads whose value is held from q senders.
-use Rattle.broadcasts.specs.Cases.{leaders}
+use Rattle.broadcasts.specs.laws.Cases.{leaders}
 use borrow.Author.Needs.{needs}
 use Rattle.broadcasts.proofs.leads.Statement.{statement}
 use Rattle.broadcasts.proofs.leads.Tie as tie

@@ -1,5 +1,5 @@
 -- The value at place i − 1 where mark i is set.
-use Rattle.broadcasts.specs.Storing.{output-reads}
+use Rattle.broadcasts.specs.laws.Storing.{output-reads}
 use borrow.Author.Needs.{needs}
 use Rattle.broadcasts.proofs.output_at.Statement.{statement}
 use Rattle.broadcasts.proofs.output_at.Tie as tie

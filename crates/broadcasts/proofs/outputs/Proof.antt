@@ -3,7 +3,7 @@ use Prim.Native.Nat.{_-_}
 use mathlib.Core.Path.{refl}
 use borrow.Author.Needs.{needs}
 use Rattle.broadcasts.specs.Outputs.{Outputs}
-use Rattle.broadcasts.specs.Storing.{outputs-start, storing}
+use Rattle.broadcasts.specs.laws.Storing.{outputs-start, storing}
 use Rattle.broadcasts.proofs.outputs.Statement.{statement}
 use Rattle.broadcasts.proofs.outputs.Tie as tie
 

@@ -1,5 +1,5 @@
 -- The READY of an instance: not sent before, and a value is due.
-use Rattle.broadcasts.specs.Cases.{ready-cases}
+use Rattle.broadcasts.specs.laws.Cases.{ready-cases}
 use borrow.Author.Needs.{needs}
 use Rattle.broadcasts.proofs.ready_act.Statement.{statement}
 use Rattle.broadcasts.proofs.ready_act.Tie as tie

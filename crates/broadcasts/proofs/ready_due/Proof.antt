@@ -1,5 +1,5 @@
 -- A value with n − ts ECHOs, else one with ts + 1 READYs.
-use Rattle.broadcasts.specs.Cases.{due-cases}
+use Rattle.broadcasts.specs.laws.Cases.{due-cases}
 use borrow.Author.Needs.{needs}
 use Rattle.broadcasts.proofs.ready_due.Statement.{statement}
 use Rattle.broadcasts.proofs.ready_due.Tie as tie
@@ -16,8 +16,8 @@ enum-known-o c = search needs
 enum-told : tie.Need-enum-told
 enum-told c = search needs
 
-copy-requires : tie.Need-copy-requires
-copy-requires c κs = search needs
+repeat-requires : tie.Need-repeat-requires
+repeat-requires c κs = search needs
 
 leading-ready-requires : tie.Need-leading-ready-requires
 leading-ready-requires c κs = search needs
@@ -36,7 +36,7 @@ ready-due-spec =
     leading-echo-requires
     enum-known-o
     enum-told
-    copy-requires
+    repeat-requires
     leading-ready-requires
     returns
     returns-2)

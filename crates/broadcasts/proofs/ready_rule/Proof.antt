@@ -1,9 +1,8 @@
 -- Rule 5: the first READY due of the instances 1 to n.
 use Prim.Native.Nat.{_-_}
 use borrow.Author.Needs.{needs}
-use Rattle.acts.specs.First.{Quiet, firsts}
+use Rattle.acts.specs.laws.First.{Quiet, firsts}
 use Rattle.broadcasts.specs.Broadcasts.{readyAct, readyRule}
-use borrow.Author.Needs.{needs}
 use Rattle.broadcasts.proofs.ready_rule.Statement.{statement}
 use Rattle.broadcasts.proofs.ready_rule.Tie as tie
 

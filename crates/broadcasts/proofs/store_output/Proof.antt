@@ -1,5 +1,5 @@
 -- A value is put at its place and its mark set.
-use Rattle.broadcasts.specs.Storing.{stored-value}
+use Rattle.broadcasts.specs.laws.Storing.{stored-value}
 use borrow.Author.Needs.{needs}
 use Rattle.broadcasts.proofs.store_output.Statement.{statement}
 use Rattle.broadcasts.proofs.store_output.Tie as tie

@@ -1,5 +1,5 @@
 -- Each answer has its number; the length of a line fits.
-use Rattle.cabi.specs.Cases.{entry-cases}
+use Rattle.cabi.specs.laws.Cases.{entry-cases}
 use borrow.Author.Needs.{needs}
 use Rattle.cabi.proofs.entry_number.Statement.{statement}
 use Rattle.cabi.proofs.entry_number.Tie as tie

@@ -1,5 +1,5 @@
 -- `given_again` goes by the length.
-use Rattle.cabi.specs.Cases.{again-cases}
+use Rattle.cabi.specs.laws.Cases.{again-cases}
 use Rattle.cabi.proofs.given_again.Statement.{statement}
 use Rattle.cabi.proofs.given_again.Tie as tie
 

@@ -1,5 +1,5 @@
 -- Each outcome's number; the length of a message that is sent fits.
-use Rattle.cabi.specs.Cases.{outcome-cases}
+use Rattle.cabi.specs.laws.Cases.{outcome-cases}
 use borrow.Author.Needs.{needs}
 use Rattle.cabi.proofs.outcome_number.Statement.{statement}
 use Rattle.cabi.proofs.outcome_number.Tie as tie

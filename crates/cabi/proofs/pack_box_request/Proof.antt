@@ -1,5 +1,5 @@
 -- The number of the answer.
-use Rattle.cabi.specs.Cases.{request-number}
+use Rattle.cabi.specs.laws.Cases.{request-number}
 use borrow.Author.Needs.{needs}
 use Rattle.cabi.proofs.pack_box_request.Statement.{statement}
 use Rattle.cabi.proofs.pack_box_request.Tie as tie

@@ -1,5 +1,5 @@
 -- The number of the answer.
-use Rattle.cabi.specs.Cases.{line-cases}
+use Rattle.cabi.specs.laws.Cases.{line-cases}
 use borrow.Author.Needs.{needs}
 use Rattle.cabi.proofs.pack_deliver.Statement.{statement}
 use Rattle.cabi.proofs.pack_deliver.Tie as tie

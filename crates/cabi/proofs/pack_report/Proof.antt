@@ -1,5 +1,5 @@
 -- Refused, or the figures.
-use Rattle.cabi.specs.Cases.{report-cases}
+use Rattle.cabi.specs.laws.Cases.{report-cases}
 use borrow.Author.Needs.{needs}
 use Rattle.cabi.proofs.pack_report.Statement.{statement}
 use Rattle.cabi.proofs.pack_report.Tie as tie

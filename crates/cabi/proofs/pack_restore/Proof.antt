@@ -1,5 +1,5 @@
 -- The number of the answer.
-use Rattle.cabi.specs.Cases.{restore-cases}
+use Rattle.cabi.specs.laws.Cases.{restore-cases}
 use borrow.Author.Needs.{needs}
 use Rattle.cabi.proofs.pack_restore.Statement.{statement}
 use Rattle.cabi.proofs.pack_restore.Tie as tie

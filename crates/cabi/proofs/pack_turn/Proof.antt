@@ -1,5 +1,5 @@
 -- The number of the outcome.
-use Rattle.cabi.specs.Cases.{turn-cases}
+use Rattle.cabi.specs.laws.Cases.{turn-cases}
 use borrow.Author.Needs.{needs}
 use Rattle.cabi.proofs.pack_turn.Statement.{statement}
 use Rattle.cabi.proofs.pack_turn.Tie as tie

@@ -1,5 +1,5 @@
 -- Each answer's number.
-use Rattle.cabi.specs.Cases.{reply-cases}
+use Rattle.cabi.specs.laws.Cases.{reply-cases}
 use borrow.Author.Needs.{needs}
 use Rattle.cabi.proofs.reply_number.Statement.{statement}
 use Rattle.cabi.proofs.reply_number.Tie as tie

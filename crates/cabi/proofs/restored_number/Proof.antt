@@ -1,5 +1,5 @@
 -- Each answer has its number; every part stays within its bits.
-use Rattle.cabi.specs.Cases.{restored-cases}
+use Rattle.cabi.specs.laws.Cases.{restored-cases}
 use borrow.Author.Needs.{needs}
 use Rattle.cabi.proofs.restored_number.Statement.{statement}
 use Rattle.cabi.proofs.restored_number.Tie as tie

@@ -1,5 +1,5 @@
 -- The word count, then the stored settings.
-use Rattle.coin_box.specs.Cases.{box-cases}
+use Rattle.coin_box.specs.laws.Cases.{box-cases}
 use borrow.Author.Needs.{needs}
 use Rattle.coin_box.proofs.is_box.Statement.{statement}
 use Rattle.coin_box.proofs.is_box.Tie as tie

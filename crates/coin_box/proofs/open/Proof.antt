@@ -1,5 +1,5 @@
 -- The weights as one word, then the box.
-use Rattle.coin_box.specs.Cases.{given-answer, given-words}
+use Rattle.coin_box.specs.laws.Cases.{given-answer, given-words}
 use borrow.Author.Needs.{needs}
 use Rattle.coin_box.proofs.open.Statement.{statement}
 use Rattle.coin_box.proofs.open.Tie as tie

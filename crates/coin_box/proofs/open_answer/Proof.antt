@@ -1,5 +1,5 @@
 -- The refusals in their order.
-use Rattle.coin_box.specs.Cases.{box-open-cases}
+use Rattle.coin_box.specs.laws.Cases.{box-open-cases}
 use borrow.Author.Needs.{needs}
 use Rattle.coin_box.proofs.open_answer.Statement.{statement}
 use Rattle.coin_box.proofs.open_answer.Tie as tie

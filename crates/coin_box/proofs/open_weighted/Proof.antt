@@ -1,5 +1,5 @@
 -- The verdict, then the words where it is 0.
-use Rattle.coin_box.specs.Cases.{box-open-cases}
+use Rattle.coin_box.specs.laws.Cases.{box-open-cases}
 use borrow.Author.Needs.{needs}
 use Rattle.coin_box.proofs.open_weighted.Statement.{statement}
 use Rattle.coin_box.proofs.open_weighted.Tie as tie

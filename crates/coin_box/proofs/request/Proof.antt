@@ -1,5 +1,5 @@
 -- Refused, or noted; then the bit or `sealed`.
-use Rattle.coin_box.specs.Cases.{request-cases}
+use Rattle.coin_box.specs.laws.Cases.{request-cases}
 use borrow.Author.Needs.{needs}
 use Rattle.coin_box.proofs.request.Statement.{statement}
 use Rattle.coin_box.proofs.request.Tie as tie

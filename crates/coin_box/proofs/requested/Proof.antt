@@ -1,5 +1,5 @@
 -- The marks of the word, by their weights.
-use Rattle.coin_box.specs.Cases.{marks-weighed}
+use Rattle.coin_box.specs.laws.Cases.{marks-weighed}
 use borrow.Author.Needs.{needs}
 use Rattle.coin_box.proofs.requested.Statement.{statement}
 use Rattle.coin_box.proofs.requested.Tie as tie

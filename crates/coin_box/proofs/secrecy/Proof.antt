@@ -1,5 +1,5 @@
--- The theorem of specs/Secrecy.antt.
-use Rattle.coin_box.specs.Secrecy.{secret}
+-- The theorem of specs/laws/Secrecy.antt.
+use Rattle.coin_box.specs.laws.Secrecy.{secret}
 use Rattle.coin_box.proofs.secrecy.Statement.{statement}
 use Rattle.coin_box.proofs.secrecy.Tie as tie
 

@@ -1,5 +1,5 @@
 -- The weight is compared with ta.
-use Rattle.coin_box.specs.Cases.{weight-compared}
+use Rattle.coin_box.specs.laws.Cases.{weight-compared}
 use borrow.Author.Needs.{needs}
 use Rattle.coin_box.proofs.unsealed.Statement.{statement}
 use Rattle.coin_box.proofs.unsealed.Tie as tie

@@ -1,5 +1,5 @@
 -- The marks of the counts that are 0, turned over and weighed.
-use Rattle.commits.specs.Cases.{commits-counted}
+use Rattle.commits.specs.laws.Cases.{commits-counted}
 use borrow.Author.Needs.{needs}
 use Rattle.commits.proofs.commits_held.Statement.{statement}
 use Rattle.commits.proofs.commits_held.Tie as tie

@@ -1,5 +1,5 @@
 -- A held set is compared.
-use Rattle.commits.specs.Cases.{commit-cases}
+use Rattle.commits.specs.laws.Cases.{commit-cases}
 use borrow.Author.Needs.{needs}
 use Rattle.commits.proofs.holds_set.Statement.{statement}
 use Rattle.commits.proofs.holds_set.Tie as tie

@@ -1,8 +1,8 @@
 -- After p steps no sender of 1 to p leads.
 use Prim.Native.Nat.{_-_}
-use Rattle.quorum.specs.Lowest.{Passed, finding}
+use Rattle.quorum.specs.laws.Lowest.{Passed, finding}
 use Rattle.commits.specs.Commits.{setLeads}
-use Rattle.commits.specs.Cases.{commit-cases}
+use Rattle.commits.specs.laws.Cases.{commit-cases}
 use borrow.Author.Needs.{needs}
 use Rattle.commits.proofs.leader_of.Statement.{statement}
 use Rattle.commits.proofs.leader_of.Tie as tie

@@ -1,9 +1,9 @@
 -- Sets of one size are compared value by value.
 use Prim.Native.Nat.{_-_}
 use lib.Dec.{eqb}
-use Rattle.quorum.specs.Every.{Holding, holding}
+use Rattle.quorum.specs.laws.Every.{Holding, holding}
 use Rattle.records.specs.Records.{commitValue}
-use Rattle.commits.specs.Cases.{commit-cases}
+use Rattle.commits.specs.laws.Cases.{commit-cases}
 use borrow.Author.Needs.{needs}
 use Rattle.commits.proofs.same_set.Statement.{statement}
 use Rattle.commits.proofs.same_set.Tie as tie

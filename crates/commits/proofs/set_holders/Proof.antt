@@ -1,8 +1,8 @@
 -- The marks of the senders above q that hold the set are collected, and all are weighed at the end.
 use mathlib.Core.Bool.{_&&_}
-use Rattle.quorum.specs.Marking.{Marking, marking}
+use Rattle.quorum.specs.laws.Marking.{Marking, marking}
 use Rattle.commits.specs.Commits.{commitHeld, sameSet}
-use Rattle.commits.specs.Cases.{commit-cases}
+use Rattle.commits.specs.laws.Cases.{commit-cases}
 use borrow.Author.Needs.{needs}
 use Rattle.commits.proofs.set_holders.Statement.{statement}
 use Rattle.commits.proofs.set_holders.Tie as tie

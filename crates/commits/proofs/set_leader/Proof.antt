@@ -1,5 +1,5 @@
 -- Where too few COMMITs are held no set leads.
-use Rattle.commits.specs.Cases.{commit-cases}
+use Rattle.commits.specs.laws.Cases.{commit-cases}
 use borrow.Author.Needs.{needs}
 use Rattle.commits.proofs.set_leader.Statement.{statement}
 use Rattle.commits.proofs.set_leader.Tie as tie

@@ -1,5 +1,5 @@
 -- A held set is counted.
-use Rattle.commits.specs.Cases.{commit-cases}
+use Rattle.commits.specs.laws.Cases.{commit-cases}
 use borrow.Author.Needs.{needs}
 use Rattle.commits.proofs.set_leads.Statement.{statement}
 use Rattle.commits.proofs.set_leads.Tie as tie

@@ -1,5 +1,5 @@
--- `at_most_five` states the theorem of specs/One.antt.
-use Rattle.costliest.specs.One.{at-most-five}
+-- `at_most_five` states the theorem of specs/laws/One.antt.
+use Rattle.costliest.specs.laws.One.{at-most-five}
 use Rattle.costliest.proofs.at_most_five.Statement.{statement}
 use Rattle.costliest.proofs.at_most_five.Tie as tie
 

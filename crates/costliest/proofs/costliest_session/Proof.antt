@@ -1,5 +1,5 @@
--- `costliest_session` states the theorem of specs/Costliest.antt.
-use Rattle.costliest.specs.Costliest.{costliest}
+-- `costliest_session` states the theorem of specs/laws/Costliest.antt.
+use Rattle.costliest.specs.laws.Costliest.{costliest}
 use Rattle.costliest.proofs.costliest_session.Statement.{statement}
 use Rattle.costliest.proofs.costliest_session.Tie as tie
 

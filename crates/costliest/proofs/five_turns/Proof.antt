@@ -1,5 +1,5 @@
--- `five_turns` states the theorem of specs/Five.antt.
-use Rattle.costliest.specs.Five.{five-turns}
+-- `five_turns` states the theorem of specs/laws/Five.antt.
+use Rattle.costliest.specs.laws.Five.{five-turns}
 use Rattle.costliest.proofs.five_turns.Statement.{statement}
 use Rattle.costliest.proofs.five_turns.Tie as tie
 

@@ -1,5 +1,5 @@
 -- The refusals in their order.
-use Rattle.costliest_calls.specs.Cases.{refusal-cases}
+use Rattle.costliest_calls.specs.laws.Cases.{refusal-cases}
 use Rattle.costliest_calls.proofs.call_refusal.Statement.{statement}
 use Rattle.costliest_calls.proofs.call_refusal.Tie as tie
 

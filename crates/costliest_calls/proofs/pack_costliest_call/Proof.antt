@@ -1,5 +1,5 @@
 -- The refusal, or the call.
-use Rattle.costliest_calls.specs.Cases.{pack-cases}
+use Rattle.costliest_calls.specs.laws.Cases.{pack-cases}
 use borrow.Author.Needs.{needs}
 use Rattle.costliest_calls.proofs.pack_costliest_call.Statement.{statement}
 use Rattle.costliest_calls.proofs.pack_costliest_call.Tie as tie

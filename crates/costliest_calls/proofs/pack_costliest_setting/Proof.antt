@@ -1,5 +1,5 @@
 -- Each number of the opening.
-use Rattle.costliest_calls.specs.Cases.{setting-cases}
+use Rattle.costliest_calls.specs.laws.Cases.{setting-cases}
 use borrow.Author.Needs.{needs}
 use Rattle.costliest_calls.proofs.pack_costliest_setting.Statement.{statement}
 use Rattle.costliest_calls.proofs.pack_costliest_setting.Tie as tie

@@ -1,5 +1,5 @@
 -- The number and the bytes of each call.
-use Rattle.costliest_calls.specs.Cases.{write-cases}
+use Rattle.costliest_calls.specs.laws.Cases.{write-cases}
 use borrow.Author.Needs.{needs}
 use Rattle.costliest_calls.proofs.write_call.Statement.{statement}
 use Rattle.costliest_calls.proofs.write_call.Tie as tie

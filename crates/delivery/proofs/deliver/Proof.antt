@@ -1,5 +1,5 @@
 -- The verdict, then the record where it is accepted.
-use Rattle.delivery.specs.Accepting.{deliver-cases}
+use Rattle.delivery.specs.laws.Accepting.{deliver-cases}
 use borrow.Author.Needs.{needs}
 use Rattle.delivery.proofs.deliver.Statement.{statement}
 use Rattle.delivery.proofs.deliver.Tie as tie

@@ -1,5 +1,5 @@
 -- No state, or the verdict in its session.
-use Rattle.delivery.specs.Cases.{verdict-cases}
+use Rattle.delivery.specs.laws.Cases.{verdict-cases}
 use borrow.Author.Needs.{needs}
 use Rattle.delivery.proofs.judge.Statement.{statement}
 use Rattle.delivery.proofs.judge.Tie as tie
@@ -13,8 +13,8 @@ state-of-requires c κs = search needs
 enum-told : tie.Need-enum-told
 enum-told c = search needs
 
-enum-known-held : tie.Need-enum-known-held
-enum-known-held c = search needs
+enum-known-stored : tie.Need-enum-known-stored
+enum-known-stored c = search needs
 
 verdict-in-requires : tie.Need-verdict-in-requires
 verdict-in-requires c κs = search needs
@@ -32,7 +32,7 @@ judge-spec =
     returns
     state-of-requires
     enum-told
-    enum-known-held
+    enum-known-stored
     verdict-in-requires
     returns-2
     returns-3)

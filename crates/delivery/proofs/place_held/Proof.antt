@@ -1,5 +1,5 @@
 -- The place of each kind.
-use Rattle.delivery.specs.Cases.{place-cases}
+use Rattle.delivery.specs.laws.Cases.{place-cases}
 use borrow.Author.Needs.{needs}
 use Rattle.delivery.proofs.place_held.Statement.{statement}
 use Rattle.delivery.proofs.place_held.Tie as tie
@@ -13,26 +13,14 @@ send-held-requires c κs = search needs
 enum-known-m-2 : tie.Need-enum-known-m-2
 enum-known-m-2 c = search needs
 
-cast-marked : tie.Need-cast-marked
-cast-marked c = search needs
-
-add-marked : tie.Need-add-marked
-add-marked c = search needs
-
-marked-requires : tie.Need-marked-requires
-marked-requires c κs = search needs
+echo-held-requires : tie.Need-echo-held-requires
+echo-held-requires c κs = search needs
 
 enum-known-m-3 : tie.Need-enum-known-m-3
 enum-known-m-3 c = search needs
 
-cast-marked-2 : tie.Need-cast-marked-2
-cast-marked-2 c = search needs
-
-add-marked-2 : tie.Need-add-marked-2
-add-marked-2 c = search needs
-
-marked-requires-2 : tie.Need-marked-requires-2
-marked-requires-2 c κs = search needs
+ready-held-requires : tie.Need-ready-held-requires
+ready-held-requires c κs = search needs
 
 enum-known-m-4 : tie.Need-enum-known-m-4
 enum-known-m-4 c = search needs
@@ -77,13 +65,9 @@ place-held-spec =
     enum-known-m
     send-held-requires
     enum-known-m-2
-    cast-marked
-    add-marked
-    marked-requires
+    echo-held-requires
     enum-known-m-3
-    cast-marked-2
-    add-marked-2
-    marked-requires-2
+    ready-held-requires
     enum-known-m-4
     est-held-requires
     enum-known-m-5

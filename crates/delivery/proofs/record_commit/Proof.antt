@@ -6,11 +6,8 @@ use Rattle.delivery.proofs.record_commit.Tie as tie
 record-values-requires : tie.Need-record-values-requires
 record-values-requires c κs = search needs
 
-add-put : tie.Need-add-put
-add-put c = search needs
-
-put-requires : tie.Need-put-requires
-put-requires c κs = search needs
+hold-commit-requires : tie.Need-hold-commit-requires
+hold-commit-requires c κs = search needs
 
 same-length : tie.Need-same-length
 same-length c = search needs
@@ -20,4 +17,4 @@ returns c = cc
 
 pub record-commit-spec : {M : Type 1} → statement M
 record-commit-spec =
-    tie.close (tie.spec record-values-requires add-put put-requires same-length returns)
+    tie.close (tie.spec record-values-requires hold-commit-requires same-length returns)

@@ -1,22 +1,17 @@
 -- After k steps values 1 to k are stored.
-use Prim.Native.Nat.{_+_, _*_, _-_}
-use Rattle.records.specs.Fill.{Storing, storing}
+use Prim.Native.Nat.{_-_}
+use Rattle.records.specs.Layout.{commitRowAt}
+use Rattle.records.specs.laws.Fill.{Storing, storing}
 use Rattle.wire.specs.Bytes.{valueAt}
 use borrow.Author.Needs.{needs}
 use Rattle.delivery.proofs.record_values.Statement.{statement}
 use Rattle.delivery.proofs.record_values.Tie as tie
 
 abbrev Inv-loop : tie.InvT-loop
-Inv-loop s₀ p count part base k₀ s k = Storing (valueAt part) (751 + 16 * p) count s₀ s k
+Inv-loop s₀ p count part k₀ s k = Storing (valueAt part) (commitRowAt p) count s₀ s k
 
 abbrev μ-loop : tie.MeasureT-loop
-μ-loop s₀ p count part base k₀ s k = count - k
-
-mul-base : tie.Need-mul-base Inv-loop μ-loop
-mul-base c = search needs
-
-add-base : tie.Need-add-base Inv-loop μ-loop
-add-base c = search needs
+μ-loop s₀ p count part k₀ s k = count - k
 
 loop-holds : tie.Need-loop-holds Inv-loop μ-loop
 loop-holds c = search storing
@@ -24,17 +19,11 @@ loop-holds c = search storing
 add-k : tie.Need-add-k Inv-loop μ-loop
 add-k c = search needs
 
-cast-put : tie.Need-cast-put Inv-loop μ-loop
-cast-put c = search needs
-
-add-put : tie.Need-add-put Inv-loop μ-loop
-add-put c = search needs
-
 value-at-requires : tie.Need-value-at-requires Inv-loop μ-loop
 value-at-requires c κs = search needs
 
-put-requires : tie.Need-put-requires Inv-loop μ-loop
-put-requires c κs = search needs
+put-commit-value-requires : tie.Need-put-commit-value-requires Inv-loop μ-loop
+put-commit-value-requires c κs = search needs
 
 loop-less : tie.Need-loop-less Inv-loop μ-loop
 loop-less c = search needs
@@ -54,14 +43,10 @@ record-values-spec =
     (tie.spec
     Inv-loop
     μ-loop
-    mul-base
-    add-base
     loop-holds
     add-k
-    cast-put
-    add-put
     value-at-requires
-    put-requires
+    put-commit-value-requires
     loop-less
     loop-again
     same-length

@@ -1,6 +1,6 @@
 -- Closed, the refusals of the message, held, or accepted.
-use Rattle.delivery.specs.Cases.{verdict-cases}
-use Rattle.delivery.specs.Accepting.{link-fits}
+use Rattle.delivery.specs.laws.Cases.{verdict-cases}
+use Rattle.delivery.specs.laws.Accepting.{link-fits}
 use borrow.Author.Needs.{needs}
 use Rattle.delivery.proofs.verdict_in.Statement.{statement}
 use Rattle.delivery.proofs.verdict_in.Tie as tie

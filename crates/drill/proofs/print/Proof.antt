@@ -1,5 +1,5 @@
 -- The output stays within the lent bytes.
-use Rattle.drill_core.specs.Laws.{wrote-fits, wrote-length}
+use Rattle.drill_core.specs.laws.Parts.{wrote-fits, wrote-length}
 use borrow.Author.Needs.{needs}
 use Rattle.drill.proofs.print.Statement.{statement}
 use Rattle.drill.proofs.print.Tie as tie

@@ -1,5 +1,5 @@
 -- `drill_laws::by_lines` states a theorem of specs/ByLines.antt.
-use Rattle.drill_laws.specs.ByLines.{by-lines}
+use Rattle.drill_laws.specs.laws.ByLines.{by-lines}
 use Rattle.drill_laws.proofs.by_lines.Statement.{statement}
 use Rattle.drill_laws.proofs.by_lines.Tie as tie
 

@@ -1,5 +1,5 @@
 -- `drill_laws::messages_kept` states a theorem of specs/Demands.antt.
-use Rattle.drill_laws.specs.Demands.{messages-kept}
+use Rattle.drill_laws.specs.laws.Demands.{messages-kept}
 use Rattle.drill_laws.proofs.messages_kept.Statement.{statement}
 use Rattle.drill_laws.proofs.messages_kept.Tie as tie
 

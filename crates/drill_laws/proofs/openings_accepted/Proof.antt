@@ -1,5 +1,5 @@
 -- `drill_laws::openings_accepted` states a theorem of specs/Demands.antt.
-use Rattle.drill_laws.specs.Demands.{openings-accepted}
+use Rattle.drill_laws.specs.laws.Demands.{openings-accepted}
 use Rattle.drill_laws.proofs.openings_accepted.Statement.{statement}
 use Rattle.drill_laws.proofs.openings_accepted.Tie as tie
 

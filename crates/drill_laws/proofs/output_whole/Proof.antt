@@ -1,5 +1,5 @@
 -- `drill_laws::output_whole` states a theorem of specs/OutputLength.antt.
-use Rattle.drill_laws.specs.OutputLength.{output-whole}
+use Rattle.drill_laws.specs.laws.OutputLength.{output-whole}
 use Rattle.drill_laws.proofs.output_whole.Statement.{statement}
 use Rattle.drill_laws.proofs.output_whole.Tie as tie
 

@@ -1,5 +1,5 @@
 -- `drill_laws::parts_joined` states a theorem of drill_core.
-use Rattle.drill_core.specs.Laws.{output-parts}
+use Rattle.drill_core.specs.laws.Parts.{output-parts}
 use Rattle.drill_laws.proofs.parts_joined.Statement.{statement}
 use Rattle.drill_laws.proofs.parts_joined.Tie as tie
 

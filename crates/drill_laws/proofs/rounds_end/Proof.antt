@@ -1,5 +1,5 @@
 -- `drill_laws::rounds_end` states a theorem of specs/Demands.antt.
-use Rattle.drill_laws.specs.Demands.{rounds-end}
+use Rattle.drill_laws.specs.laws.Demands.{rounds-end}
 use Rattle.drill_laws.proofs.rounds_end.Statement.{statement}
 use Rattle.drill_laws.proofs.rounds_end.Tie as tie
 

@@ -1,5 +1,5 @@
 -- `reads_lines` states the theorem of specs/Theorem.antt.
-use Rattle.drill_lines.specs.Theorem.{reads-lines}
+use Rattle.drill_lines.specs.laws.Theorem.{reads-lines}
 use Rattle.drill_lines.proofs.reads_lines.Statement.{statement}
 use Rattle.drill_lines.proofs.reads_lines.Tie as tie
 

@@ -1,5 +1,5 @@
 -- A refusal is known before anything is written; an accepted delivery writes its line.
-use Rattle.journal.specs.Cases.{deliver-cases}
+use Rattle.journal.specs.laws.Cases.{deliver-cases}
 use borrow.Author.Needs.{needs}
 use Rattle.journal.proofs.deliver.Statement.{statement}
 use Rattle.journal.proofs.deliver.Tie as tie

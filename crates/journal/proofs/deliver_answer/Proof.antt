@@ -1,5 +1,5 @@
 -- The number of the verdict.
-use Rattle.journal.specs.Cases.{judged-cases}
+use Rattle.journal.specs.laws.Cases.{judged-cases}
 use borrow.Author.Needs.{needs}
 use Rattle.journal.proofs.deliver_answer.Statement.{statement}
 use Rattle.journal.proofs.deliver_answer.Tie as tie

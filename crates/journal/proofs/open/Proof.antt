@@ -1,5 +1,5 @@
 -- A refusal is known before anything is written; an accepted opening writes its line.
-use Rattle.journal.specs.Cases.{open-cases}
+use Rattle.journal.specs.laws.Cases.{open-cases}
 use borrow.Author.Needs.{needs}
 use Rattle.journal.proofs.open.Statement.{statement}
 use Rattle.journal.proofs.open.Tie as tie

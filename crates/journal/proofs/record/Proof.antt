@@ -1,5 +1,5 @@
 -- A refusal is known before anything is written; an accepted recording writes its line.
-use Rattle.journal.specs.Cases.{record-cases}
+use Rattle.journal.specs.laws.Cases.{record-cases}
 use borrow.Author.Needs.{needs}
 use Rattle.journal.proofs.record.Statement.{statement}
 use Rattle.journal.proofs.record.Tie as tie

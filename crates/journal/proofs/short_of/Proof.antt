@@ -1,5 +1,5 @@
 -- `short_of` goes by the number.
-use Rattle.journal.specs.Cases.{short-cases}
+use Rattle.journal.specs.laws.Cases.{short-cases}
 use Rattle.journal.proofs.short_of.Statement.{statement}
 use Rattle.journal.proofs.short_of.Tie as tie
 

@@ -1,5 +1,5 @@
 -- The turn gets all bytes for its message or none; one that acts writes its line.
-use Rattle.journal.specs.Cases.{turn-cases}
+use Rattle.journal.specs.laws.Cases.{turn-cases}
 use borrow.Author.Needs.{needs}
 use Rattle.journal.proofs.turn.Statement.{statement}
 use Rattle.journal.proofs.turn.Tie as tie

@@ -1,5 +1,5 @@
 -- `turn_room` goes by the bytes for the line.
-use Rattle.journal.specs.Cases.{room-cases}
+use Rattle.journal.specs.laws.Cases.{room-cases}
 use Rattle.journal.proofs.turn_room.Statement.{statement}
 use Rattle.journal.proofs.turn_room.Tie as tie
 

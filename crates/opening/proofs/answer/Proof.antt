@@ -1,5 +1,5 @@
 -- The weights as one word, then the answer.
-use Rattle.opening.specs.Cases.{given-answer}
+use Rattle.opening.specs.laws.Cases.{given-answer}
 use borrow.Author.Needs.{needs}
 use Rattle.opening.proofs.answer.Statement.{statement}
 use Rattle.opening.proofs.answer.Tie as tie

@@ -1,7 +1,7 @@
 -- After k steps the words below k are 0.
 use Prim.Native.Nat.{_-_}
 use lib.ListN.{length}
-use Rattle.records.specs.Fill.{Clearing, clearing}
+use Rattle.records.specs.laws.Fill.{Clearing, clearing}
 use borrow.Author.Needs.{needs}
 use Rattle.opening.proofs.clear.Statement.{statement}
 use Rattle.opening.proofs.clear.Tie as tie

@@ -1,5 +1,5 @@
 -- The weights as one word, then the session.
-use Rattle.opening.specs.Cases.{given-answer, given-words}
+use Rattle.opening.specs.laws.Cases.{given-answer, given-words}
 use borrow.Author.Needs.{needs}
 use Rattle.opening.proofs.open.Statement.{statement}
 use Rattle.opening.proofs.open.Tie as tie

@@ -1,5 +1,5 @@
 -- The refusals in their order.
-use Rattle.opening.specs.Cases.{open-cases}
+use Rattle.opening.specs.laws.Cases.{open-cases}
 use borrow.Author.Needs.{needs}
 use Rattle.opening.proofs.open_answer.Statement.{statement}
 use Rattle.opening.proofs.open_answer.Tie as tie

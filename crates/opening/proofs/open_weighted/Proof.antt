@@ -1,5 +1,5 @@
 -- The verdict, then the words where it is 0.
-use Rattle.opening.specs.Cases.{open-cases}
+use Rattle.opening.specs.laws.Cases.{open-cases}
 use borrow.Author.Needs.{needs}
 use Rattle.opening.proofs.open_weighted.Statement.{statement}
 use Rattle.opening.proofs.open_weighted.Tie as tie

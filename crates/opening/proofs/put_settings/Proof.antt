@@ -1,5 +1,5 @@
 -- Eight words in their order.
-use Rattle.opening.specs.Opening.{withSettings}
+use Rattle.opening.specs.laws.WeightsWord.{settingsWith}
 use borrow.Author.Needs.{needs}
 use Rattle.opening.proofs.put_settings.Statement.{statement}
 use Rattle.opening.proofs.put_settings.Tie as tie
@@ -32,7 +32,7 @@ same-length : tie.Need-same-length
 same-length c = search needs
 
 returns : tie.Need-returns
-unfolding withSettings
+unfolding settingsWith
 returns c = cc
 
 pub put-settings-spec : {M : Type 1} → statement M

@@ -1,5 +1,5 @@
 -- The verdict on the settings.
-use Rattle.opening.specs.Cases.{open-cases}
+use Rattle.opening.specs.laws.Cases.{open-cases}
 use borrow.Author.Needs.{needs}
 use Rattle.opening.proofs.settings_valid.Statement.{statement}
 use Rattle.opening.proofs.settings_valid.Tie as tie

@@ -1,5 +1,5 @@
 -- `mark` tests digit p − 1; outside 1 to 64 no mark is set.
-use Rattle.quorum.specs.MarkLaws.{mark-cases}
+use Rattle.quorum.specs.laws.Marks.{mark-cases}
 use borrow.Author.Needs.{needs}
 use Rattle.quorum.proofs.mark.Statement.{statement}
 use Rattle.quorum.proofs.mark.Tie as tie

@@ -1,5 +1,5 @@
 -- A shift and a remainder; a word has nothing above 64 marks.
-use Rattle.quorum.specs.Ones.{part-cases}
+use Rattle.quorum.specs.laws.Ones.{part-cases}
 use borrow.Author.Needs.{needs}
 use Rattle.quorum.proofs.part.Statement.{statement}
 use Rattle.quorum.proofs.part.Tie as tie

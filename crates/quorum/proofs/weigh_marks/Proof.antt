@@ -1,5 +1,5 @@
 -- The weight of marks is one count of four copies of them.
-use Rattle.quorum.specs.WeighLaws.{weigh-cases}
+use Rattle.quorum.specs.laws.Weights.{weigh-cases}
 use borrow.Author.Needs.{needs}
 use Rattle.quorum.proofs.weigh_marks.Statement.{statement}
 use Rattle.quorum.proofs.weigh_marks.Tie as tie

@@ -1,5 +1,5 @@
 -- The four marks of p, moved to the front of their groups.
-use Rattle.quorum.specs.WeighLaws.{weight-cases}
+use Rattle.quorum.specs.laws.Weights.{weight-cases}
 use borrow.Author.Needs.{needs}
 use Rattle.quorum.proofs.weight_of.Statement.{statement}
 use Rattle.quorum.proofs.weight_of.Tie as tie

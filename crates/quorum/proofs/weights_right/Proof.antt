@@ -1,5 +1,5 @@
 -- Weights of 1, then masks.
-use Rattle.quorum.specs.RightMasks.{ones-first}
+use Rattle.quorum.specs.laws.RightMasks.{ones-first}
 use borrow.Author.Needs.{needs}
 use Rattle.quorum.proofs.weights_right.Statement.{statement}
 use Rattle.quorum.proofs.weights_right.Tie as tie

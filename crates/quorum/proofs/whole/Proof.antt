@@ -1,5 +1,5 @@
 -- Weights of 1 are counted by their number, others by one count.
-use Rattle.quorum.specs.RightMasks.{ones-first}
+use Rattle.quorum.specs.laws.RightMasks.{ones-first}
 use borrow.Author.Needs.{needs}
 use Rattle.quorum.proofs.whole.Statement.{statement}
 use Rattle.quorum.proofs.whole.Tie as tie

@@ -1,5 +1,5 @@
 -- `with_mark` adds 2 ^ (p − 1) where mark p is clear, which stays within the word.
-use Rattle.quorum.specs.MarkLaws.{with-mark-cases}
+use Rattle.quorum.specs.laws.Marks.{with-mark-cases}
 use borrow.Author.Needs.{needs}
 use Rattle.quorum.proofs.with_mark.Statement.{statement}
 use Rattle.quorum.proofs.with_mark.Tie as tie

@@ -1,5 +1,5 @@
 -- The state, then the rest.
-use Rattle.recording.specs.Cases.{answer-cases}
+use Rattle.recording.specs.laws.Cases.{answer-cases}
 use borrow.Author.Needs.{needs}
 use Rattle.recording.proofs.answer.Statement.{statement}
 use Rattle.recording.proofs.answer.Tie as tie
@@ -10,8 +10,8 @@ state-of-requires c κs = search needs
 enum-told : tie.Need-enum-told
 enum-told c = search needs
 
-enum-known-held : tie.Need-enum-known-held
-enum-known-held c = search needs
+enum-known-stored : tie.Need-enum-known-stored
+enum-known-stored c = search needs
 
 running-answer-requires : tie.Need-running-answer-requires
 running-answer-requires c κs = search needs
@@ -28,7 +28,7 @@ answer-spec =
     (tie.spec
     state-of-requires
     enum-told
-    enum-known-held
+    enum-known-stored
     running-answer-requires
     returns
     returns-2)

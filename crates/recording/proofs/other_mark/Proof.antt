@@ -1,5 +1,5 @@
 -- The two bits.
-use Rattle.recording.specs.Cases.{mark-cases}
+use Rattle.recording.specs.laws.Cases.{mark-cases}
 use borrow.Author.Needs.{needs}
 use Rattle.recording.proofs.other_mark.Statement.{statement}
 use Rattle.recording.proofs.other_mark.Tie as tie

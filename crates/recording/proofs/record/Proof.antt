@@ -1,5 +1,5 @@
 -- The verdict, then the mark where it is 0.
-use Rattle.recording.specs.Cases.{record-cases}
+use Rattle.recording.specs.laws.Cases.{record-cases}
 use borrow.Author.Needs.{needs}
 use Rattle.recording.proofs.record.Statement.{statement}
 use Rattle.recording.proofs.record.Tie as tie

@@ -1,5 +1,5 @@
 -- The layout, then the other bit.
-use Rattle.recording.specs.Cases.{recordable-cases}
+use Rattle.recording.specs.laws.Cases.{recordable-cases}
 use borrow.Author.Needs.{needs}
 use Rattle.recording.proofs.recordable.Statement.{statement}
 use Rattle.recording.proofs.recordable.Tie as tie

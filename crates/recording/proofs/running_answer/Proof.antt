@@ -1,5 +1,5 @@
 -- The refusals in their order.
-use Rattle.recording.specs.Cases.{running-cases}
+use Rattle.recording.specs.laws.Cases.{running-cases}
 use borrow.Author.Needs.{needs}
 use Rattle.recording.proofs.running_answer.Statement.{statement}
 use Rattle.recording.proofs.running_answer.Tie as tie

@@ -1,5 +1,5 @@
 -- The mark of the other bit.
-use Rattle.recording.specs.Cases.{other-unmarked}
+use Rattle.recording.specs.laws.Cases.{other-unmarked}
 use borrow.Author.Needs.{needs}
 use Rattle.recording.proofs.unopposed.Statement.{statement}
 use Rattle.recording.proofs.unopposed.Tie as tie

@@ -1,5 +1,5 @@
 -- Printed, or recorded.
-use Rattle.records.specs.Cases.{known-cases}
+use Rattle.records.specs.laws.Cases.{known-cases}
 use borrow.Author.Needs.{needs}
 use Rattle.records.proofs.coin_known.Statement.{statement}
 use Rattle.records.proofs.coin_known.Tie as tie

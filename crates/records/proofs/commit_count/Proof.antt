@@ -14,6 +14,9 @@ word-requires c κs = search needs
 cast-result : tie.Need-cast-result
 cast-result c = search needs
 
+cast-result-2 : tie.Need-cast-result-2
+cast-result-2 c = search needs
+
 returns : tie.Need-returns
 unfolding commitCount
 returns c = omega arith
@@ -23,4 +26,4 @@ unfolding commitCount
 returns-2 c = omega arith
 
 pub commit-count-spec : {M : Type 1} → statement M
-commit-count-spec = tie.close (tie.spec add-word word-requires cast-result returns returns-2)
+commit-count-spec = tie.close (tie.spec add-word word-requires cast-result cast-result-2 returns returns-2)

@@ -1,6 +1,6 @@
 -- After k steps the first k elements are copied.
 use Prim.Native.Nat.{_-_}
-use Rattle.records.specs.Copy.{Copying, copying}
+use Rattle.records.specs.laws.Copy.{Copying, copying}
 use borrow.Author.Needs.{needs}
 use Rattle.records.proofs.copy_front.Statement.{statement}
 use Rattle.records.proofs.copy_front.Tie as tie

@@ -1,6 +1,7 @@
 -- After the words above p their marks are collected.
-use Rattle.quorum.specs.Marking.{Marking, marking}
-use Rattle.records.specs.Words.{equalAt, equal-test}
+use Rattle.quorum.specs.laws.Marking.{Marking, marking}
+use Rattle.records.specs.Words.{equalAt}
+use Rattle.records.specs.laws.Words.{equal-test}
 use borrow.Author.Needs.{needs}
 use Rattle.records.proofs.equal_each.Statement.{statement}
 use Rattle.records.proofs.equal_each.Tie as tie

@@ -1,5 +1,5 @@
 -- A store within the state, or nothing past its end.
-use Rattle.records.specs.Words.{words}
+use Rattle.records.specs.laws.Words.{words}
 use borrow.Author.Needs.{needs}
 use Rattle.records.proofs.put.Statement.{statement}
 use Rattle.records.proofs.put.Tie as tie

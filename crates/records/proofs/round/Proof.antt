@@ -11,6 +11,9 @@ add-word c = search needs
 word-requires : tie.Need-word-requires
 word-requires c κs = search needs
 
+cast-if1 : tie.Need-cast-if1
+cast-if1 c = search needs
+
 cast-result : tie.Need-cast-result
 cast-result c = search needs
 
@@ -23,4 +26,4 @@ unfolding round
 returns-2 c = omega arith
 
 pub round-spec : {M : Type 1} → statement M
-round-spec = tie.close (tie.spec add-word word-requires cast-result returns returns-2)
+round-spec = tie.close (tie.spec add-word word-requires cast-if1 cast-result returns returns-2)

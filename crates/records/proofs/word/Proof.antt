@@ -1,5 +1,5 @@
 -- A word within the state, or 0 past its end.
-use Rattle.records.specs.Words.{words}
+use Rattle.records.specs.laws.Words.{words}
 use borrow.Author.Needs.{needs}
 use Rattle.records.proofs.word.Statement.{statement}
 use Rattle.records.proofs.word.Tie as tie

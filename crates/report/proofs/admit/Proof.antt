@@ -1,5 +1,5 @@
 -- No state, or the room in its session.
-use Rattle.report.specs.Cases.{admit-cases}
+use Rattle.report.specs.laws.Cases.{admit-cases}
 use borrow.Author.Needs.{needs}
 use Rattle.report.proofs.admit.Statement.{statement}
 use Rattle.report.proofs.admit.Tie as tie
@@ -13,8 +13,8 @@ state-of-requires c κs = search needs
 enum-told : tie.Need-enum-told
 enum-told c = search needs
 
-enum-known-held : tie.Need-enum-known-held
-enum-known-held c = search needs
+enum-known-stored : tie.Need-enum-known-stored
+enum-known-stored c = search needs
 
 admit-in-requires : tie.Need-admit-in-requires
 admit-in-requires c κs = search needs
@@ -32,7 +32,7 @@ admit-spec =
     returns
     state-of-requires
     enum-told
-    enum-known-held
+    enum-known-stored
     admit-in-requires
     returns-2
     returns-3)

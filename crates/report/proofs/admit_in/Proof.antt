@@ -1,5 +1,5 @@
 -- Short, or not.
-use Rattle.report.specs.Cases.{admit-cases}
+use Rattle.report.specs.laws.Cases.{admit-cases}
 use Rattle.report.proofs.admit_in.Statement.{statement}
 use Rattle.report.proofs.admit_in.Tie as tie
 

@@ -1,5 +1,5 @@
 -- Closed, or none.
-use Rattle.report.specs.Cases.{sender-cases}
+use Rattle.report.specs.laws.Cases.{sender-cases}
 use borrow.Author.Needs.{needs}
 use Rattle.report.proofs.in_force_sender.Statement.{statement}
 use Rattle.report.proofs.in_force_sender.Tie as tie

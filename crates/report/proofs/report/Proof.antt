@@ -1,5 +1,5 @@
 -- Refused, or both sets and the figures.
-use Rattle.report.specs.Cases.{given-named-room, given-in-force-room, report-cases}
+use Rattle.report.specs.laws.Cases.{given-named-room, given-in-force-room, report-cases}
 use borrow.Author.Needs.{needs}
 use Rattle.report.proofs.report.Statement.{statement}
 use Rattle.report.proofs.report.Tie as tie

@@ -1,5 +1,5 @@
 -- The set of the sender.
-use Rattle.report.specs.Cases.{in-force-cases}
+use Rattle.report.specs.laws.Cases.{in-force-cases}
 use borrow.Author.Needs.{needs}
 use Rattle.report.proofs.write_in_force.Statement.{statement}
 use Rattle.report.proofs.write_in_force.Tie as tie

@@ -1,5 +1,5 @@
 -- The set of the exit, then the set in force.
-use Rattle.report.specs.Cases.{report-done}
+use Rattle.report.specs.laws.Cases.{report-done}
 use borrow.Author.Needs.{needs}
 use Rattle.report.proofs.write_report.Statement.{statement}
 use Rattle.report.proofs.write_report.Tie as tie
@@ -13,8 +13,8 @@ write-values-requires c κs = search needs
 write-in-force-requires : tie.Need-write-in-force-requires
 write-in-force-requires c κs = search needs
 
-word-requires : tie.Need-word-requires
-word-requires c κs = search needs
+turn-count-requires : tie.Need-turn-count-requires
+turn-count-requires c κs = search needs
 
 same-length : tie.Need-same-length
 same-length c = search needs
@@ -32,7 +32,7 @@ write-report-spec =
     exit-now-requires
     write-values-requires
     write-in-force-requires
-    word-requires
+    turn-count-requires
     same-length
     same-length-2
     returns)

@@ -1,8 +1,8 @@
 -- After k turns the first k are copied.
 use Prim.Native.Nat.{_-_}
 use lib.ListN.{length}
-use Rattle.restore.specs.Opened.{Copying}
-use Rattle.restore.specs.Restored.{words-copied}
+use Rattle.restore.specs.laws.Opened.{Copying}
+use Rattle.restore.specs.laws.Restored.{words-copied}
 use borrow.Author.Needs.{needs}
 use Rattle.restore.proofs.copy_words.Statement.{statement}
 use Rattle.restore.proofs.copy_words.Tie as tie

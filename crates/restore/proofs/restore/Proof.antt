@@ -1,5 +1,5 @@
 -- Enough is lent, or all stays.
-use Rattle.restore.specs.Restored.{restore-cases}
+use Rattle.restore.specs.laws.Restored.{restore-cases}
 use borrow.Author.Needs.{needs}
 use Rattle.restore.proofs.restore.Statement.{statement}
 use Rattle.restore.proofs.restore.Tie as tie

@@ -1,5 +1,5 @@
 -- The lines are applied, and the copy becomes the state, or one is not, and it stays.
-use Rattle.restore.specs.Restored.{onto-cases}
+use Rattle.restore.specs.laws.Restored.{onto-cases}
 use borrow.Author.Needs.{needs}
 use Rattle.restore.proofs.restore_onto.Statement.{statement}
 use Rattle.restore.proofs.restore_onto.Tie as tie

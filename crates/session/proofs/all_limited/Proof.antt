@@ -1,7 +1,7 @@
 -- After k steps the words of 1 to k are within the limit.
 use Prim.Native.Nat.{_+_, _-_}
 use lib.Dec.{leb}
-use Rattle.quorum.specs.Every.{Holding, holding}
+use Rattle.quorum.specs.laws.Every.{Holding, holding}
 use Rattle.records.specs.Words.{word}
 use borrow.Author.Needs.{needs}
 use Rattle.session.proofs.all_limited.Statement.{statement}

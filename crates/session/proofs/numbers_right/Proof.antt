@@ -1,5 +1,5 @@
 -- The tests in their order.
-use Rattle.session.specs.Cases.{number-cases}
+use Rattle.session.specs.laws.Cases.{number-cases}
 use borrow.Author.Needs.{needs}
 use Rattle.session.proofs.numbers_right.Statement.{statement}
 use Rattle.session.proofs.numbers_right.Tie as tie
@@ -34,17 +34,20 @@ returns-3 c = search number-cases
 cast-all-limited : tie.Need-cast-all-limited
 cast-all-limited c = search needs
 
+cast-all-limited-2 : tie.Need-cast-all-limited-2
+cast-all-limited-2 c = search needs
+
 all-limited-requires : tie.Need-all-limited-requires
 all-limited-requires c κs = search needs
 
 returns-4 : tie.Need-returns-4
 returns-4 c = search number-cases
 
-cast-all-limited-2 : tie.Need-cast-all-limited-2
-cast-all-limited-2 c = search needs
-
 cast-all-limited-3 : tie.Need-cast-all-limited-3
 cast-all-limited-3 c = search needs
+
+cast-all-limited-4 : tie.Need-cast-all-limited-4
+cast-all-limited-4 c = search needs
 
 all-limited-requires-2 : tie.Need-all-limited-requires-2
 all-limited-requires-2 c κs = search needs
@@ -66,9 +69,10 @@ numbers-right-spec =
     word-requires-3
     returns-3
     cast-all-limited
+    cast-all-limited-2
     all-limited-requires
     returns-4
-    cast-all-limited-2
     cast-all-limited-3
+    cast-all-limited-4
     all-limited-requires-2
     returns-5)

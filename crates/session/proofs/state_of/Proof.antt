@@ -1,5 +1,5 @@
 -- Word count, then settings, then the rest.
-use Rattle.session.specs.Cases.{state-cases}
+use Rattle.session.specs.laws.Cases.{state-cases}
 use borrow.Author.Needs.{needs}
 use Rattle.session.proofs.state_of.Statement.{statement}
 use Rattle.session.proofs.state_of.Tie as tie

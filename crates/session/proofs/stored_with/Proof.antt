@@ -1,5 +1,5 @@
 -- The session, or none.
-use Rattle.session.specs.Cases.{state-cases}
+use Rattle.session.specs.laws.Cases.{state-cases}
 use borrow.Author.Needs.{needs}
 use Rattle.session.proofs.stored_with.Statement.{statement}
 use Rattle.session.proofs.stored_with.Tie as tie

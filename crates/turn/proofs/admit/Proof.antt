@@ -1,5 +1,5 @@
 -- No state, closed, too short, or open.
-use Rattle.turn.specs.Taking.{admit-cases}
+use Rattle.turn.specs.laws.Taking.{admit-cases}
 use borrow.Author.Needs.{needs}
 use Rattle.turn.proofs.admit.Statement.{statement}
 use Rattle.turn.proofs.admit.Tie as tie
@@ -13,8 +13,8 @@ state-of-requires c κs = search needs
 enum-told : tie.Need-enum-told
 enum-told c = search needs
 
-enum-known-held : tie.Need-enum-known-held
-enum-known-held c = search needs
+enum-known-stored : tie.Need-enum-known-stored
+enum-known-stored c = search needs
 
 closed-requires : tie.Need-closed-requires
 closed-requires c κs = search needs
@@ -38,7 +38,7 @@ admit-spec =
     returns
     state-of-requires
     enum-told
-    enum-known-held
+    enum-known-stored
     closed-requires
     returns-2
     returns-3

@@ -1,5 +1,5 @@
 -- The EST of the next round, or none.
-use Rattle.turn.specs.Taking.{outcome-cases}
+use Rattle.turn.specs.laws.Taking.{outcome-cases}
 use borrow.Author.Needs.{needs}
 use Rattle.turn.proofs.move_outcome.Statement.{statement}
 use Rattle.turn.proofs.move_outcome.Tie as tie

@@ -1,5 +1,5 @@
 -- The outcome of each act.
-use Rattle.turn.specs.Taking.{outcome-cases}
+use Rattle.turn.specs.laws.Taking.{outcome-cases}
 use borrow.Author.Needs.{needs}
 use Rattle.turn.proofs.outcome_of.Statement.{statement}
 use Rattle.turn.proofs.outcome_of.Tie as tie

@@ -1,5 +1,5 @@
 -- What is due is written and recorded.
-use Rattle.turn.specs.Taking.{taking-cases}
+use Rattle.turn.specs.laws.Taking.{taking-cases}
 use borrow.Author.Needs.{needs}
 use Rattle.turn.proofs.take_turn.Statement.{statement}
 use Rattle.turn.proofs.take_turn.Tie as tie

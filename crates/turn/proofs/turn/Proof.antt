@@ -1,5 +1,5 @@
 -- The number of the refusal, or the turn.
-use Rattle.turn.specs.Taking.{turn-cases}
+use Rattle.turn.specs.laws.Taking.{turn-cases}
 use borrow.Author.Needs.{needs}
 use Rattle.turn.proofs.turn.Statement.{statement}
 use Rattle.turn.proofs.turn.Tie as tie

@@ -1,5 +1,5 @@
 -- Only what is sent is written.
-use Rattle.turn.specs.Taking.{write-cases}
+use Rattle.turn.specs.laws.Taking.{write-cases}
 use borrow.Author.Needs.{needs}
 use Rattle.turn.proofs.write_outcome.Statement.{statement}
 use Rattle.turn.proofs.write_outcome.Tie as tie

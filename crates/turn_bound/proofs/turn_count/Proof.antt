@@ -1,5 +1,5 @@
--- `turn_count` states the theorem of specs/CallCount.antt.
-use Rattle.turn_bound.specs.CallCount.{call-count}
+-- `turn_count` states the theorem of specs/laws/CallCount.antt.
+use Rattle.turn_bound.specs.laws.CallCount.{call-count}
 use Rattle.turn_bound.proofs.turn_count.Statement.{statement}
 use Rattle.turn_bound.proofs.turn_count.Tie as tie
 

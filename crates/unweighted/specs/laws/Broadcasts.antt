@@ -4,7 +4,7 @@ use mathlib.Core.Bool.{Bool, _&&_, cond}
 use mathlib.Core.List.{List}
 use mathlib.Core.Path.{_≡_, refl, ap, ap₂, fun-ext, _∙_}
 use lib.Dec.{eqb, leb}
-use Rattle.quorum.specs.Lowest.{lowest-agree}
+use Rattle.quorum.specs.laws.Lowest.{lowest-agree}
 use Rattle.records.specs.Records.{readySent, echoHeld, echoValue, readyHeld, readyValue}
 use Rattle.acts.specs.Acts.{firstAct}
 use Rattle.acts.specs.declared.Act.{Act}
@@ -16,7 +16,7 @@ use Rattle.broadcasts.specs.Leading as weighted-leading
 use Rattle.broadcasts.specs.declared.Output.{Output}
 use Rattle.settings.specs.declared.Settings as weighted-settings
 use Rattle.unweighted.specs.Broadcasts.{holders, leads, leading, output, readyDue, readyAct, echoRule, readyRule}
-use Rattle.unweighted.specs.laws.Counts.{Ones, plain, counts, quorum-same, copy-same}
+use Rattle.unweighted.specs.laws.Counts.{Ones, plain, counts, quorum-same, repeat-same}
 
 module _ (g : weighted-settings.Settings) (one : Ones g) where
   holders-same : (held : ℕ → Bool) (value : ℕ → ℕ) (v : ℕ) → weighted-leading.holders (g .weights) held value v (g .n) ≡ holders held value v (g .n)
@@ -42,7 +42,7 @@ module _ (g : weighted-settings.Settings) (one : Ones g) where
     due-same i =
         ap₂ orOutput
         (leading-same (echoHeld s i) (echoValue s i) _ _ (quorum-same g one))
-        (leading-same (readyHeld s i) (readyValue s i) _ _ (copy-same g))
+        (leading-same (readyHeld s i) (readyValue s i) _ _ (repeat-same g))
 
     act-same : (i : ℕ) → weighted.readyAct g s i ≡ readyAct (plain g) s i
     unfolding weighted.readyAct readyAct

@@ -4,7 +4,7 @@ use mathlib.Core.Bool.{_&&_}
 use mathlib.Core.List.{List}
 use mathlib.Core.Path.{_≡_, ap, _∙_}
 use lib.Dec.{leb}
-use Rattle.quorum.specs.Lowest.{lowest-agree}
+use Rattle.quorum.specs.laws.Lowest.{lowest-agree}
 use Rattle.commits.specs.Commits.{commitHeld, sameSet, setOf}
 use Rattle.commits.specs.Commits as weighted
 use Rattle.settings.specs.declared.Settings as weighted-settings

@@ -4,13 +4,14 @@ use mathlib.Core.Bool.{Bool, true, false, _&&_}
 use mathlib.Core.Path.{_≡_, refl, ap, _∙_}
 use lib.Dec.{leb}
 use Rattle.quorum.specs.Total.{count, everyone}
-use Rattle.quorum.specs.TotalLaws.{count-everyone}
+use Rattle.quorum.specs.laws.Total.{count-everyone}
 use Rattle.quorum.specs.Weights.{weightOf, weigh}
-use Rattle.quorum.specs.Whole.{wholeOf, weightRight, weightsRight, total-weights}
-use Rattle.quorum.specs.Every.{each-every}
+use Rattle.quorum.specs.Whole.{wholeOf, weightRight, weightsRight}
+use Rattle.quorum.specs.laws.Whole.{total-weights}
+use Rattle.quorum.specs.laws.Every.{each-every}
 use Rattle.settings.specs.Settings as weighted
 use Rattle.settings.specs.declared.Settings as weighted-settings
-use Rattle.unweighted.specs.Settings.{Settings, validSettings, namedTa, quorum, copy, voteQuorum, relay, accept, turnBound}
+use Rattle.unweighted.specs.Settings.{Settings, validSettings, namedTa, quorum, repeat, voteQuorum, relay, accept}
 
 module _ (w n : ℕ) (each : (p : ℕ) → 1 ≤ p → p ≤ n → weightOf w p ≡ 1) where
   pub weigh-count : (M : ℕ → Bool) → weigh w M n ≡ count M n
@@ -58,9 +59,9 @@ module _ (g : weighted-settings.Settings) (one : Ones g) where
   vote-quorum-same = ap (λ (k : ℕ). k - g .ta) (one .whole)
 
 module _ (g : weighted-settings.Settings) where
-  pub copy-same : weighted.copy g ≡ copy (plain g)
-  unfolding weighted.copy copy
-  copy-same = refl
+  pub repeat-same : weighted.repeat g ≡ repeat (plain g)
+  unfolding weighted.repeat repeat
+  repeat-same = refl
 
   pub relay-same : weighted.relay g ≡ relay (plain g)
   unfolding weighted.relay relay
@@ -69,7 +70,3 @@ module _ (g : weighted-settings.Settings) where
   pub accept-same : weighted.accept g ≡ accept (plain g)
   unfolding weighted.accept accept
   accept-same = refl
-
-  pub bound-same : weighted.turnBound g ≡ turnBound (plain g)
-  unfolding weighted.turnBound turnBound
-  bound-same = refl

@@ -1,15 +1,14 @@
 -- A delivery to words in which all weights are 1.
 use Prim.Native.Nat.{ℕ}
-use mathlib.Core.Bool.{Bool, true, false, not, cond}
+use mathlib.Core.Bool.{Bool, not, cond}
 use mathlib.Core.List.{List}
-use mathlib.Core.Path.{_≡_, refl, ap, _∙_}
+use mathlib.Core.Path.{_≡_, ap}
 use Rattle.settings.specs.Refusals.{NO-STATE, CLOSED}
 use Rattle.records.specs.Layout.{nAt}
 use Rattle.records.specs.Words.{word}
 use Rattle.records.specs.Records.{closed}
-use Rattle.session.specs.Session.{stored, sessionWith, sessionOf}
+use Rattle.session.specs.Session.{sessionWith, sessionOf}
 use Rattle.session.specs.Session as weighted-session
-use Rattle.session.specs.declared.Stored.the-variants.{NoState, Held}
 use Rattle.wire.specs.Reading.{readMessage}
 use Rattle.delivery.specs.Delivery.{judged, answerOf, wordsAfter}
 use Rattle.delivery.specs.Delivery as weighted
@@ -24,14 +23,9 @@ module _ (s : List ℕ) (all : AllOne s) (link : ℕ) (b : List ℕ) where
   abbrev judge : Bool → Verdict
   judge t = cond (not t) (Refused NO-STATE) (cond (closed s) (Refused CLOSED) (judged s link (readMessage (word s nAt) (sessionNumber s) link b)))
 
-  by-state : (t : Bool) → weighted.verdictFor (cond t (Held (sessionOf s)) NoState) s link b ≡ judge t
-  unfolding weighted.verdictFor weighted.verdictIn sessionOf sessionWith weighted-session.settingsOf sessionNumber
-  by-state true = refl
-  by-state false = refl
-
   verdict-same : weighted.verdict s link b ≡ verdict s link b
-  unfolding weighted.verdict stored verdict
-  verdict-same = by-state (weighted-session.isState s) ∙ ap (λ (t : Bool). judge t) (state-same s all)
+  unfolding weighted.verdict verdict sessionOf sessionWith weighted-session.settingsOf sessionNumber
+  verdict-same = ap (λ (t : Bool). judge t) (state-same s all)
 
   pub deliver-answer-same : weighted.deliverAnswer s link b ≡ deliverAnswer s link b
   unfolding weighted.deliverAnswer deliverAnswer

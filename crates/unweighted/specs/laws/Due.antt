@@ -19,7 +19,7 @@ use Rattle.settings.specs.declared.Settings as weighted-settings
 use Rattle.unweighted.specs.Votes.{votesDecidedOne, voteAct}
 use Rattle.unweighted.specs.Broadcasts.{output}
 use Rattle.unweighted.specs.Due.{inForceRule, commitDue, commitRule, votesRule, due}
-use Rattle.unweighted.specs.laws.Counts.{Ones, plain, quorum-same, copy-same}
+use Rattle.unweighted.specs.laws.Counts.{Ones, plain, quorum-same, repeat-same}
 use Rattle.unweighted.specs.laws.Broadcasts.{output-same, echo-rule-same, ready-rule-same}
 use Rattle.unweighted.specs.laws.Votes.{decided-same, vote-act-same}
 use Rattle.unweighted.specs.laws.Exits.{exit-now-same}
@@ -32,7 +32,7 @@ module _ (g : weighted-settings.Settings) (one : Ones g) (s : List ℕ) where
 
   pub commit-due-same : weighted.commitDue g s ≡ commitDue (plain g) s
   unfolding weighted.commitDue commitDue
-  commit-due-same = ap₂ orSet (ap (λ (x : Exit). x .names) (exit-now-same g one s)) (leading-set-same g one s _ _ (copy-same g))
+  commit-due-same = ap₂ orSet (ap (λ (x : Exit). x .names) (exit-now-same g one s)) (leading-set-same g one s _ _ (repeat-same g))
 
   commit-same : weighted.commitRule g s ≡ commitRule (plain g) s
   unfolding weighted.commitRule commitRule
@@ -44,7 +44,7 @@ module _ (g : weighted-settings.Settings) (one : Ones g) (s : List ℕ) where
       ∙ vote-act-same g one s i (present (output (plain g) s i)) (votesDecidedOne (plain g) s)
 
   votes-same : weighted.votesRule g s ≡ votesRule (plain g) s
-  unfolding weighted.votesRule votesRule
+  unfolding weighted.votesRule weighted-votes.voteRule votesRule
   votes-same =
       ap₂ (λ (x : Exit) (f : ℕ → Act). cond (eqb (x .number) 1) Idle (firstAct f (g .n))) (exit-now-same g one s) (fun-ext vote-same)
 

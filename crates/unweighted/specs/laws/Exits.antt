@@ -5,13 +5,12 @@ use mathlib.Core.List.{List}
 use mathlib.Core.Path.{_≡_, refl, ap, ap₂, fun-ext, _∙_}
 use lib.Dec.{leb, ltb}
 use Rattle.quorum.specs.Every.{every}
-use Rattle.quorum.specs.Lowest.{lowest-agree}
+use Rattle.quorum.specs.laws.Lowest.{lowest-agree}
 use Rattle.records.specs.Records.{decidedZero, decidedOne}
 use Rattle.broadcasts.specs.Leading.{present}
 use Rattle.broadcasts.specs.declared.Output.{Output}
 use Rattle.exits.specs.Exits.{hasValue, valueIn, everyBroadcast}
 use Rattle.exits.specs.Exits as weighted
-use Rattle.exits.specs.Now as weighted-now
 use Rattle.settings.specs.declared.Settings as weighted-settings
 use Rattle.unweighted.specs.Exits.{withOutput, sizeS, exit1At, votesDone, exit2At, exit3Full, exit3, exitOf, exitNow}
 use Rattle.unweighted.specs.laws.Counts.{Ones, plain, counts, quorum-same, vote-quorum-same}
@@ -50,8 +49,8 @@ module _ (g : weighted-settings.Settings) (one : Ones g) where
   unfolding weighted.exitOf exitOf
   exit-same o as0 as1 = rw (exit1-same o, votes-same as0 as1, exit2-same o as1, exit3-same o as1)
 
-  pub exit-now-same : (s : List ℕ) → weighted-now.exitNow g s ≡ exitNow (plain g) s
-  unfolding weighted-now.exitNow exitNow
+  pub exit-now-same : (s : List ℕ) → weighted.exitNow g s ≡ exitNow (plain g) s
+  unfolding weighted.exitNow exitNow
   exit-now-same s =
       ap (λ (o : ℕ → Output). weighted.exitOf g o (decidedZero s) (decidedOne s)) (fun-ext (output-same g one s))
       ∙ exit-same _ (decidedZero s) (decidedOne s)

@@ -9,20 +9,22 @@ use lib.ListN.{length}
 use lib.Seq.{set-comm}
 use borrow.Author.Tests.{le-leb, lt-leb, eq-eqb, ne-eqb}
 use Rattle.quorum.specs.Weights.{weightOf}
-use Rattle.quorum.specs.Whole.{ones-weight}
-use Rattle.settings.specs.Laws.{valid-rules}
+use Rattle.quorum.specs.laws.Whole.{ones-weight}
+use Rattle.settings.specs.laws.Rules.{valid-rules}
 use Rattle.settings.specs.Settings as weighted-settings
 use Rattle.records.specs.Layout.{weightsAt, boxedAt, coinAt}
 use Rattle.records.specs.Words.{put}
-use Rattle.records.specs.Fill.{storeOf}
+use Rattle.records.specs.Words.{storeOf}
 use Rattle.opening.specs.Given.{item, weightsWord}
-use Rattle.opening.specs.Ones.{onesGiven, ones-word}
+use Rattle.opening.specs.Given.{onesGiven}
+use Rattle.opening.specs.Arguments.{Arguments, weightsBy, taBy}
+use Rattle.opening.specs.laws.Ones.{ones-word}
 use Rattle.opening.specs.Opening.{withCoins}
 use Rattle.opening.specs.Opening as weighted
-use Rattle.opening.specs.Cases as weighted-cases
+use Rattle.opening.specs.laws.Cases as weighted-cases
 use Rattle.unweighted.specs.Settings.{validSettings, namedTa}
 use Rattle.unweighted.specs.Opening.{openAnswer, withSettings, openWords, opened}
-use Rattle.unweighted.specs.Statement.{OpensAlike}
+use Rattle.unweighted.specs.Statement.{GivenOnes, OpensAlike}
 use Rattle.unweighted.specs.laws.Counts.{valid-same, named-same}
 
 -- the n weights of 1 as one word
@@ -46,9 +48,9 @@ ones-valid n ta ts = at (decLe 1 n) (decLe n 16)
     at (yes some) (no few) = rw (lt-leb n 16 (omega arith), le-leb 1 n some)
     at (no some) d = rw (lt-leb 1 n (omega arith))
 
-pub answer-same : (words n ta ts own : ℕ) (coins : List ℕ) (boxed : ℕ) → weighted.openAnswer words n ta ts (onesWord n) own coins boxed ≡ openAnswer words n ta ts own coins boxed
-unfolding weighted.openAnswer openAnswer
-answer-same words n ta ts own coins boxed = rw (ones-valid n ta ts)
+pub answer-same : (words : ℕ) (o : Arguments) → GivenOnes o → weighted.openAnswer words o ≡ openAnswer words o
+unfolding weighted.openAnswer openAnswer GivenOnes
+answer-same words o ones = rw (ones, ones-valid (o .n) (o .ta) (o .ts))
 
 pub put-swap : (s : List ℕ) (k j v w : ℕ) → k ≢ j → put (put s k v) j w ≡ put (put s j w) k v
 unfolding put
@@ -62,36 +64,34 @@ store-put f a s k v (suc n) h =
     ap (λ (t : List ℕ). put t (a + suc n) (f (suc n))) (store-put f a s k v n (λ j lo hi. h j lo (omega arith)))
     ∙ put-swap (storeOf f a s n) k (a + suc n) v (f (suc n)) (h (suc n) (omega arith) (omega arith))
 
-module _ (n ta ts own session input : ℕ) (coins : List ℕ) (boxed : ℕ) where
-  words-same : 1 ≤ n → n ≤ 16 → weighted.openWords n ta ts (onesWord n) own session input coins boxed ≡ put (openWords n ta ts own session input coins boxed) weightsAt (onesWord n)
-  unfolding weighted.openWords weighted.withSettings withCoins openWords withSettings
+module _ (o : Arguments) (ones : GivenOnes o) where
+  words-same : 1 ≤ o .n → o .n ≤ 16 → weighted.openWords o ≡ put (openWords o) weightsAt (onesWord (o .n))
+  unfolding weighted.openWords weighted.withSettings withCoins openWords withSettings GivenOnes
   words-same some few =
-      rw (ones-named n ta ts some few)
-      (ap (λ (t : List ℕ). storeOf (item coins) (coinAt 0) t n) (put-swap _ weightsAt boxedAt (onesWord n) boxed (λ z. omega arith))
-      ∙ store-put (item coins) (coinAt 0) _ weightsAt (onesWord n) n (λ j lo hi z. omega arith))
+      rw (ones, ones-named (o .n) (o .ta) (o .ts) some few)
+      (ap (λ (t : List ℕ). storeOf (item (o .coins)) (coinAt 0) t (o .n)) (put-swap _ weightsAt boxedAt (onesWord (o .n)) (o .boxed) (λ z. omega arith))
+      ∙ store-put (item (o .coins)) (coinAt 0) _ weightsAt (onesWord (o .n)) (o .n) (λ j lo hi z. omega arith))
 
   module _ (s : List ℕ) where
-    pub accepted-few : openAnswer (length s) n ta ts own coins boxed ≡ 0 → (1 ≤ n) × (n ≤ 16)
+    pub accepted-few : openAnswer (length s) o ≡ 0 → (1 ≤ o .n) × (o .n ≤ 16)
     accepted-few e =
-        let same = answer-same (length s) n ta ts own coins boxed in
-        let r = valid-rules n (weighted-settings.namedTa n ta ts (onesWord n)) ts (onesWord n) (weighted-cases.accepted (length s) n ta ts (onesWord n) own coins boxed (same ∙ e) .valid) in
+        let r = valid-rules (o .n) (taBy o) (o .ts) (weightsBy o) (weighted-cases.accepted (length s) o (answer-same (length s) o ones ∙ e) .valid) in
         (r .some, r .few)
 
-    opened-accepted : openAnswer (length s) n ta ts own coins boxed ≡ 0 → weighted.opened s n ta ts (onesWord n) own session input coins boxed ≡ put (opened s n ta ts own session input coins boxed) weightsAt (2 ^ n - 1)
+    opened-accepted : openAnswer (length s) o ≡ 0 → weighted.opened s o ≡ put (opened s o) weightsAt (2 ^ o .n - 1)
     unfolding weighted.opened opened
     opened-accepted e =
         let few = accepted-few e in
-        rw (answer-same (length s) n ta ts own coins boxed, eq-eqb (openAnswer (length s) n ta ts own coins boxed) 0 e)
-        (words-same (few .0) (few .1) ∙ ap (put (openWords n ta ts own session input coins boxed) weightsAt) (ones-word n (few .0) (few .1)))
+        rw (answer-same (length s) o ones, eq-eqb (openAnswer (length s) o) 0 e)
+        (words-same (few .0) (few .1) ∙ ap (put (openWords o) weightsAt) (ones-word (o .n) (few .0) (few .1)))
 
-    opened-refused : openAnswer (length s) n ta ts own coins boxed ≢ 0 → weighted.opened s n ta ts (onesWord n) own session input coins boxed ≡ s
+    opened-refused : openAnswer (length s) o ≢ 0 → weighted.opened s o ≡ s
     unfolding weighted.opened
-    opened-refused ne =
-        rw (answer-same (length s) n ta ts own coins boxed, ne-eqb (openAnswer (length s) n ta ts own coins boxed) 0 ne)
+    opened-refused ne = rw (answer-same (length s) o ones, ne-eqb (openAnswer (length s) o) 0 ne)
 
-    both-refused : openAnswer (length s) n ta ts own coins boxed ≢ 0 → opened s n ta ts own session input coins boxed ≡ s
+    both-refused : openAnswer (length s) o ≢ 0 → opened s o ≡ s
     unfolding opened
-    both-refused ne = rw (ne-eqb (openAnswer (length s) n ta ts own coins boxed) 0 ne)
+    both-refused ne = rw (ne-eqb (openAnswer (length s) o) 0 ne)
 
-    pub opens-same : OpensAlike s n ta ts own session input coins boxed
+    pub opens-same : OpensAlike s o
     opens-same = record { accepted = opened-accepted; refused = opened-refused; unweighted-refused = both-refused }

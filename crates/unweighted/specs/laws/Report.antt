@@ -9,11 +9,8 @@ use Rattle.settings.specs.Refusals.{SHORT, NO-STATE}
 use Rattle.records.specs.Layout.{turnsAt}
 use Rattle.records.specs.Words.{word}
 use Rattle.records.specs.Records.{closed}
-use Rattle.session.specs.Session.{stored, sessionWith, sessionOf}
 use Rattle.session.specs.Session as weighted-session
-use Rattle.session.specs.declared.Stored.the-variants.{NoState, Held}
 use Rattle.exits.specs.Exits.{Exit}
-use Rattle.report.specs.Report.{atFront}
 use Rattle.report.specs.Report as weighted
 use Rattle.report.specs.declared.Admitted.{Admitted}
 use Rattle.report.specs.declared.Admitted.the-variants.{Refused, Open}
@@ -25,6 +22,7 @@ use Rattle.unweighted.specs.Statement.{AllOne}
 use Rattle.unweighted.specs.laws.Session.{stored-ones, state-same, stored-exit}
 use Rattle.unweighted.specs.laws.Counts.{quorum-same}
 use Rattle.unweighted.specs.laws.Commits.{leading-set-same}
+use Rattle.wire.specs.Message.{atFront}
 
 module _ (s : List ℕ) (all : AllOne s) where
   -- what F makes of an admission: of the refusals in their order, or of the settings
@@ -32,18 +30,14 @@ module _ (s : List ℕ) (all : AllOne s) where
     abbrev made : Bool → Bool → A
     made t l = cond (not t) (F (Refused NO-STATE)) (cond l (F (Refused SHORT)) (F (Open (weighted-session.settingsOf s))))
 
-    by-room : (l : Bool) → F (cond l (Refused SHORT) (Open (weighted-session.settingsOf s))) ≡ made true l
-    by-room true = refl
-    by-room false = refl
-
-    by-state : (t : Bool) → F (weighted.admittedFor (cond t (Held (sessionOf s)) NoState) namedWords inForceWords) ≡ made t (ltb namedWords 16 || ltb inForceWords 16)
-    unfolding weighted.admittedFor weighted.admittedIn sessionOf sessionWith
-    by-state true = by-room (ltb namedWords 16 || ltb inForceWords 16)
-    by-state false = refl
+    by-tests : (t l : Bool) → F (cond (not t) (Refused NO-STATE) (cond l (Refused SHORT) (Open (weighted-session.settingsOf s)))) ≡ made t l
+    by-tests false l = refl
+    by-tests true true = refl
+    by-tests true false = refl
 
     given : F (weighted.admits s namedWords inForceWords) ≡ giving s namedWords inForceWords (λ k. F (Refused k)) (F (Open (weighted-session.settingsOf s)))
-    unfolding weighted.admits stored giving
-    given = by-state (weighted-session.isState s) ∙ ap (λ (t : Bool). made t (ltb namedWords 16 || ltb inForceWords 16)) (state-same s all)
+    unfolding weighted.admits giving
+    given = by-tests (weighted-session.isState s) (ltb namedWords 16 || ltb inForceWords 16) ∙ ap (λ (t : Bool). made t (ltb namedWords 16 || ltb inForceWords 16)) (state-same s all)
 
   in-force-same : weighted.inForceSet (weighted-session.settingsOf s) s ≡ inForceSet (settingsOf s) s
   unfolding weighted.inForceSet weighted-session.settingsOf inForceSet settingsOf

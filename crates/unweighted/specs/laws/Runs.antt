@@ -8,20 +8,21 @@ use lib.ListN.{length}
 use lib.Seq.{set-set, set-getD}
 use borrow.Author.Tests.{eq-eqb}
 use Rattle.records.specs.Layout.{stateWords, nAt, taAt, tsAt, ownAt, sessionAt, inputAt, weightsAt, boxedAt, coinAt}
-use Rattle.records.specs.Words.{word, put, length-put, word-put-other}
-use Rattle.records.specs.Fill.{word-blank, store-other}
-use Rattle.opening.specs.Given.{item, weightsWord}
-use Rattle.opening.specs.Ones.{onesGiven}
+use Rattle.records.specs.Words.{word, put}
+use Rattle.records.specs.laws.Words.{length-put, word-put-other}
+use Rattle.records.specs.laws.Fill.{word-blank, store-other}
+use Rattle.opening.specs.Given.{item}
+use Rattle.opening.specs.Arguments.{Arguments}
 use Rattle.opening.specs.Opening.{withCoins}
 use Rattle.opening.specs.Opening as weighted-opening
-use Rattle.turn_bound.specs.TurnBound.{Arguments, answer, openedBy, Step, opening, delivery, turn, report, recording, after}
+use Rattle.turn_bound.specs.TurnBound.{Step, opening, delivery, turn, report, recording, after}
 use Rattle.unweighted.specs.Settings.{namedTa}
 use Rattle.unweighted.specs.Opening.{openAnswer, withSettings, openWords, opened}
 use Rattle.unweighted.specs.Delivery.{deliverAnswer, delivered}
 use Rattle.unweighted.specs.Recording.{recordAnswer, recordedWords}
 use Rattle.unweighted.specs.Turn.{turnOutcome, turnWords, turnBytes}
 use Rattle.unweighted.specs.Report.{reportAnswer, reportNamed, reportInForce}
-use Rattle.unweighted.specs.Statement.{AllOne, GivenOnes, EachGivenOnes, OpensAlike, unweightedAnswer, unweightedOpenedBy, unweightedAfter, SideBySide}
+use Rattle.unweighted.specs.Statement.{AllOne, GivenOnes, EachGivenOnes, unweightedAfter, SideBySide}
 use Rattle.unweighted.specs.laws.Opening.{answer-same, opens-same, accepted-few}
 use Rattle.unweighted.specs.laws.Delivery.{deliver-answer-same, delivered-same}
 use Rattle.unweighted.specs.laws.Recording.{record-answer-same, recorded-same}
@@ -44,7 +45,7 @@ put-word s k v e = ap (put s k) (sym e) ∙ set-getD s k 0
 
 module _ (o : Arguments) where
   -- an unweighted opening leaves 0 in the word of the weights
-  words-zero : o .n ≤ 16 → word (openWords (o .n) (o .ta) (o .ts) (o .own) (o .session) (o .input) (o .coins) (o .boxed)) weightsAt ≡ 0
+  words-zero : o .n ≤ 16 → word (openWords o) weightsAt ≡ 0
   unfolding openWords withSettings withCoins
   words-zero few =
       store-other (item (o .coins)) (coinAt 0) _ (o .n) weightsAt (λ j lo hi z. omega arith)
@@ -58,52 +59,42 @@ module _ (o : Arguments) where
       ∙ word-blank stateWords weightsAt (omega arith)
 
   -- accepted, it sets all words
-  opened-all : (s : List ℕ) → unweightedAnswer s o ≡ 0 → unweightedOpenedBy s o ≡ openWords (o .n) (o .ta) (o .ts) (o .own) (o .session) (o .input) (o .coins) (o .boxed)
+  opened-all : (s : List ℕ) → openAnswer (length s) o ≡ 0 → opened s o ≡ openWords o
   unfolding opened
-  opened-all s e = rw (eq-eqb (unweightedAnswer s o) 0 e)
+  opened-all s e = rw (eq-eqb (openAnswer (length s) o) 0 e)
 
-  same-length : (s t : List ℕ) → length t ≡ length s → unweightedAnswer t o ≡ unweightedAnswer s o
-  same-length s t l = ap (λ (k : ℕ). openAnswer k (o .n) (o .ta) (o .ts) (o .own) (o .coins) (o .boxed)) l
+  same-length : (s t : List ℕ) → length t ≡ length s → openAnswer (length t) o ≡ openAnswer (length s) o
+  same-length s t l = ap (λ (k : ℕ). openAnswer k o) l
 
   module _ (ones : GivenOnes o) where
-    answer-alike : (s : List ℕ) → answer s o ≡ unweightedAnswer s o
-    unfolding GivenOnes
-    answer-alike s =
-        ap (λ (ws : List ℕ). weighted-opening.openAnswer (length s) (o .n) (o .ta) (o .ts) (weightsWord (o .n) ws) (o .own) (o .coins) (o .boxed)) ones
-        ∙ answer-same (length s) (o .n) (o .ta) (o .ts) (o .own) (o .coins) (o .boxed)
+    answer-alike : (s : List ℕ) → weighted-opening.openAnswer (length s) o ≡ openAnswer (length s) o
+    answer-alike s = answer-same (length s) o ones
 
     module _ (s : List ℕ) where
-      with-ones : openedBy s o ≡ weighted-opening.opened s (o .n) (o .ta) (o .ts) (weightsWord (o .n) (onesGiven (o .n))) (o .own) (o .session) (o .input) (o .coins) (o .boxed)
-      unfolding GivenOnes
-      with-ones = ap (λ (ws : List ℕ). weighted-opening.opened s (o .n) (o .ta) (o .ts) (weightsWord (o .n) ws) (o .own) (o .session) (o .input) (o .coins) (o .boxed)) ones
-
-      alike : OpensAlike s (o .n) (o .ta) (o .ts) (o .own) (o .session) (o .input) (o .coins) (o .boxed)
-      alike = opens-same (o .n) (o .ta) (o .ts) (o .own) (o .session) (o .input) (o .coins) (o .boxed) s
-
       -- accepted, from words of the same number
-      accepted-beside : (t : List ℕ) → length t ≡ length s → unweightedAnswer s o ≡ 0 → unweightedOpenedBy t o ≡ put (openedBy s o) weightsAt 0
+      accepted-beside : (t : List ℕ) → length t ≡ length s → openAnswer (length s) o ≡ 0 → opened t o ≡ put (weighted-opening.opened s o) weightsAt 0
       accepted-beside t l e =
           let all = opened-all s e in
-          let few = accepted-few (o .n) (o .ta) (o .ts) (o .own) (o .session) (o .input) (o .coins) (o .boxed) s e .1 in
+          let few = accepted-few o ones s e .1 in
           opened-all t (same-length s t l ∙ e)
           ∙ sym (put-word _ weightsAt 0 (words-zero few))
           ∙ sym (put-put _ weightsAt (2 ^ o .n - 1) 0)
           ∙ ap (λ (u : List ℕ). put (put u weightsAt (2 ^ o .n - 1)) weightsAt 0) (sym all)
-          ∙ ap (λ (u : List ℕ). put u weightsAt 0) (sym (with-ones ∙ alike .accepted e))
+          ∙ ap (λ (u : List ℕ). put u weightsAt 0) (sym (opens-same o ones s .accepted e))
 
       -- accepted or refused, from words that are the same but for that of the weights
-      opened-beside : (t : List ℕ) → t ≡ put s weightsAt 0 → unweightedOpenedBy t o ≡ put (openedBy s o) weightsAt 0
-      opened-beside t same = by (ℕ-discrete (unweightedAnswer s o) 0)
+      opened-beside : (t : List ℕ) → t ≡ put s weightsAt 0 → opened t o ≡ put (weighted-opening.opened s o) weightsAt 0
+      opened-beside t same = by (ℕ-discrete (openAnswer (length s) o) 0)
         where
           l : length t ≡ length s
           l = ap (λ (u : List ℕ). length u) same ∙ length-put s weightsAt 0
 
-          by : Dec (unweightedAnswer s o ≡ 0) → unweightedOpenedBy t o ≡ put (openedBy s o) weightsAt 0
+          by : Dec (openAnswer (length s) o ≡ 0) → opened t o ≡ put (weighted-opening.opened s o) weightsAt 0
           by (yes e) = accepted-beside t l e
           by (no ne) =
-              opens-same (o .n) (o .ta) (o .ts) (o .own) (o .session) (o .input) (o .coins) (o .boxed) t .unweighted-refused (λ e. ne (sym (same-length s t l) ∙ e))
+              opens-same o ones t .unweighted-refused (λ e. ne (sym (same-length s t l) ∙ e))
               ∙ same
-              ∙ ap (λ (u : List ℕ). put u weightsAt 0) (sym (with-ones ∙ alike .refused ne))
+              ∙ ap (λ (u : List ℕ). put u weightsAt 0) (sym (opens-same o ones s .refused ne))
 
 -- ---- lists of calls
 
@@ -143,9 +134,10 @@ beside w u same all =
       report-in-force = λ a inForce. report-in-force-same w all a inForce ∙ sym (ap (λ (v : List ℕ). reportInForce v a inForce) same ∙ report-in-force-apart w 0 a inForce);
     }
 
-pub runs : (s : List ℕ) (o : Arguments) → answer s o ≡ 0 → GivenOnes o → (cs : List Step) → EachGivenOnes cs → ((ds : List Step) → EachGivenOnes ds → AllOne (after (openedBy s o) ds)) → SideBySide (after (openedBy s o) cs) (unweightedAfter (unweightedOpenedBy s o) cs)
+pub runs : (s : List ℕ) (o : Arguments) → weighted-opening.openAnswer (length s) o ≡ 0 → GivenOnes o → (cs : List Step) → EachGivenOnes cs →
+    ((ds : List Step) → EachGivenOnes ds → AllOne (after (weighted-opening.opened s o) ds)) → SideBySide (after (weighted-opening.opened s o) cs) (unweightedAfter (opened s o) cs)
 runs s o e ones cs hs kept =
     let first = accepted-beside o ones s s refl (sym (answer-alike o ones s) ∙ e) in
-    beside (after (openedBy s o) cs) (unweightedAfter (unweightedOpenedBy s o) cs)
-    (after-beside (openedBy s o) (unweightedOpenedBy s o) first kept cs hs)
+    beside (after (weighted-opening.opened s o) cs) (unweightedAfter (opened s o) cs)
+    (after-beside (weighted-opening.opened s o) (opened s o) first kept cs hs)
     (kept cs hs)

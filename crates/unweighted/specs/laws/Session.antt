@@ -6,7 +6,7 @@ use Rattle.settings.specs.Settings as weighted-settings
 use Rattle.records.specs.Layout.{nAt, taAt, tsAt, weightsAt}
 use Rattle.records.specs.Words.{word}
 use Rattle.session.specs.Session as weighted
-use Rattle.exits.specs.Now as weighted-now
+use Rattle.exits.specs.Exits as weighted-now
 use Rattle.turn.specs.Due as weighted-due
 use Rattle.unweighted.specs.Settings.{Settings, turnBound}
 use Rattle.unweighted.specs.Session.{settingsOf, numbersRight, isState}

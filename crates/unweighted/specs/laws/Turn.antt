@@ -10,9 +10,8 @@ use Rattle.records.specs.Layout.{ownAt}
 use Rattle.records.specs.Words.{word}
 use Rattle.records.specs.Records.{closed}
 use Rattle.acts.specs.declared.Act.{Act}
-use Rattle.session.specs.Session.{stored, sessionWith, sessionOf}
+use Rattle.session.specs.Session.{sessionWith, sessionOf}
 use Rattle.session.specs.Session as weighted-session
-use Rattle.session.specs.declared.Stored.the-variants.{NoState, Held}
 use Rattle.wire.specs.Message.{encode, atFront}
 use Rattle.turn.specs.Turn.{outcomeOf, applied}
 use Rattle.turn.specs.Turn as weighted
@@ -31,19 +30,15 @@ module _ (s : List ℕ) (all : AllOne s) where
     abbrev made : Bool → Bool → Bool → A
     made t c l = cond (not t) (F (Refused NO-STATE)) (cond c (F (Refused CLOSED)) (cond l (F (Refused SHORT)) (F (Open (sessionOf s)))))
 
-    by-tests : (c l : Bool) → F (cond c (Refused CLOSED) (cond l (Refused SHORT) (Open (sessionOf s)))) ≡ made true c l
-    by-tests true l = refl
-    by-tests false true = refl
-    by-tests false false = refl
-
-    by-state : (t : Bool) → F (weighted.admittedFor (cond t (Held (sessionOf s)) NoState) s room) ≡ made t (closed s) (ltb room 140)
-    unfolding weighted.admittedFor weighted.admittedIn
-    by-state true = by-tests (closed s) (ltb room 140)
-    by-state false = refl
+    by-tests : (t c l : Bool) → F (cond (not t) (Refused NO-STATE) (cond c (Refused CLOSED) (cond l (Refused SHORT) (Open (sessionOf s))))) ≡ made t c l
+    by-tests false c l = refl
+    by-tests true true l = refl
+    by-tests true false true = refl
+    by-tests true false false = refl
 
     taken : F (weighted.admits s room) ≡ taking s room (λ k. F (Refused k)) (F (Open (sessionOf s)))
-    unfolding weighted.admits stored taking
-    taken = by-state (weighted-session.isState s) ∙ ap (λ (t : Bool). made t (closed s) (ltb room 140)) (state-same s all)
+    unfolding weighted.admits taking
+    taken = by-tests (weighted-session.isState s) (closed s) (ltb room 140) ∙ ap (λ (t : Bool). made t (closed s) (ltb room 140)) (state-same s all)
 
   outcome-same : weighted.outcomeFor (Open (sessionOf s)) s ≡ outcomeIn s
   unfolding weighted.outcomeFor sessionOf sessionWith outcomeIn dueIn

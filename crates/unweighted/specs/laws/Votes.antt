@@ -8,10 +8,10 @@ use Rattle.settings.specs.Settings.{roundLimit}
 use Rattle.records.specs.Records.{estHeld, auxHeld, round, decidedOne}
 use Rattle.acts.specs.Acts.{orAct, firstAct}
 use Rattle.acts.specs.declared.Act.{Act}
-use Rattle.votes.specs.Votes.{carries, viewOf}
+use Rattle.votes.specs.Votes.{viewOf}
 use Rattle.votes.specs.Votes as weighted
 use Rattle.settings.specs.declared.Settings as weighted-settings
-use Rattle.unweighted.specs.Votes.{estCount, accepted, votesDecidedOne, startAct, relayValue, relayRound, relayAct, auxValue, auxAct, carriers, auxCount, view, moveValue, moveAct, roundAct, voteAct}
+use Rattle.unweighted.specs.Votes.{estCount, accepted, votesDecidedOne, startAct, relayValue, relayRound, relayAct, auxValue, auxAct, carries, carriers, carried, view, moveValue, moveAct, roundAct, voteAct}
 use Rattle.unweighted.specs.laws.Counts.{Ones, plain, counts, vote-quorum-same, relay-same, accept-same}
 
 module _ (g : weighted-settings.Settings) (one : Ones g) (s : List ℕ) where
@@ -52,25 +52,29 @@ module _ (g : weighted-settings.Settings) (one : Ones g) (s : List ℕ) where
     unfolding weighted.auxAct auxAct
     aux-act-same = rw (aux-value-same (round s i))
 
-    carriers-same : (r : ℕ) (a0 a1 : Bool) → weighted.carriers g s i r a0 a1 ≡ carriers (plain g) s i r a0 a1
+    carries-same : (r : ℕ) → weighted.carries g s i r ≡ carries (plain g) s i r
+    unfolding weighted.carries carries
+    carries-same r = fun-ext (λ p. rw (accepted-same r 0, accepted-same r 1))
+
+    carriers-same : (r : ℕ) → weighted.carriers g s i r ≡ carriers (plain g) s i r
     unfolding weighted.carriers carriers
-    carriers-same r a0 a1 = counts g one (carries s i r a0 a1)
+    carriers-same r = rw (carries-same r) (counts g one (carries (plain g) s i r))
 
-    aux-count-same : (r b : ℕ) → weighted.auxCount g s i r b ≡ auxCount (plain g) s i r b
-    unfolding weighted.auxCount auxCount
-    aux-count-same r b = counts g one (auxHeld s i r b)
+    carried-same : (r b : ℕ) → weighted.carried g s i r b ≡ carried (plain g) s i r b
+    unfolding weighted.carried weighted.auxCount carried
+    carried-same r b = ap₂ (λ (x : Bool) (y : ℕ). x && ltb 0 y) (accepted-same r b) (counts g one (auxHeld s i r b))
 
-    view-same : (r : ℕ) (a0 a1 : Bool) → weighted.view g s i r a0 a1 ≡ view (plain g) s i r a0 a1
+    view-same : (r : ℕ) → weighted.view g s i r ≡ view (plain g) s i r
     unfolding weighted.view view
-    view-same r a0 a1 = ap₂ (λ (x y : ℕ). viewOf (a0 && ltb 0 x) (a1 && ltb 0 y)) (aux-count-same r 0) (aux-count-same r 1)
+    view-same r = ap₂ viewOf (carried-same r 0) (carried-same r 1)
 
-    move-value-same : (r : ℕ) (a0 a1 : Bool) → weighted.moveValue g s i r a0 a1 ≡ moveValue (plain g) s i r a0 a1
+    move-value-same : (r : ℕ) → weighted.moveValue g s i r ≡ moveValue (plain g) s i r
     unfolding weighted.moveValue moveValue
-    move-value-same r a0 a1 = rw (vote-quorum-same g one, carriers-same r a0 a1, view-same r a0 a1)
+    move-value-same r = rw (vote-quorum-same g one, carriers-same r, view-same r)
 
     move-act-same : weighted.moveAct g s i ≡ moveAct (plain g) s i
     unfolding weighted.moveAct moveAct
-    move-act-same = rw (accepted-same (round s i) 0, accepted-same (round s i) 1, move-value-same (round s i) (accepted (plain g) s i (round s i) 0) (accepted (plain g) s i (round s i) 1))
+    move-act-same = rw (move-value-same (round s i))
 
     round-act-same : weighted.roundAct g s i ≡ roundAct (plain g) s i
     unfolding weighted.roundAct roundAct

@@ -1,5 +1,5 @@
 -- `aux_act` sends once a round.
-use Rattle.votes.specs.Cases.{auxes}
+use Rattle.votes.specs.laws.Cases.{auxes}
 use borrow.Author.Needs.{needs}
 use Rattle.votes.proofs.aux_act.Statement.{statement}
 use Rattle.votes.proofs.aux_act.Tie as tie

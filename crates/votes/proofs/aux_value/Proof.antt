@@ -1,5 +1,5 @@
 -- `aux_value` takes 0 where it is accepted, else 1.
-use Rattle.votes.specs.Cases.{auxes}
+use Rattle.votes.specs.laws.Cases.{auxes}
 use borrow.Author.Needs.{needs}
 use Rattle.votes.proofs.aux_value.Statement.{statement}
 use Rattle.votes.proofs.aux_value.Tie as tie

@@ -1,26 +1,20 @@
 -- The groups of the accepted values, one over the other, weighed at once.
-use Rattle.votes.specs.Cases.{carriers-weighed}
+use Rattle.votes.specs.laws.Cases.{carriers-weighed}
 use borrow.Author.Needs.{needs}
 use Rattle.votes.proofs.carriers.Statement.{statement}
 use Rattle.votes.proofs.carriers.Tie as tie
 
-votes-requires : tie.Need-votes-requires
-votes-requires c κs = search needs
+vote-marks-requires : tie.Need-vote-marks-requires
+vote-marks-requires c κs = search needs
 
-cast-share : tie.Need-cast-share
-cast-share c = search needs
-
-shr-share : tie.Need-shr-share
-shr-share c = search needs
+aux-zero-marks-requires : tie.Need-aux-zero-marks-requires
+aux-zero-marks-requires c κs = search needs
 
 share-requires : tie.Need-share-requires
 share-requires c κs = search needs
 
-cast-share-2 : tie.Need-cast-share-2
-cast-share-2 c = search needs
-
-shr-share-2 : tie.Need-shr-share-2
-shr-share-2 c = search needs
+aux-one-marks-requires : tie.Need-aux-one-marks-requires
+aux-one-marks-requires c κs = search needs
 
 share-requires-2 : tie.Need-share-requires-2
 share-requires-2 c κs = search needs
@@ -35,12 +29,10 @@ pub carriers-spec : {M : Type 1} → statement M
 carriers-spec =
     tie.close
     (tie.spec
-    votes-requires
-    cast-share
-    shr-share
+    vote-marks-requires
+    aux-zero-marks-requires
     share-requires
-    cast-share-2
-    shr-share-2
+    aux-one-marks-requires
     share-requires-2
     weigh-marks-requires
     returns)

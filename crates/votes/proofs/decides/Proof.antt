@@ -1,5 +1,5 @@
 -- `decides` compares the one value with the coin.
-use Rattle.votes.specs.Cases.{decides-only}
+use Rattle.votes.specs.laws.Cases.{decides-only}
 use borrow.Author.Needs.{needs}
 use Rattle.votes.proofs.decides.Statement.{statement}
 use Rattle.votes.proofs.decides.Tie as tie

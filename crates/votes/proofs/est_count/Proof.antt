@@ -1,20 +1,15 @@
--- `est_count` counts the group of marks of EST b.
-use Rattle.votes.specs.Cases.{est-counted}
+-- `est_count` weighs the senders of EST b.
+use Rattle.votes.specs.Votes.{estCount}
 use borrow.Author.Needs.{needs}
 use Rattle.votes.proofs.est_count.Statement.{statement}
 use Rattle.votes.proofs.est_count.Tie as tie
 
-votes-requires : tie.Need-votes-requires
-votes-requires c κs = search needs
-
-mul-weigh-marks : tie.Need-mul-weigh-marks
-mul-weigh-marks c = search needs
-
-weigh-marks-requires : tie.Need-weigh-marks-requires
-weigh-marks-requires c κs = search needs
+est-weight-requires : tie.Need-est-weight-requires
+est-weight-requires c κs = search needs
 
 returns : tie.Need-returns
-returns c = search est-counted
+unfolding estCount
+returns c = cc
 
 pub est-count-spec : {M : Type 1} → statement M
-est-count-spec = tie.close (tie.spec votes-requires mul-weigh-marks weigh-marks-requires returns)
+est-count-spec = tie.close (tie.spec est-weight-requires returns)

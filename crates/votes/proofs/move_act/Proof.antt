@@ -1,5 +1,5 @@
 -- `move_act` waits for the own AUX and a known coin.
-use Rattle.votes.specs.Cases.{moves}
+use Rattle.votes.specs.laws.Cases.{moves}
 use borrow.Author.Needs.{needs}
 use Rattle.votes.proofs.move_act.Statement.{statement}
 use Rattle.votes.proofs.move_act.Tie as tie

@@ -1,5 +1,5 @@
 -- `move_value` asks for n − ta AUXs with accepted values.
-use Rattle.votes.specs.Cases.{moves}
+use Rattle.votes.specs.laws.Cases.{moves}
 use borrow.Author.Needs.{needs}
 use Rattle.votes.proofs.move_value.Statement.{statement}
 use Rattle.votes.proofs.move_value.Tie as tie

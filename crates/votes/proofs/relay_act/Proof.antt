@@ -1,9 +1,9 @@
 -- `relay_act` looks at the rounds up to the last in rising order.
 use Prim.Native.Nat.{_-_}
 use borrow.Author.Needs.{needs}
-use Rattle.acts.specs.First.{Quiet, firsts}
+use Rattle.acts.specs.laws.First.{Quiet, firsts}
 use Rattle.votes.specs.Votes.{relayRound}
-use Rattle.votes.specs.Cases.{relay-rounds}
+use Rattle.votes.specs.laws.Cases.{relay-rounds}
 use Rattle.votes.proofs.relay_act.Statement.{statement}
 use Rattle.votes.proofs.relay_act.Tie as tie
 

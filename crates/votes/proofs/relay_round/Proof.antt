@@ -1,5 +1,5 @@
 -- `relay_round` takes 0 before 1.
-use Rattle.votes.specs.Cases.{either}
+use Rattle.votes.specs.laws.Cases.{either}
 use Rattle.votes.specs.Votes.{relayRound}
 use borrow.Author.Needs.{needs}
 use Rattle.votes.proofs.relay_round.Statement.{statement}

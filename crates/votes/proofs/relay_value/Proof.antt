@@ -1,5 +1,5 @@
 -- `relay_value` takes the three cases of `relayValue`.
-use Rattle.votes.specs.Cases.{relays}
+use Rattle.votes.specs.laws.Cases.{relays}
 use borrow.Author.Needs.{needs}
 use Rattle.votes.proofs.relay_value.Statement.{statement}
 use Rattle.votes.proofs.relay_value.Tie as tie

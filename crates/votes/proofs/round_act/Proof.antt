@@ -1,5 +1,5 @@
 -- `round_act` takes the AUX before the move.
-use Rattle.votes.specs.Cases.{rounds}
+use Rattle.votes.specs.laws.Cases.{rounds}
 use borrow.Author.Needs.{needs}
 use Rattle.votes.proofs.round_act.Statement.{statement}
 use Rattle.votes.proofs.round_act.Tie as tie

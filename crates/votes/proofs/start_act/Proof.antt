@@ -1,5 +1,5 @@
 -- `start_act` takes the four cases of `startAct`.
-use Rattle.votes.specs.Cases.{starts}
+use Rattle.votes.specs.laws.Cases.{starts}
 use borrow.Author.Needs.{needs}
 use Rattle.votes.proofs.start_act.Statement.{statement}
 use Rattle.votes.proofs.start_act.Tie as tie

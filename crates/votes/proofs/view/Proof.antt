@@ -1,5 +1,5 @@
 -- `view` looks which accepted values are carried.
-use Rattle.votes.specs.Votes.{view}
+use Rattle.votes.specs.laws.Given.{viewGiven}
 use borrow.Author.Needs.{needs}
 use Rattle.votes.proofs.view.Statement.{statement}
 use Rattle.votes.proofs.view.Tie as tie
@@ -14,7 +14,7 @@ view-of-requires : tie.Need-view-of-requires
 view-of-requires c κs = search needs
 
 returns : tie.Need-returns
-unfolding view
+unfolding viewGiven
 returns c = cc
 
 pub view-spec : {M : Type 1} → statement M

@@ -1,5 +1,5 @@
 -- `vote_act` takes the start before the relays before the round.
-use Rattle.votes.specs.Cases.{either, due-second}
+use Rattle.votes.specs.laws.Cases.{either, due-second}
 use Rattle.votes.specs.Votes.{voteAct}
 use borrow.Author.Needs.{needs}
 use Rattle.votes.proofs.vote_act.Statement.{statement}

@@ -2,17 +2,20 @@
 use Prim.Native.Nat.{_-_}
 use borrow.Author.Needs.{needs}
 use Rattle.quorum.specs.Marks.{mark}
-use Rattle.acts.specs.First.{Quiet, firsts}
-use Rattle.votes.specs.Votes.{voteAct, voteRule}
-use Rattle.votes.specs.Cases.{vote-numbered}
+use Rattle.acts.specs.laws.First.{Quiet, firsts}
+use Rattle.votes.specs.Votes.{votesDecidedOne, voteAct, voteRule}
+use Rattle.votes.specs.laws.Cases.{vote-numbered}
 use Rattle.votes.proofs.vote_rule.Statement.{statement}
 use Rattle.votes.proofs.vote_rule.Tie as tie
 
 abbrev Inv-loop : tie.InvT-loop
-Inv-loop s g held ones n i₀ i = Quiet (λ k. voteAct g s (mark held k) ones k) n i
+Inv-loop s g held ones n i₀ i = Quiet (λ k. voteAct g s (mark held k) (votesDecidedOne g s) k) n i
 
 abbrev μ-loop : tie.MeasureT-loop
 μ-loop s g held ones n i₀ i = n - i
+
+votes-decided-one-requires : tie.Need-votes-decided-one-requires Inv-loop μ-loop
+votes-decided-one-requires c κs = search needs
 
 loop-holds : tie.Need-loop-holds Inv-loop μ-loop
 loop-holds c = search firsts
@@ -52,6 +55,7 @@ vote-rule-spec =
     (tie.spec
     Inv-loop
     μ-loop
+    votes-decided-one-requires
     loop-holds
     add-i
     cast-mark

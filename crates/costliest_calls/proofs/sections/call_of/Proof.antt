@@ -1,5 +1,5 @@
 -- None, or a call of one, or of many.
-use Rattle.costliest_calls.specs.Places.{of-cases}
+use Rattle.costliest_calls.specs.laws.Places.{of-cases}
 use borrow.Author.Needs.{needs}
 use Rattle.costliest_calls.proofs.sections.call_of.Statement.{statement}
 use Rattle.costliest_calls.proofs.sections.call_of.Tie as tie

@@ -1,5 +1,5 @@
 -- Section by section.
-use Rattle.costliest_calls.specs.Places.{many-cases}
+use Rattle.costliest_calls.specs.laws.Places.{many-cases}
 use borrow.Author.Needs.{needs}
 use Rattle.costliest_calls.proofs.sections.call_of_many.Statement.{statement}
 use Rattle.costliest_calls.proofs.sections.call_of_many.Tie as tie

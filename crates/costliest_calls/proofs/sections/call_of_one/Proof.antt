@@ -1,5 +1,5 @@
 -- Each of the nine calls, and none after them.
-use Rattle.costliest_calls.specs.Places.{one-cases}
+use Rattle.costliest_calls.specs.laws.Places.{one-cases}
 use Rattle.costliest_calls.proofs.sections.call_of_one.Statement.{statement}
 use Rattle.costliest_calls.proofs.sections.call_of_one.Tie as tie
 

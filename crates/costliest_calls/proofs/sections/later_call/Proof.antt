@@ -1,5 +1,5 @@
 -- Section by section, from the first COMMIT on.
-use Rattle.costliest_calls.specs.Places.{later-cases}
+use Rattle.costliest_calls.specs.laws.Places.{later-cases}
 use borrow.Author.Needs.{needs}
 use Rattle.costliest_calls.proofs.sections.later_call.Statement.{statement}
 use Rattle.costliest_calls.proofs.sections.later_call.Tie as tie

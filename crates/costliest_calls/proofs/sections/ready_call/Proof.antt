@@ -1,5 +1,5 @@
 -- Instances and senders fit a byte.
-use Rattle.costliest_calls.specs.Places.{places}
+use Rattle.costliest_calls.specs.laws.Places.{places}
 use borrow.Author.Needs.{needs}
 use Rattle.costliest_calls.proofs.sections.ready_call.Statement.{statement}
 use Rattle.costliest_calls.proofs.sections.ready_call.Tie as tie

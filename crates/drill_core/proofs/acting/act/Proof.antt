@@ -1,5 +1,5 @@
 -- By verdict.
-use Rattle.drill_core.specs.ActingCases.{act-cases}
+use Rattle.drill_core.specs.laws.ActingCases.{act-cases}
 use borrow.Author.Needs.{needs}
 use Rattle.drill_core.proofs.acting.act.Statement.{statement}
 use Rattle.drill_core.proofs.acting.act.Tie as tie

@@ -1,5 +1,5 @@
 -- The openings, then the call.
-use Rattle.drill_core.specs.ActingCases.{call-made}
+use Rattle.drill_core.specs.laws.ActingCases.{call-made}
 use borrow.Author.Needs.{needs}
 use Rattle.drill_core.proofs.acting.act_call.Statement.{statement}
 use Rattle.drill_core.proofs.acting.act_call.Tie as tie

@@ -1,5 +1,5 @@
 -- Where the C and P lines are just over.
-use Rattle.drill_core.specs.ActingCases.{begin-cases}
+use Rattle.drill_core.specs.laws.ActingCases.{begin-cases}
 use borrow.Author.Needs.{needs}
 use Rattle.drill_core.proofs.acting.begin.Statement.{statement}
 use Rattle.drill_core.proofs.acting.begin.Tie as tie

@@ -1,5 +1,5 @@
 -- By call.
-use Rattle.drill_core.specs.ActingCases.{call-cases}
+use Rattle.drill_core.specs.laws.ActingCases.{call-cases}
 use borrow.Author.Needs.{needs}
 use Rattle.drill_core.proofs.acting.make_call.Statement.{statement}
 use Rattle.drill_core.proofs.acting.make_call.Tie as tie

@@ -1,5 +1,5 @@
 -- The verdict, then what it leads to.
-use Rattle.drill_core.specs.ActingCases.{line-taken}
+use Rattle.drill_core.specs.laws.ActingCases.{line-taken}
 use borrow.Author.Needs.{needs}
 use Rattle.drill_core.proofs.acting.take_line.Statement.{statement}
 use Rattle.drill_core.proofs.acting.take_line.Tie as tie

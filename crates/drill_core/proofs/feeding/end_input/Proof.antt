@@ -1,5 +1,5 @@
 -- The last line, then the openings.
-use Rattle.drill_core.specs.FeedingCases.{input-ended}
+use Rattle.drill_core.specs.laws.FeedingCases.{input-ended}
 use borrow.Author.Needs.{needs}
 use Rattle.drill_core.proofs.feeding.end_input.Statement.{statement}
 use Rattle.drill_core.proofs.feeding.end_input.Tie as tie

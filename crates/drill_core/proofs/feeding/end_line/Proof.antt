@@ -1,5 +1,5 @@
 -- The line is read and taken.
-use Rattle.drill_core.specs.FeedingCases.{line-ended}
+use Rattle.drill_core.specs.laws.FeedingCases.{line-ended}
 use borrow.Author.Needs.{needs}
 use Rattle.drill_core.proofs.feeding.end_line.Statement.{statement}
 use Rattle.drill_core.proofs.feeding.end_line.Tie as tie

@@ -1,5 +1,5 @@
 -- One test after the other.
-use Rattle.drill_core.specs.Tests.{tests}
+use Rattle.drill_core.specs.laws.Tests.{tests}
 use Rattle.drill_core.specs.Feeding.{fedByte}
 use borrow.Author.Needs.{needs}
 use Rattle.drill_core.proofs.feeding.feed.Statement.{statement}

@@ -2,7 +2,7 @@
 use Prim.Native.Nat.{_-_}
 use mathlib.Core.Path.{_≡_}
 use lib.ListN.{length}
-use Rattle.drill_core.specs.FeedingCases.{Taking, taking}
+use Rattle.drill_core.specs.laws.FeedingCases.{Taking, taking}
 use Rattle.drill_core.specs.Feeding.{drilling}
 use borrow.Author.Needs.{needs}
 use Rattle.drill_core.proofs.feeding.feed_all.Statement.{statement}

@@ -1,5 +1,5 @@
 -- Where the line has a byte.
-use Rattle.drill_core.specs.FeedingCases.{last-cases}
+use Rattle.drill_core.specs.laws.FeedingCases.{last-cases}
 use borrow.Author.Needs.{needs}
 use Rattle.drill_core.proofs.feeding.last_line.Statement.{statement}
 use Rattle.drill_core.proofs.feeding.last_line.Tie as tie

@@ -1,5 +1,5 @@
 -- The number of the next line.
-use Rattle.drill_core.specs.FeedingCases.{line-next}
+use Rattle.drill_core.specs.laws.FeedingCases.{line-next}
 use borrow.Author.Needs.{needs}
 use Rattle.drill_core.proofs.feeding.next_line.Statement.{statement}
 use Rattle.drill_core.proofs.feeding.next_line.Tie as tie

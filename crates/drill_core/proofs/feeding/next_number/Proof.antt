@@ -1,5 +1,5 @@
 -- By phase.
-use Rattle.drill_core.specs.Tests.{tests}
+use Rattle.drill_core.specs.laws.Tests.{tests}
 use Rattle.drill_core.specs.Feeding.{nextNumber}
 use borrow.Author.Needs.{needs}
 use Rattle.drill_core.proofs.feeding.next_number.Statement.{statement}

@@ -1,5 +1,5 @@
 -- The parts, as they are made.
-use Rattle.drill_core.specs.FeedingCases.{started}
+use Rattle.drill_core.specs.laws.FeedingCases.{started}
 use borrow.Author.Needs.{needs}
 use Rattle.drill_core.proofs.feeding.start.Statement.{statement}
 use Rattle.drill_core.proofs.feeding.start.Tie as tie

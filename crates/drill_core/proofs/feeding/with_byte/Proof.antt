@@ -1,5 +1,5 @@
 -- The byte is read.
-use Rattle.drill_core.specs.FeedingCases.{byte-read}
+use Rattle.drill_core.specs.laws.FeedingCases.{byte-read}
 use borrow.Author.Needs.{needs}
 use Rattle.drill_core.proofs.feeding.with_byte.Statement.{statement}
 use Rattle.drill_core.proofs.feeding.with_byte.Tie as tie

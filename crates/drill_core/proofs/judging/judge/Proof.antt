@@ -1,5 +1,5 @@
 -- By the letter.
-use Rattle.drill_core.specs.JudgingCases.{letter-cases}
+use Rattle.drill_core.specs.laws.JudgingCases.{letter-cases}
 use borrow.Author.Needs.{needs}
 use Rattle.drill_core.proofs.judging.judge.Statement.{statement}
 use Rattle.drill_core.proofs.judging.judge.Tie as tie

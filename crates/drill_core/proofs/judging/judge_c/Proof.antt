@@ -1,6 +1,6 @@
 -- One test after the other.
-use Rattle.drill_core.specs.Tests.{tests}
-use Rattle.drill_core.specs.JudgingCases.{numbered-fits}
+use Rattle.drill_core.specs.laws.Tests.{tests}
+use Rattle.drill_core.specs.laws.JudgingCases.{numbered-fits}
 use Rattle.drill_core.specs.Judging.{judgedC}
 use borrow.Author.Needs.{needs}
 use Rattle.drill_core.proofs.judging.judge_c.Statement.{statement}

@@ -1,6 +1,6 @@
 -- One test after the other.
-use Rattle.drill_core.specs.Tests.{tests}
-use Rattle.drill_core.specs.JudgingCases.{sent-fits, honest-fits}
+use Rattle.drill_core.specs.laws.Tests.{tests}
+use Rattle.drill_core.specs.laws.JudgingCases.{sent-fits, honest-fits}
 use Rattle.drill_core.specs.Judging.{judgedD}
 use borrow.Author.Needs.{needs}
 use Rattle.drill_core.proofs.judging.judge_d.Statement.{statement}

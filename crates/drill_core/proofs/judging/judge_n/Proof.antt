@@ -1,6 +1,6 @@
 -- One test after the other.
-use Rattle.drill_core.specs.Tests.{tests}
-use Rattle.drill_core.specs.JudgingCases.{n-fits, session-fits}
+use Rattle.drill_core.specs.laws.Tests.{tests}
+use Rattle.drill_core.specs.laws.JudgingCases.{n-fits, session-fits}
 use Rattle.drill_core.specs.Judging.{judgedN}
 use borrow.Author.Needs.{needs}
 use Rattle.drill_core.proofs.judging.judge_n.Statement.{statement}

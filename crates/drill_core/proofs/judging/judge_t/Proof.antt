@@ -1,6 +1,6 @@
 -- One test after the other.
-use Rattle.drill_core.specs.Tests.{tests}
-use Rattle.drill_core.specs.JudgingCases.{honest-fits}
+use Rattle.drill_core.specs.laws.Tests.{tests}
+use Rattle.drill_core.specs.laws.JudgingCases.{honest-fits}
 use Rattle.drill_core.specs.Judging.{judgedT}
 use borrow.Author.Needs.{needs}
 use Rattle.drill_core.proofs.judging.judge_t.Statement.{statement}

@@ -1,5 +1,5 @@
 -- 2 ^ n - 1.
-use Rattle.drill_core.specs.JudgingCases.{ones-cases}
+use Rattle.drill_core.specs.laws.JudgingCases.{ones-cases}
 use borrow.Author.Needs.{needs}
 use Rattle.drill_core.proofs.judging.ones_word.Statement.{statement}
 use Rattle.drill_core.proofs.judging.ones_word.Tie as tie

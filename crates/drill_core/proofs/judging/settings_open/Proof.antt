@@ -1,5 +1,5 @@
 -- The rules on settings are those of opening.
-use Rattle.drill_core.specs.JudgingCases.{open-cases}
+use Rattle.drill_core.specs.laws.JudgingCases.{open-cases}
 use borrow.Author.Needs.{needs}
 use Rattle.drill_core.proofs.judging.settings_open.Statement.{statement}
 use Rattle.drill_core.proofs.judging.settings_open.Tie as tie

@@ -1,5 +1,5 @@
 -- The word and its mark.
-use Rattle.drill_core.specs.PreparingCases.{coin-put}
+use Rattle.drill_core.specs.laws.PreparingCases.{coin-put}
 use borrow.Author.Needs.{needs}
 use Rattle.drill_core.proofs.preparing.coin_given.Statement.{statement}
 use Rattle.drill_core.proofs.preparing.coin_given.Tie as tie

@@ -1,5 +1,5 @@
 -- The smaller of two.
-use Rattle.drill_core.specs.PreparingCases.{fewer-cases}
+use Rattle.drill_core.specs.laws.PreparingCases.{fewer-cases}
 use Rattle.drill_core.proofs.preparing.fewer.Statement.{statement}
 use Rattle.drill_core.proofs.preparing.fewer.Tie as tie
 

@@ -1,5 +1,5 @@
 -- The input and its mark.
-use Rattle.drill_core.specs.PreparingCases.{input-put}
+use Rattle.drill_core.specs.laws.PreparingCases.{input-put}
 use borrow.Author.Needs.{needs}
 use Rattle.drill_core.proofs.preparing.input_given.Statement.{statement}
 use Rattle.drill_core.proofs.preparing.input_given.Tie as tie

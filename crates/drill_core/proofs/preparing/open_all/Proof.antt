@@ -2,7 +2,7 @@
 use Prim.Native.Nat.{_-_}
 use mathlib.Core.Path.{_≡_}
 use lib.ListN.{length}
-use Rattle.drill_feeder.specs.Steps.{Stepping, stepping}
+use Rattle.drill_feeder.specs.laws.Steps.{Stepping, stepping}
 use Rattle.drill_core.specs.Preparing.{openIf, openedAll}
 use borrow.Author.Needs.{needs}
 use Rattle.drill_core.proofs.preparing.open_all.Statement.{statement}

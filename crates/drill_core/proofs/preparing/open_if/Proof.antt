@@ -1,5 +1,5 @@
 -- By the mark.
-use Rattle.drill_core.specs.PreparingCases.{open-cases}
+use Rattle.drill_core.specs.laws.PreparingCases.{open-cases}
 use borrow.Author.Needs.{needs}
 use Rattle.drill_core.proofs.preparing.open_if.Statement.{statement}
 use Rattle.drill_core.proofs.preparing.open_if.Tie as tie

@@ -1,5 +1,5 @@
 -- The first n coin words.
-use Rattle.drill_core.specs.PreparingCases.{fewer-taken, opened-with}
+use Rattle.drill_core.specs.laws.PreparingCases.{fewer-taken, opened-with}
 use borrow.Author.Needs.{needs}
 use Rattle.drill_core.proofs.preparing.open_with.Statement.{statement}
 use Rattle.drill_core.proofs.preparing.open_with.Tie as tie

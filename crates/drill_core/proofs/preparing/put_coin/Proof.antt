@@ -1,5 +1,5 @@
 -- The word, or nothing past the end.
-use Rattle.records.specs.Words.{words}
+use Rattle.records.specs.laws.Words.{words}
 use borrow.Author.Needs.{needs}
 use Rattle.drill_core.proofs.preparing.put_coin.Statement.{statement}
 use Rattle.drill_core.proofs.preparing.put_coin.Tie as tie

@@ -1,5 +1,5 @@
 -- The end of the input, then its text.
-use Rattle.drill_core.specs.OutputCases.{finish-cases}
+use Rattle.drill_core.specs.laws.OutputCases.{finish-cases}
 use borrow.Author.Needs.{needs}
 use Rattle.drill_core.proofs.results.finish.Statement.{statement}
 use Rattle.drill_core.proofs.results.finish.Tie as tie

@@ -1,5 +1,5 @@
 -- By phase.
-use Rattle.drill_core.specs.OutputCases.{text-cases}
+use Rattle.drill_core.specs.laws.OutputCases.{text-cases}
 use borrow.Author.Needs.{needs}
 use Rattle.drill_core.proofs.results.print.Statement.{statement}
 use Rattle.drill_core.proofs.results.print.Tie as tie

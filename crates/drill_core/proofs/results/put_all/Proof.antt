@@ -2,7 +2,7 @@
 use Prim.Native.Nat.{_-_}
 use mathlib.Core.Path.{_≡_}
 use lib.ListN.{length}
-use Rattle.drill_core.specs.OutputCases.{Printing, printing}
+use Rattle.drill_core.specs.laws.OutputCases.{Printing, printing}
 use borrow.Author.Needs.{needs}
 use Rattle.drill_core.proofs.results.put_all.Statement.{statement}
 use Rattle.drill_core.proofs.results.put_all.Tie as tie

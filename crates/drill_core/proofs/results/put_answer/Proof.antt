@@ -1,5 +1,5 @@
 -- By answer.
-use Rattle.drill_core.specs.OutputCases.{answer-cases}
+use Rattle.drill_core.specs.laws.OutputCases.{answer-cases}
 use borrow.Author.Needs.{needs}
 use Rattle.drill_core.proofs.results.put_answer.Statement.{statement}
 use Rattle.drill_core.proofs.results.put_answer.Tie as tie

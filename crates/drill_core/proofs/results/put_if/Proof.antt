@@ -1,5 +1,5 @@
 -- By the mark.
-use Rattle.drill_core.specs.OutputCases.{print-cases}
+use Rattle.drill_core.specs.laws.OutputCases.{print-cases}
 use borrow.Author.Needs.{needs}
 use Rattle.drill_core.proofs.results.put_if.Statement.{statement}
 use Rattle.drill_core.proofs.results.put_if.Tie as tie

@@ -1,6 +1,6 @@
 -- The report, lent 16 words for each set.
-use Rattle.records.specs.Fill.{blank}
-use Rattle.drill_core.specs.OutputCases.{session-printed}
+use Rattle.records.specs.Words.{blank}
+use Rattle.drill_core.specs.laws.OutputCases.{session-printed}
 use borrow.Author.Needs.{needs}
 use Rattle.drill_core.proofs.results.put_session.Statement.{statement}
 use Rattle.drill_core.proofs.results.put_session.Tie as tie

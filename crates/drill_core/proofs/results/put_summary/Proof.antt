@@ -1,5 +1,5 @@
 -- The lines, then the count.
-use Rattle.drill_core.specs.OutputCases.{summary-printed}
+use Rattle.drill_core.specs.laws.OutputCases.{summary-printed}
 use borrow.Author.Needs.{needs}
 use Rattle.drill_core.proofs.results.put_summary.Statement.{statement}
 use Rattle.drill_core.proofs.results.put_summary.Tie as tie

@@ -1,5 +1,5 @@
 -- The part that is lent is the state.
-use Rattle.drill_feeder.specs.Cases.{state-cases}
+use Rattle.drill_feeder.specs.laws.Cases.{state-cases}
 use borrow.Author.Needs.{needs}
 use Rattle.drill_feeder.proofs.calls.closed_of.Statement.{statement}
 use Rattle.drill_feeder.proofs.calls.closed_of.Tie as tie

@@ -1,5 +1,5 @@
 -- The parts that are lent are the state and n weights of 1.
-use Rattle.drill_feeder.specs.Cases.{state-cases}
+use Rattle.drill_feeder.specs.laws.Cases.{state-cases}
 use borrow.Author.Needs.{needs}
 use Rattle.drill_feeder.proofs.calls.open_at.Statement.{statement}
 use Rattle.drill_feeder.proofs.calls.open_at.Tie as tie

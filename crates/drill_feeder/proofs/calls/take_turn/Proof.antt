@@ -1,5 +1,5 @@
 -- With enough bytes for its line it is the turn without.
-use Rattle.drill_feeder.specs.Lined.{lined-cases}
+use Rattle.drill_feeder.specs.laws.Lined.{lined-cases}
 use borrow.Author.Needs.{needs}
 use Rattle.drill_feeder.proofs.calls.take_turn.Statement.{statement}
 use Rattle.drill_feeder.proofs.calls.take_turn.Tie as tie

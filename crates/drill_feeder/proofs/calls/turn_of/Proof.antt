@@ -1,5 +1,5 @@
 -- The parts that are lent are the state and the room.
-use Rattle.drill_feeder.specs.Cases.{turn-cases}
+use Rattle.drill_feeder.specs.laws.Cases.{turn-cases}
 use borrow.Author.Needs.{needs}
 use Rattle.drill_feeder.proofs.calls.turn_of.Statement.{statement}
 use Rattle.drill_feeder.proofs.calls.turn_of.Tie as tie

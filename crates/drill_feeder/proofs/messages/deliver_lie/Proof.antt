@@ -1,5 +1,5 @@
 -- The 20 bytes are the message.
-use Rattle.drill_feeder.specs.RunCases.{lie-delivered}
+use Rattle.drill_feeder.specs.laws.RunCases.{lie-delivered}
 use borrow.Author.Needs.{needs}
 use Rattle.drill_feeder.proofs.messages.deliver_lie.Statement.{statement}
 use Rattle.drill_feeder.proofs.messages.deliver_lie.Tie as tie

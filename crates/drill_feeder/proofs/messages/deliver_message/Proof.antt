@@ -1,5 +1,5 @@
 -- The link is that of the sender.
-use Rattle.drill_feeder.specs.RunCases.{message-delivered}
+use Rattle.drill_feeder.specs.laws.RunCases.{message-delivered}
 use borrow.Author.Needs.{needs}
 use Rattle.drill_feeder.proofs.messages.deliver_message.Statement.{statement}
 use Rattle.drill_feeder.proofs.messages.deliver_message.Tie as tie

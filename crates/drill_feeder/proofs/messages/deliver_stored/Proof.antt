@@ -1,5 +1,5 @@
 -- The part that is lent is the message.
-use Rattle.drill_feeder.specs.Cases.{message-lent}
+use Rattle.drill_feeder.specs.laws.Cases.{message-lent}
 use borrow.Author.Needs.{needs}
 use Rattle.drill_feeder.proofs.messages.deliver_stored.Statement.{statement}
 use Rattle.drill_feeder.proofs.messages.deliver_stored.Tie as tie

@@ -1,5 +1,5 @@
 -- The byte, or 0 past the end.
-use Rattle.drill_feeder.specs.PartLaws.{byte-cases}
+use Rattle.drill_feeder.specs.laws.Parts.{byte-cases}
 use borrow.Author.Needs.{needs}
 use Rattle.drill_feeder.proofs.parts.byte_at.Statement.{statement}
 use Rattle.drill_feeder.proofs.parts.byte_at.Tie as tie

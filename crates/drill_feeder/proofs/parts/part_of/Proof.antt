@@ -1,5 +1,5 @@
 -- The bounds where the slice is long enough.
-use Rattle.drill_feeder.specs.PartLaws.{part-cases}
+use Rattle.drill_feeder.specs.laws.Parts.{part-cases}
 use borrow.Author.Needs.{needs}
 use Rattle.drill_feeder.proofs.parts.part_of.Statement.{statement}
 use Rattle.drill_feeder.proofs.parts.part_of.Tie as tie

@@ -1,5 +1,5 @@
 -- By outcome.
-use Rattle.drill_feeder.specs.RunCases.{counted-cases}
+use Rattle.drill_feeder.specs.laws.RunCases.{counted-cases}
 use borrow.Author.Needs.{needs}
 use Rattle.drill_feeder.proofs.turns.counted.Statement.{statement}
 use Rattle.drill_feeder.proofs.turns.counted.Tie as tie

@@ -1,5 +1,5 @@
 -- Where the store has a place left.
-use Rattle.drill_feeder.specs.RunCases.{more-cases}
+use Rattle.drill_feeder.specs.laws.RunCases.{more-cases}
 use borrow.Author.Needs.{needs}
 use Rattle.drill_feeder.proofs.turns.more.Statement.{statement}
 use Rattle.drill_feeder.proofs.turns.more.Tie as tie

@@ -1,5 +1,5 @@
 -- The messages from the first that no R has delivered.
-use Rattle.drill_feeder.specs.RunCases.{offered-left}
+use Rattle.drill_feeder.specs.laws.RunCases.{offered-left}
 use borrow.Author.Needs.{needs}
 use Rattle.drill_feeder.proofs.turns.offer_all.Statement.{statement}
 use Rattle.drill_feeder.proofs.turns.offer_all.Tie as tie

@@ -1,5 +1,5 @@
 -- By the mark.
-use Rattle.drill_feeder.specs.RunCases.{honest-cases}
+use Rattle.drill_feeder.specs.laws.RunCases.{honest-cases}
 use borrow.Author.Needs.{needs}
 use Rattle.drill_feeder.proofs.turns.offer_to.Statement.{statement}
 use Rattle.drill_feeder.proofs.turns.offer_to.Tie as tie

@@ -1,7 +1,7 @@
 -- The rounds that are left of 1,601.
 use mathlib.Core.Path.{_≡_}
 use lib.ListN.{length}
-use Rattle.drill_feeder.specs.RunCases.{Running, running}
+use Rattle.drill_feeder.specs.laws.RunCases.{Running, running}
 use Rattle.drill_feeder.specs.Lines.{memory}
 use borrow.Author.Needs.{needs}
 use Rattle.drill_feeder.proofs.turns.run.Statement.{statement}

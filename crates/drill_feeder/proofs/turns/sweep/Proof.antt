@@ -1,7 +1,7 @@
 -- The turns that are left of 401.
 use mathlib.Core.Path.{_≡_}
 use lib.ListN.{length}
-use Rattle.drill_feeder.specs.RunCases.{Sweeping, sweeping}
+use Rattle.drill_feeder.specs.laws.RunCases.{Sweeping, sweeping}
 use Rattle.drill_feeder.specs.Lines.{memory}
 use borrow.Author.Needs.{needs}
 use Rattle.drill_feeder.proofs.turns.sweep.Statement.{statement}

@@ -1,5 +1,5 @@
 -- The turn, then the counts.
-use Rattle.drill_feeder.specs.RunCases.{turn-left-cases}
+use Rattle.drill_feeder.specs.laws.RunCases.{turn-left-cases}
 use borrow.Author.Needs.{needs}
 use Rattle.drill_feeder.proofs.turns.take_turn.Statement.{statement}
 use Rattle.drill_feeder.proofs.turns.take_turn.Tie as tie

@@ -2,7 +2,7 @@
 use Prim.Native.Nat.{_-_}
 use lib.ListN.{length}
 use Rattle.drill_lines.specs.Text.{commaText}
-use Rattle.text.specs.Each.{Each, each}
+use Rattle.text.specs.laws.Each.{Each, each}
 use borrow.Author.Needs.{needs}
 use Rattle.drill_lines.proofs.printing.put_comma_values.Statement.{statement}
 use Rattle.drill_lines.proofs.printing.put_comma_values.Tie as tie

@@ -1,5 +1,5 @@
 -- `put_counted` writes the values of the part.
-use Rattle.drill_lines.specs.Printing.{counted-cases}
+use Rattle.drill_lines.specs.laws.Printing.{counted-cases}
 use borrow.Author.Needs.{needs}
 use Rattle.drill_lines.proofs.printing.put_counted.Statement.{statement}
 use Rattle.drill_lines.proofs.printing.put_counted.Tie as tie

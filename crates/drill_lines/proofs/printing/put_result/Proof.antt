@@ -1,5 +1,5 @@
 -- `put_result` writes six texts one after the other.
-use Rattle.drill_lines.specs.Printing.{result-cases}
+use Rattle.drill_lines.specs.laws.Printing.{result-cases}
 use borrow.Author.Needs.{needs}
 use Rattle.drill_lines.proofs.printing.put_result.Statement.{statement}
 use Rattle.drill_lines.proofs.printing.put_result.Tie as tie

@@ -1,5 +1,5 @@
 -- `put_sent` writes two texts one after the other.
-use Rattle.drill_lines.specs.Printing.{two-texts}
+use Rattle.drill_lines.specs.laws.Printing.{two-texts}
 use borrow.Author.Needs.{needs}
 use Rattle.drill_lines.proofs.printing.put_sent.Statement.{statement}
 use Rattle.drill_lines.proofs.printing.put_sent.Tie as tie

@@ -1,5 +1,5 @@
 -- `put_values` writes "-", or the first value and the others after commas.
-use Rattle.drill_lines.specs.Printing.{values-cases}
+use Rattle.drill_lines.specs.laws.Printing.{values-cases}
 use borrow.Author.Needs.{needs}
 use Rattle.drill_lines.proofs.printing.put_values.Statement.{statement}
 use Rattle.drill_lines.proofs.printing.put_values.Tie as tie

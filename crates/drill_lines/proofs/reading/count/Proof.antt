@@ -1,5 +1,5 @@
 -- `count` goes by the letter.
-use Rattle.drill_lines.specs.Cases.{kind-cases}
+use Rattle.drill_lines.specs.laws.Cases.{kind-cases}
 use Rattle.drill_lines.specs.Automaton.{countOf}
 use Rattle.drill_lines.proofs.reading.count.Statement.{statement}
 use Rattle.drill_lines.proofs.reading.count.Tie as tie

@@ -1,5 +1,5 @@
 -- `extended_as` refuses in the order of the definition; the number with the digit was tested to fit.
-use Rattle.drill_lines.specs.Cases.{extended-cases, next-below}
+use Rattle.drill_lines.specs.laws.Cases.{extended-cases, next-below}
 use borrow.Author.Needs.{needs}
 use Rattle.drill_lines.proofs.reading.extended_as.Statement.{statement}
 use Rattle.drill_lines.proofs.reading.extended_as.Tie as tie
@@ -37,8 +37,8 @@ returns-3 c = search extended-cases
 appended-requires : tie.Need-appended-requires
 appended-requires c κs = next-below _ _ _ _ (c .before .fits2 .ensures) (c .if3 .left)
 
-counted-requires : tie.Need-counted-requires
-counted-requires c κs = search needs
+digit-count-requires : tie.Need-digit-count-requires
+digit-count-requires c κs = search needs
 
 reading-requires : tie.Need-reading-requires
 reading-requires c κs = search needs
@@ -61,6 +61,6 @@ extended-as-spec =
     wrong-requires-3
     returns-3
     appended-requires
-    counted-requires
+    digit-count-requires
     reading-requires
     returns-4)

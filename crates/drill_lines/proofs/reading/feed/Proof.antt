@@ -1,5 +1,5 @@
 -- `feed` goes by the tests of the definition.
-use Rattle.drill_lines.specs.Cases.{fed-cases}
+use Rattle.drill_lines.specs.laws.Cases.{fed-cases}
 use borrow.Author.Needs.{needs}
 use Rattle.drill_lines.proofs.reading.feed.Statement.{statement}
 use Rattle.drill_lines.proofs.reading.feed.Tie as tie

@@ -1,5 +1,5 @@
 -- `finish` goes by the tests of the definition.
-use Rattle.drill_lines.specs.Cases.{finished-cases}
+use Rattle.drill_lines.specs.laws.Cases.{finished-cases}
 use borrow.Author.Needs.{needs}
 use Rattle.drill_lines.proofs.reading.finish.Statement.{statement}
 use Rattle.drill_lines.proofs.reading.finish.Tie as tie

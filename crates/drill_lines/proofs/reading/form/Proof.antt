@@ -1,5 +1,5 @@
 -- `form` goes by letter and field.
-use Rattle.drill_lines.specs.Cases.{form-cases}
+use Rattle.drill_lines.specs.laws.Cases.{form-cases}
 use Rattle.drill_lines.proofs.reading.form.Statement.{statement}
 use Rattle.drill_lines.proofs.reading.form.Tie as tie
 

@@ -1,6 +1,6 @@
 -- `later_line` goes by the letter.
-use Rattle.drill_lines.specs.Cases.{later-cases}
-use Rattle.drill_lines.specs.Automaton.{laterLine}
+use Rattle.drill_lines.specs.laws.Cases.{later-cases}
+use Rattle.drill_lines.specs.laws.Automaton.{laterLine}
 use Rattle.drill_lines.proofs.reading.later_line.Statement.{statement}
 use Rattle.drill_lines.proofs.reading.later_line.Tie as tie
 

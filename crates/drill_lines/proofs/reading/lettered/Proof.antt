@@ -1,5 +1,5 @@
 -- `lettered` takes the letters of lines.
-use Rattle.drill_lines.specs.Cases.{lettered-cases}
+use Rattle.drill_lines.specs.laws.Cases.{lettered-cases}
 use borrow.Author.Needs.{needs}
 use Rattle.drill_lines.proofs.reading.lettered.Statement.{statement}
 use Rattle.drill_lines.proofs.reading.lettered.Tie as tie

@@ -1,5 +1,5 @@
 -- `line_with` goes by the letter.
-use Rattle.drill_lines.specs.Cases.{kind-cases, later-line}
+use Rattle.drill_lines.specs.laws.Cases.{kind-cases, later-line}
 use Rattle.drill_lines.specs.Automaton.{lineWith}
 use borrow.Author.Needs.{needs}
 use Rattle.drill_lines.proofs.reading.line_with.Statement.{statement}

@@ -1,5 +1,5 @@
 -- `parted` refuses an incomplete field, and a tab after the last.
-use Rattle.drill_lines.specs.Cases.{parted-cases}
+use Rattle.drill_lines.specs.laws.Cases.{parted-cases}
 use borrow.Author.Needs.{needs}
 use Rattle.drill_lines.proofs.reading.parted.Statement.{statement}
 use Rattle.drill_lines.proofs.reading.parted.Tie as tie

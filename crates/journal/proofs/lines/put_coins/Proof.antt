@@ -1,8 +1,8 @@
 -- `put_coins` writes word by word: after k turns the first k.
 use Prim.Native.Nat.{_-_}
 use lib.ListN.{length}
-use Rattle.text.specs.Each.{Each, each}
-use Rattle.journal.specs.Parts.{tabWord}
+use Rattle.text.specs.laws.Each.{Each, each}
+use Rattle.journal.specs.laws.Parts.{tabWord}
 use borrow.Author.Needs.{needs}
 use Rattle.journal.proofs.lines.put_coins.Statement.{statement}
 use Rattle.journal.proofs.lines.put_coins.Tie as tie

@@ -1,5 +1,5 @@
 -- `put_delivery` writes one part after the other.
-use Rattle.journal.specs.Parts.{wrote-delivery}
+use Rattle.journal.specs.laws.Parts.{wrote-delivery}
 use borrow.Author.Needs.{needs}
 use Rattle.journal.proofs.lines.put_delivery.Statement.{statement}
 use Rattle.journal.proofs.lines.put_delivery.Tie as tie

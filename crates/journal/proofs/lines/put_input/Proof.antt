@@ -1,5 +1,5 @@
 -- `put_input` writes one part after the other.
-use Rattle.journal.specs.Parts.{three-parts}
+use Rattle.journal.specs.laws.Parts.{three-parts}
 use borrow.Author.Needs.{needs}
 use Rattle.journal.proofs.lines.put_input.Statement.{statement}
 use Rattle.journal.proofs.lines.put_input.Tie as tie

@@ -1,5 +1,5 @@
 -- `put_lists` writes one part after the other.
-use Rattle.journal.specs.Parts.{wrote-lists}
+use Rattle.journal.specs.laws.Parts.{wrote-lists}
 use borrow.Author.Needs.{needs}
 use Rattle.journal.proofs.lines.put_lists.Statement.{statement}
 use Rattle.journal.proofs.lines.put_lists.Tie as tie

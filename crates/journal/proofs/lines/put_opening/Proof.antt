@@ -1,5 +1,5 @@
 -- `put_opening` writes one part after the other.
-use Rattle.journal.specs.Parts.{wrote-opening}
+use Rattle.journal.specs.laws.Parts.{wrote-opening}
 use borrow.Author.Needs.{needs}
 use Rattle.journal.proofs.lines.put_opening.Statement.{statement}
 use Rattle.journal.proofs.lines.put_opening.Tie as tie

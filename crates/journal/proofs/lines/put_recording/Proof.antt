@@ -1,5 +1,5 @@
 -- `put_recording` writes one part after the other.
-use Rattle.journal.specs.Parts.{wrote-recording}
+use Rattle.journal.specs.laws.Parts.{wrote-recording}
 use borrow.Author.Needs.{needs}
 use Rattle.journal.proofs.lines.put_recording.Statement.{statement}
 use Rattle.journal.proofs.lines.put_recording.Tie as tie

@@ -1,5 +1,5 @@
 -- `put_settings` writes one part after the other.
-use Rattle.journal.specs.Parts.{wrote-settings}
+use Rattle.journal.specs.laws.Parts.{wrote-settings}
 use borrow.Author.Needs.{needs}
 use Rattle.journal.proofs.lines.put_settings.Statement.{statement}
 use Rattle.journal.proofs.lines.put_settings.Tie as tie

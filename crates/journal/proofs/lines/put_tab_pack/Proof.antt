@@ -1,5 +1,5 @@
 -- `put_tab_pack` writes the tab, then the number.
-use Rattle.journal.specs.Parts.{two-parts}
+use Rattle.journal.specs.laws.Parts.{two-parts}
 use borrow.Author.Needs.{needs}
 use Rattle.journal.proofs.lines.put_tab_pack.Statement.{statement}
 use Rattle.journal.proofs.lines.put_tab_pack.Tie as tie

@@ -1,5 +1,5 @@
 -- `put_turn` writes the letter, then the end.
-use Rattle.journal.specs.Parts.{two-parts}
+use Rattle.journal.specs.laws.Parts.{two-parts}
 use borrow.Author.Needs.{needs}
 use Rattle.journal.proofs.lines.put_turn.Statement.{statement}
 use Rattle.journal.proofs.lines.put_turn.Tie as tie

@@ -1,8 +1,8 @@
 -- `put_weights` writes weight by weight: after k turns the first k.
 use Prim.Native.Nat.{_-_}
 use lib.ListN.{length}
-use Rattle.text.specs.Each.{Each, each}
-use Rattle.journal.specs.Parts.{tabDecimal}
+use Rattle.text.specs.laws.Each.{Each, each}
+use Rattle.journal.specs.laws.Parts.{tabDecimal}
 use borrow.Author.Needs.{needs}
 use Rattle.journal.proofs.lines.put_weights.Statement.{statement}
 use Rattle.journal.proofs.lines.put_weights.Tie as tie

@@ -1,6 +1,6 @@
 -- `all_zero` passes over coin words of 0.
 use Prim.Native.Nat.{_-_}
-use Rattle.quorum.specs.Every.{Holding, holding}
+use Rattle.quorum.specs.laws.Every.{Holding, holding}
 use Rattle.opening.specs.Given.{coinZero}
 use borrow.Author.Needs.{needs}
 use Rattle.opening.proofs.coins.all_zero.Statement.{statement}

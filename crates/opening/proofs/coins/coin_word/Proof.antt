@@ -1,5 +1,5 @@
 -- A coin word that is there, or 0.
-use Rattle.opening.specs.Cases.{open-cases}
+use Rattle.opening.specs.laws.Cases.{open-cases}
 use borrow.Author.Needs.{needs}
 use Rattle.opening.proofs.coins.coin_word.Statement.{statement}
 use Rattle.opening.proofs.coins.coin_word.Tie as tie

@@ -1,5 +1,5 @@
 -- The number of coin words, then whether they are printed or boxed.
-use Rattle.opening.specs.GivenCases.{coins-cases}
+use Rattle.opening.specs.laws.GivenCases.{coins-cases}
 use borrow.Author.Needs.{needs}
 use Rattle.opening.proofs.coins.coins_given.Statement.{statement}
 use Rattle.opening.proofs.coins.coins_given.Tie as tie

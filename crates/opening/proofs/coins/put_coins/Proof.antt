@@ -1,8 +1,8 @@
 -- After i steps coin words 1 to i are stored.
 use Prim.Native.Nat.{_-_}
-use Rattle.records.specs.Fill.{Storing, storing}
+use Rattle.records.specs.laws.Fill.{Storing, storing}
 use Rattle.opening.specs.Given.{item}
-use Rattle.opening.specs.Cases.{open-cases}
+use Rattle.opening.specs.laws.Cases.{open-cases}
 use borrow.Author.Needs.{needs}
 use Rattle.opening.proofs.coins.put_coins.Statement.{statement}
 use Rattle.opening.proofs.coins.put_coins.Tie as tie

@@ -1,9 +1,8 @@
 -- `all_given` passes over weights in their range.
 use borrow.Author.Needs.{needs}
 use Prim.Native.Nat.{_-_}
-use Rattle.quorum.specs.Every.{Holding, holding}
+use Rattle.quorum.specs.laws.Every.{Holding, holding}
 use Rattle.opening.specs.Given.{weightGiven}
-use borrow.Author.Needs.{needs}
 use Rattle.opening.proofs.weights.all_given.Statement.{statement}
 use Rattle.opening.proofs.weights.all_given.Tie as tie
 

@@ -1,5 +1,5 @@
 -- The mark, where it is to be set.
-use Rattle.opening.specs.GivenCases.{packing}
+use Rattle.opening.specs.laws.GivenCases.{packing}
 use borrow.Author.Needs.{needs}
 use Rattle.opening.proofs.weights.mark_if.Statement.{statement}
 use Rattle.opening.proofs.weights.mark_if.Tie as tie

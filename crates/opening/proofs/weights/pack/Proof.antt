@@ -2,8 +2,7 @@
 use borrow.Author.Needs.{needs}
 use Prim.Native.Nat.{_-_}
 use Rattle.opening.specs.Given.{item}
-use Rattle.opening.specs.GivenCases.{Packing, packing}
-use borrow.Author.Needs.{needs}
+use Rattle.opening.specs.laws.GivenCases.{Packing, packing}
 use Rattle.opening.proofs.weights.pack.Statement.{statement}
 use Rattle.opening.proofs.weights.pack.Tie as tie
 

@@ -1,5 +1,5 @@
 -- The weight lies in its range.
-use Rattle.opening.specs.GivenCases.{given-cases}
+use Rattle.opening.specs.laws.GivenCases.{given-cases}
 use borrow.Author.Needs.{needs}
 use Rattle.opening.proofs.weights.weight_given.Statement.{statement}
 use Rattle.opening.proofs.weights.weight_given.Tie as tie

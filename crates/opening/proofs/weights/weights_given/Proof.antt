@@ -1,5 +1,5 @@
 -- The number of weights, then each.
-use Rattle.opening.specs.GivenCases.{given-cases}
+use Rattle.opening.specs.laws.GivenCases.{given-cases}
 use borrow.Author.Needs.{needs}
 use Rattle.opening.proofs.weights.weights_given.Statement.{statement}
 use Rattle.opening.proofs.weights.weights_given.Tie as tie

@@ -1,5 +1,5 @@
 -- The word, where the list is right.
-use Rattle.opening.specs.GivenCases.{given-cases}
+use Rattle.opening.specs.laws.GivenCases.{given-cases}
 use borrow.Author.Needs.{needs}
 use Rattle.opening.proofs.weights.weights_word.Statement.{statement}
 use Rattle.opening.proofs.weights.weights_word.Tie as tie

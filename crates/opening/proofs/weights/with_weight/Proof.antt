@@ -1,5 +1,5 @@
 -- Four marks.
-use Rattle.opening.specs.GivenCases.{packing}
+use Rattle.opening.specs.laws.GivenCases.{packing}
 use borrow.Author.Needs.{needs}
 use Rattle.opening.proofs.weights.with_weight.Statement.{statement}
 use Rattle.opening.proofs.weights.with_weight.Tie as tie

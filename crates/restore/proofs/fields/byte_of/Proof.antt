@@ -1,5 +1,5 @@
 -- By the cases of both digits.
-use Rattle.restore.specs.Hex.{byte-cases}
+use Rattle.restore.specs.laws.Hex.{byte-cases}
 use borrow.Author.Needs.{needs}
 use Rattle.restore.proofs.fields.byte_of.Statement.{statement}
 use Rattle.restore.proofs.fields.byte_of.Tie as tie

@@ -1,7 +1,7 @@
 -- After k digits the rest is read on from the number that they make.
 use Prim.Native.Nat.{_-_}
 use lib.ListN.{length}
-use Rattle.restore.specs.Numbers.{Counting, counting}
+use Rattle.restore.specs.laws.Numbers.{Counting, counting}
 use borrow.Author.Needs.{needs}
 use Rattle.restore.proofs.fields.digits_value.Statement.{statement}
 use Rattle.restore.proofs.fields.digits_value.Tie as tie

@@ -1,5 +1,5 @@
 -- The first tab from the place on ends the field.
-use Rattle.restore.specs.Parts.{field-at}
+use Rattle.restore.specs.laws.Parts.{field-at}
 use borrow.Author.Needs.{needs}
 use Rattle.restore.proofs.fields.field_end.Statement.{statement}
 use Rattle.restore.proofs.fields.field_end.Tie as tie

@@ -1,5 +1,5 @@
 -- A field of one byte is that byte.
-use Rattle.restore.specs.Numbers.{field-cases}
+use Rattle.restore.specs.laws.Numbers.{field-cases}
 use borrow.Author.Needs.{needs}
 use Rattle.restore.proofs.fields.letter.Statement.{statement}
 use Rattle.restore.proofs.fields.letter.Tie as tie

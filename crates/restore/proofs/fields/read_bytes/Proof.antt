@@ -1,7 +1,7 @@
 -- After k bytes the field is what they are, and the digits that are left.
 use Prim.Native.Nat.{_-_}
 use lib.ListN.{length}
-use Rattle.restore.specs.Hex.{Hexing, hexing}
+use Rattle.restore.specs.laws.Hex.{Hexing, hexing}
 use borrow.Author.Needs.{needs}
 use Rattle.restore.proofs.fields.read_bytes.Statement.{statement}
 use Rattle.restore.proofs.fields.read_bytes.Tie as tie

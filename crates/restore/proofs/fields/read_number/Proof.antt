@@ -1,5 +1,5 @@
 -- A number of the wrong size or with leading zeros is wrong; else its digits say.
-use Rattle.restore.specs.Numbers.{number-cases}
+use Rattle.restore.specs.laws.Numbers.{number-cases}
 use borrow.Author.Needs.{needs}
 use Rattle.restore.proofs.fields.read_number.Statement.{statement}
 use Rattle.restore.proofs.fields.read_number.Tie as tie

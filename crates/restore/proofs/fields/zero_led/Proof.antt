@@ -1,5 +1,5 @@
 -- Only a field of two bytes or more can lead with a zero.
-use Rattle.restore.specs.Numbers.{field-cases}
+use Rattle.restore.specs.laws.Numbers.{field-cases}
 use borrow.Author.Needs.{needs}
 use Rattle.restore.proofs.fields.zero_led.Statement.{statement}
 use Rattle.restore.proofs.fields.zero_led.Tie as tie

@@ -1,7 +1,7 @@
 -- After j turns the first j are copied.
 use Prim.Native.Nat.{_-_}
 use lib.ListN.{length}
-use Rattle.restore.specs.Opened.{Copying, copying}
+use Rattle.restore.specs.laws.Opened.{Copying, copying}
 use borrow.Author.Needs.{needs}
 use Rattle.restore.proofs.first.copy_coins.Statement.{statement}
 use Rattle.restore.proofs.first.copy_coins.Tie as tie

@@ -1,7 +1,7 @@
 -- After j turns the first j are copied, and each is a byte.
 use Prim.Native.Nat.{_-_}
 use lib.ListN.{length}
-use Rattle.restore.specs.Opened.{Copying, weighing}
+use Rattle.restore.specs.laws.Opened.{Copying, weighing}
 use borrow.Author.Needs.{needs}
 use Rattle.restore.proofs.first.copy_weights.Statement.{statement}
 use Rattle.restore.proofs.first.copy_weights.Tie as tie

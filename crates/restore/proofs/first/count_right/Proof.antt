@@ -1,5 +1,5 @@
 -- The definition's own test.
-use Rattle.restore.specs.First.{count-cases}
+use Rattle.restore.specs.laws.First.{count-cases}
 use borrow.Author.Needs.{needs}
 use Rattle.restore.proofs.first.count_right.Statement.{statement}
 use Rattle.restore.proofs.first.count_right.Tie as tie

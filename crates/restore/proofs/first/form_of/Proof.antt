@@ -1,5 +1,5 @@
 -- By the places.
-use Rattle.restore.specs.Forms.{form-cases}
+use Rattle.restore.specs.laws.Forms.{form-cases}
 use borrow.Author.Needs.{needs}
 use Rattle.restore.proofs.first.form_of.Statement.{statement}
 use Rattle.restore.proofs.first.form_of.Tie as tie

@@ -1,5 +1,5 @@
 -- The second field is a number, or the line cannot be applied.
-use Rattle.restore.specs.First.{n-cases}
+use Rattle.restore.specs.laws.First.{n-cases}
 use borrow.Author.Needs.{needs}
 use Rattle.restore.proofs.first.open_by.Statement.{statement}
 use Rattle.restore.proofs.first.open_by.Tie as tie

@@ -1,5 +1,5 @@
 -- With weights or without, or the line cannot be applied.
-use Rattle.restore.specs.First.{count-cases}
+use Rattle.restore.specs.laws.First.{count-cases}
 use borrow.Author.Needs.{needs}
 use Rattle.restore.proofs.first.open_counted.Statement.{statement}
 use Rattle.restore.proofs.first.open_counted.Tie as tie

@@ -1,5 +1,5 @@
 -- All fields are numbers of their forms, or the line cannot be applied.
-use Rattle.restore.specs.First.{read-cases}
+use Rattle.restore.specs.laws.First.{read-cases}
 use borrow.Author.Needs.{needs}
 use Rattle.restore.proofs.first.open_fields.Statement.{statement}
 use Rattle.restore.proofs.first.open_fields.Tie as tie

@@ -1,5 +1,5 @@
 -- The letter is an O, and fields follow it.
-use Rattle.restore.specs.First.{first-cases}
+use Rattle.restore.specs.laws.First.{first-cases}
 use borrow.Author.Needs.{needs}
 use Rattle.restore.proofs.first.open_line.Statement.{statement}
 use Rattle.restore.proofs.first.open_line.Tie as tie

@@ -1,5 +1,5 @@
 -- Version, session and weights are right, or the line cannot be applied.
-use Rattle.restore.specs.Given.{open-cases}
+use Rattle.restore.specs.laws.Given.{open-cases}
 use borrow.Author.Needs.{needs}
 use Rattle.restore.proofs.first.open_values.Statement.{statement}
 use Rattle.restore.proofs.first.open_values.Tie as tie

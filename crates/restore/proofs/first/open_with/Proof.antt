@@ -1,5 +1,5 @@
 -- The opening is accepted, or leaves the words.
-use Rattle.restore.specs.Given.{open-cases}
+use Rattle.restore.specs.laws.Given.{open-cases}
 use borrow.Author.Needs.{needs}
 use Rattle.restore.proofs.first.open_with.Statement.{statement}
 use Rattle.restore.proofs.first.open_with.Tie as tie

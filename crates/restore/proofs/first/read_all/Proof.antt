@@ -1,7 +1,7 @@
 -- After k fields the line is what they are, and the fields that are left.
 use Prim.Native.Nat.{_-_}
 use lib.ListN.{length}
-use Rattle.restore.specs.Filling.{Filling, filling}
+use Rattle.restore.specs.laws.Filling.{Filling, filling}
 use borrow.Author.Needs.{needs}
 use Rattle.restore.proofs.first.read_all.Statement.{statement}
 use Rattle.restore.proofs.first.read_all.Tie as tie

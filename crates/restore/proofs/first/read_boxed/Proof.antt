@@ -1,5 +1,5 @@
 -- The last number, or none.
-use Rattle.restore.specs.Opened.{boxed-cases}
+use Rattle.restore.specs.laws.Opened.{boxed-cases}
 use borrow.Author.Needs.{needs}
 use Rattle.restore.proofs.first.read_boxed.Statement.{statement}
 use Rattle.restore.proofs.first.read_boxed.Tie as tie

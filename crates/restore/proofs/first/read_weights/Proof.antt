@@ -1,5 +1,5 @@
 -- The line has weights, or they stay.
-use Rattle.restore.specs.Opened.{weights-cases}
+use Rattle.restore.specs.laws.Opened.{weights-cases}
 use borrow.Author.Needs.{needs}
 use Rattle.restore.proofs.first.read_weights.Statement.{statement}
 use Rattle.restore.proofs.first.read_weights.Tie as tie

@@ -1,5 +1,5 @@
 -- The second field, if there is one.
-use Rattle.restore.specs.First.{second-cases}
+use Rattle.restore.specs.laws.First.{second-cases}
 use borrow.Author.Needs.{needs}
 use Rattle.restore.proofs.first.second_number.Statement.{statement}
 use Rattle.restore.proofs.first.second_number.Tie as tie

@@ -1,5 +1,5 @@
 -- The field is a number of its form, or nothing is stored.
-use Rattle.restore.specs.Filling.{stored-cases}
+use Rattle.restore.specs.laws.Filling.{stored-cases}
 use borrow.Author.Needs.{needs}
 use Rattle.restore.proofs.first.store_field.Statement.{statement}
 use Rattle.restore.proofs.first.store_field.Tie as tie

@@ -1,5 +1,5 @@
 -- By the letter, and by what follows it.
-use Rattle.restore.specs.Turning.{line-kinds}
+use Rattle.restore.specs.laws.Turning.{line-kinds}
 use borrow.Author.Needs.{needs}
 use Rattle.restore.proofs.lines.apply_line.Statement.{statement}
 use Rattle.restore.proofs.lines.apply_line.Tie as tie

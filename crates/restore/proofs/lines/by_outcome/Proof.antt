@@ -1,5 +1,5 @@
 -- By the outcomes.
-use Rattle.restore.specs.Turning.{outcome-cases}
+use Rattle.restore.specs.laws.Turning.{outcome-cases}
 use borrow.Author.Needs.{needs}
 use Rattle.restore.proofs.lines.by_outcome.Statement.{statement}
 use Rattle.restore.proofs.lines.by_outcome.Tie as tie

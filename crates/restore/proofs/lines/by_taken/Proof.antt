@@ -1,5 +1,5 @@
 -- Its two cases.
-use Rattle.restore.specs.Turning.{taken-answers}
+use Rattle.restore.specs.laws.Turning.{taken-answers}
 use Rattle.restore.proofs.lines.by_taken.Statement.{statement}
 use Rattle.restore.proofs.lines.by_taken.Tie as tie
 

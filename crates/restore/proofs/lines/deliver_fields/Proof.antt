@@ -1,5 +1,5 @@
 -- The link is no number, or the bytes are delivered over it.
-use Rattle.restore.specs.Applying.{link-cases}
+use Rattle.restore.specs.laws.Applying.{link-cases}
 use borrow.Author.Needs.{needs}
 use Rattle.restore.proofs.lines.deliver_fields.Statement.{statement}
 use Rattle.restore.proofs.lines.deliver_fields.Tie as tie

@@ -1,5 +1,5 @@
 -- The field is wrong, or too long for a message, or its bytes are delivered.
-use Rattle.restore.specs.Applying.{hex-cases}
+use Rattle.restore.specs.laws.Applying.{hex-cases}
 use borrow.Author.Needs.{needs}
 use Rattle.restore.proofs.lines.deliver_hex.Statement.{statement}
 use Rattle.restore.proofs.lines.deliver_hex.Tie as tie

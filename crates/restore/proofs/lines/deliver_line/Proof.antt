@@ -1,5 +1,5 @@
 -- Two fields follow the letter.
-use Rattle.restore.specs.Applying.{delivery-cases}
+use Rattle.restore.specs.laws.Applying.{delivery-cases}
 use borrow.Author.Needs.{needs}
 use Rattle.restore.proofs.lines.deliver_line.Statement.{statement}
 use Rattle.restore.proofs.lines.deliver_line.Tie as tie

@@ -1,5 +1,5 @@
 -- All fields are decimals, or the line cannot be applied.
-use Rattle.restore.specs.Recorded.{recording-cases}
+use Rattle.restore.specs.laws.Recorded.{recording-cases}
 use borrow.Author.Needs.{needs}
 use Rattle.restore.proofs.lines.record_line.Statement.{statement}
 use Rattle.restore.proofs.lines.record_line.Tie as tie

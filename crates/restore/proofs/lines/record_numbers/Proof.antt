@@ -1,5 +1,5 @@
 -- Three numbers, or the line cannot be applied.
-use Rattle.restore.specs.Recorded.{numbers-cases}
+use Rattle.restore.specs.laws.Recorded.{numbers-cases}
 use borrow.Author.Needs.{needs}
 use Rattle.restore.proofs.lines.record_numbers.Statement.{statement}
 use Rattle.restore.proofs.lines.record_numbers.Tie as tie

@@ -1,5 +1,5 @@
 -- A turn with 140 bytes or more, which acts or leaves all as it is.
-use Rattle.restore.specs.Turning.{turn-taken}
+use Rattle.restore.specs.laws.Turning.{turn-taken}
 use borrow.Author.Needs.{needs}
 use Rattle.restore.proofs.lines.turn_line.Statement.{statement}
 use Rattle.restore.proofs.lines.turn_line.Tie as tie

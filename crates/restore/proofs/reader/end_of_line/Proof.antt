@@ -1,5 +1,5 @@
 -- The first LF from the place on ends the line, and without one the line is not complete.
-use Rattle.restore.specs.Places.{line-cases}
+use Rattle.restore.specs.laws.Places.{line-cases}
 use borrow.Author.Needs.{needs}
 use Rattle.restore.proofs.reader.end_of_line.Statement.{statement}
 use Rattle.restore.proofs.reader.end_of_line.Tie as tie

@@ -42,7 +42,7 @@ use denote.Triple.Table.{entered, cited}
 use denote.Triple.Walked.{says, Stays, stay-none, walkOf, goes-none, Walks, ends-at, walked, walk-meets}
 use denote.Exit.{yes}
 use denote.Triple.Clauses.{ensured, lasts}
-use Rattle.restore.specs.Places.{lineEnd}
+use Rattle.restore.specs.laws.Places.{lineEnd}
 use Rattle.restore.specs.declared.reader.Reader.{Reader}
 use Rattle.restore.proofs.reader.Reader as T
 use Rattle.restore.proofs.reader.Reader.Laws as T′

@@ -1,7 +1,7 @@
 -- The loop has met no such byte before the place that it has come to.
 use Prim.Native.Nat.{_-_}
 use lib.ListN.{length}
-use Rattle.restore.specs.Places.{Seeking, seeking}
+use Rattle.restore.specs.laws.Places.{Seeking, seeking}
 use borrow.Author.Needs.{needs}
 use Rattle.restore.proofs.reader.place_of.Statement.{statement}
 use Rattle.restore.proofs.reader.place_of.Tie as tie

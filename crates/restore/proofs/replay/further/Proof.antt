@@ -1,5 +1,5 @@
 -- The first line is the only one, or others follow.
-use Rattle.restore.specs.Replaying.{begun-cases}
+use Rattle.restore.specs.laws.Replaying.{begun-cases}
 use borrow.Author.Needs.{needs}
 use Rattle.restore.proofs.replay.further.Statement.{statement}
 use Rattle.restore.proofs.replay.further.Tie as tie

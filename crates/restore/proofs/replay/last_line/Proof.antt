@@ -1,5 +1,5 @@
 -- What the line comes to is the whole.
-use Rattle.restore.specs.Replaying.{taken-cases}
+use Rattle.restore.specs.laws.Replaying.{taken-cases}
 use borrow.Author.Needs.{needs}
 use Rattle.restore.proofs.replay.last_line.Statement.{statement}
 use Rattle.restore.proofs.replay.last_line.Tie as tie

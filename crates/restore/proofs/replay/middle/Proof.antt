@@ -2,7 +2,7 @@
 use Prim.Native.Nat.{_-_}
 use mathlib.Core.Path.{_≡_}
 use lib.ListN.{length}
-use Rattle.restore.specs.Replaying.{Replaying, replaying}
+use Rattle.restore.specs.laws.Replaying.{Replaying, replaying}
 use borrow.Author.Needs.{needs}
 use Rattle.restore.proofs.replay.middle.Statement.{statement}
 use Rattle.restore.proofs.replay.middle.Tie as tie

@@ -1,5 +1,5 @@
 -- What is applied is applied, and its message goes nowhere.
-use Rattle.restore.specs.Replaying.{taken-cases}
+use Rattle.restore.specs.laws.Replaying.{taken-cases}
 use borrow.Author.Needs.{needs}
 use Rattle.restore.proofs.replay.middle_line.Statement.{statement}
 use Rattle.restore.proofs.replay.middle_line.Tie as tie

@@ -1,5 +1,5 @@
 -- There is a first line, and it can be applied.
-use Rattle.restore.specs.Replaying.{begun-cases}
+use Rattle.restore.specs.laws.Replaying.{begun-cases}
 use borrow.Author.Needs.{needs}
 use Rattle.restore.proofs.replay.replay.Statement.{statement}
 use Rattle.restore.proofs.replay.replay.Tie as tie

@@ -1,5 +1,5 @@
 -- A line in the middle cannot be applied, or the last one tells.
-use Rattle.restore.specs.Replaying.{place-cases}
+use Rattle.restore.specs.laws.Replaying.{place-cases}
 use borrow.Author.Needs.{needs}
 use Rattle.restore.proofs.replay.rest.Statement.{statement}
 use Rattle.restore.proofs.replay.rest.Tie as tie

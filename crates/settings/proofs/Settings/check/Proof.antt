@@ -1,4 +1,4 @@
-use Rattle.settings.specs.Cases.{check-cases, check-fits}
+use Rattle.settings.specs.laws.Cases.{check-cases, check-fits}
 use borrow.Author.Needs.{needs}
 use Rattle.settings.proofs.Settings.check.Statement.{statement}
 use Rattle.settings.proofs.Settings.check.Tie as tie

@@ -1,5 +1,5 @@
 -- `check_named` checks the settings with the ta that is meant.
-use Rattle.settings.specs.Cases.{check-cases}
+use Rattle.settings.specs.laws.Cases.{check-cases}
 use borrow.Author.Needs.{needs}
 use Rattle.settings.proofs.Settings.check_named.Statement.{statement}
 use Rattle.settings.proofs.Settings.check_named.Tie as tie

@@ -1,5 +1,5 @@
 -- `named_ta` reads 255 as the largest ta, and any other number as itself.
-use Rattle.settings.specs.Cases.{named, unnamed}
+use Rattle.settings.specs.laws.Cases.{named, unnamed}
 use borrow.Author.Needs.{needs}
 use Rattle.settings.proofs.Settings.named_ta.Statement.{statement}
 use Rattle.settings.proofs.Settings.named_ta.Tie as tie

@@ -1,5 +1,5 @@
 -- `base` is 10 or 16.
-use Rattle.text.specs.DigitCases.{base-cases}
+use Rattle.text.specs.laws.DigitCases.{base-cases}
 use native.Mathlib.Omega.{arith}
 use Rattle.text.proofs.digits.base.Statement.{statement}
 use Rattle.text.proofs.digits.base.Tie as tie

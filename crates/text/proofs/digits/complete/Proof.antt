@@ -1,5 +1,5 @@
 -- `complete` goes by the form.
-use Rattle.text.specs.DigitCases.{complete-cases}
+use Rattle.text.specs.laws.DigitCases.{complete-cases}
 use Rattle.text.proofs.digits.complete.Statement.{statement}
 use Rattle.text.proofs.digits.complete.Tie as tie
 

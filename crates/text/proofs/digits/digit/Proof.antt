@@ -1,5 +1,5 @@
 -- `digit` is that of the definition, by the ranges of bytes.
-use Rattle.text.specs.DigitCases.{digit-cases}
+use Rattle.text.specs.laws.DigitCases.{digit-cases}
 use borrow.Author.Needs.{needs}
 use Rattle.text.proofs.digits.digit.Statement.{statement}
 use Rattle.text.proofs.digits.digit.Tie as tie

@@ -1,5 +1,5 @@
 -- `fits` divides where the definition multiplies, so that nothing wraps.
-use Rattle.text.specs.DigitCases.{fits-cases}
+use Rattle.text.specs.laws.DigitCases.{fits-cases}
 use borrow.Author.Needs.{needs}
 use Rattle.text.proofs.digits.fits.Statement.{statement}
 use Rattle.text.proofs.digits.fits.Tie as tie

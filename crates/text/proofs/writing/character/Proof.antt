@@ -1,5 +1,5 @@
 -- `character` goes by the digit.
-use Rattle.text.specs.DigitCases.{character-cases}
+use Rattle.text.specs.laws.DigitCases.{character-cases}
 use borrow.Author.Needs.{needs}
 use Rattle.text.proofs.writing.character.Statement.{statement}
 use Rattle.text.proofs.writing.character.Tie as tie

@@ -1,5 +1,5 @@
 -- `hex_fits` halves where the definition doubles, so that nothing wraps.
-use Rattle.text.specs.Digits.{room-cases}
+use Rattle.text.specs.laws.Digits.{room-cases}
 use Rattle.text.proofs.writing.hex_fits.Statement.{statement}
 use Rattle.text.proofs.writing.hex_fits.Tie as tie
 

@@ -1,5 +1,5 @@
 -- `put_byte` writes within the bytes, and nothing past their end.
-use Rattle.text.specs.Paste.{byte-cases}
+use Rattle.text.specs.laws.Paste.{byte-cases}
 use borrow.Author.Needs.{needs}
 use Rattle.text.proofs.writing.put_byte.Statement.{statement}
 use Rattle.text.proofs.writing.put_byte.Tie as tie

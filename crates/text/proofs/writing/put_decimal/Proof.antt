@@ -1,5 +1,5 @@
 -- `put_decimal` writes one digit or two at once.
-use Rattle.text.specs.Digits.{small-cases}
+use Rattle.text.specs.laws.Digits.{small-cases}
 use borrow.Author.Needs.{needs}
 use Rattle.text.proofs.writing.put_decimal.Statement.{statement}
 use Rattle.text.proofs.writing.put_decimal.Tie as tie

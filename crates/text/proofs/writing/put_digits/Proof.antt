@@ -1,5 +1,5 @@
 -- `put_digits` writes the digits that the `io` library gives, which are the text of the definition.
-use Rattle.text.specs.Digits.{wrote-decimal}
+use Rattle.text.specs.laws.Digits.{wrote-decimal}
 use borrow.Author.Needs.{needs}
 use Rattle.text.proofs.writing.put_digits.Statement.{statement}
 use Rattle.text.proofs.writing.put_digits.Tie as tie

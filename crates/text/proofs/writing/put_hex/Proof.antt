@@ -1,5 +1,5 @@
 -- `put_hex` writes the digits that the `io` library gives, which are the text of the definition.
-use Rattle.text.specs.Digits.{wrote-hex}
+use Rattle.text.specs.laws.Digits.{wrote-hex}
 use borrow.Author.Needs.{needs}
 use Rattle.text.proofs.writing.put_hex.Statement.{statement}
 use Rattle.text.proofs.writing.put_hex.Tie as tie

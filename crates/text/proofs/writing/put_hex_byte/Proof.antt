@@ -1,5 +1,5 @@
 -- `put_hex_byte` writes the two digits.
-use Rattle.text.specs.Digits.{wrote-byte}
+use Rattle.text.specs.laws.Digits.{wrote-byte}
 use borrow.Author.Needs.{needs}
 use Rattle.text.proofs.writing.put_hex_byte.Statement.{statement}
 use Rattle.text.proofs.writing.put_hex_byte.Tie as tie

@@ -1,5 +1,5 @@
 -- Where there is room for all nothing is asked for each byte.
-use Rattle.text.specs.Digits.{room-given}
+use Rattle.text.specs.laws.Digits.{room-given}
 use borrow.Author.Needs.{needs}
 use Rattle.text.proofs.writing.put_hex_bytes.Statement.{statement}
 use Rattle.text.proofs.writing.put_hex_bytes.Tie as tie

@@ -1,7 +1,7 @@
 -- `put_text` writes byte by byte: after k turns the first k.
 use Prim.Native.Nat.{_-_}
 use lib.ListN.{length}
-use Rattle.text.specs.Paste.{Writing, writing}
+use Rattle.text.specs.laws.Paste.{Writing, writing}
 use borrow.Author.Needs.{needs}
 use Rattle.text.proofs.writing.put_text.Statement.{statement}
 use Rattle.text.proofs.writing.put_text.Tie as tie

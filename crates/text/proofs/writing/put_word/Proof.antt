@@ -1,5 +1,5 @@
 -- `put_word` writes the digits that the `io` library gives, which are the text of the definition.
-use Rattle.text.specs.Digits.{wrote-word}
+use Rattle.text.specs.laws.Digits.{wrote-word}
 use borrow.Author.Needs.{needs}
 use Rattle.text.proofs.writing.put_word.Statement.{statement}
 use Rattle.text.proofs.writing.put_word.Tie as tie

@@ -1,5 +1,5 @@
 -- `set_hex_byte` writes the two digits.
-use Rattle.text.specs.Digits.{wrote-byte-within}
+use Rattle.text.specs.laws.Digits.{wrote-byte-within}
 use borrow.Author.Needs.{needs}
 use Rattle.text.proofs.writing.set_hex_byte.Statement.{statement}
 use Rattle.text.proofs.writing.set_hex_byte.Tie as tie

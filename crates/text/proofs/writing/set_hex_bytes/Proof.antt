@@ -1,7 +1,7 @@
 -- `set_hex_bytes` writes byte by byte: after k turns the first k.
 use Prim.Native.Nat.{_-_}
 use lib.ListN.{length}
-use Rattle.text.specs.Digits.{Within, within}
+use Rattle.text.specs.laws.Digits.{Within, within}
 use borrow.Author.Needs.{needs}
 use Rattle.text.proofs.writing.set_hex_bytes.Statement.{statement}
 use Rattle.text.proofs.writing.set_hex_bytes.Tie as tie

@@ -1,5 +1,5 @@
 -- The count, then the marks; nothing where the act is idle.
-use Rattle.turn.specs.Applying.{apply-cases}
+use Rattle.turn.specs.laws.Applying.{apply-cases}
 use borrow.Author.Needs.{needs}
 use Rattle.turn.proofs.apply.apply.Statement.{statement}
 use Rattle.turn.proofs.apply.apply.Tie as tie

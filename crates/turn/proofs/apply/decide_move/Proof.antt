@@ -1,5 +1,5 @@
 -- The decision, where the move takes one.
-use Rattle.turn.specs.Applying.{apply-cases}
+use Rattle.turn.specs.laws.Applying.{apply-cases}
 use borrow.Author.Needs.{needs}
 use Rattle.turn.proofs.apply.decide_move.Statement.{statement}
 use Rattle.turn.proofs.apply.decide_move.Tie as tie

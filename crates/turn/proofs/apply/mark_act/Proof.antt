@@ -1,5 +1,5 @@
 -- The marks of each act.
-use Rattle.turn.specs.Applying.{mark-cases}
+use Rattle.turn.specs.laws.Applying.{mark-cases}
 use borrow.Author.Needs.{needs}
 use Rattle.turn.proofs.apply.mark_act.Statement.{statement}
 use Rattle.turn.proofs.apply.mark_act.Tie as tie
@@ -10,38 +10,32 @@ enum-told c = search needs
 enum-told-2 : tie.Need-enum-told-2
 enum-told-2 c = search needs
 
-set-mark-requires : tie.Need-set-mark-requires
-set-mark-requires c κs = search needs
+mark-closed-requires : tie.Need-mark-closed-requires
+mark-closed-requires c κs = search needs
 
 enum-told-3 : tie.Need-enum-told-3
 enum-told-3 c = search needs
 
-set-mark-requires-2 : tie.Need-set-mark-requires-2
-set-mark-requires-2 c κs = search needs
+mark-commit-sent-requires : tie.Need-mark-commit-sent-requires
+mark-commit-sent-requires c κs = search needs
 
 enum-told-4 : tie.Need-enum-told-4
 enum-told-4 c = search needs
 
-set-mark-requires-3 : tie.Need-set-mark-requires-3
-set-mark-requires-3 c κs = search needs
+mark-send-sent-requires : tie.Need-mark-send-sent-requires
+mark-send-sent-requires c κs = search needs
 
 enum-known-a : tie.Need-enum-known-a
 enum-known-a c = search needs
 
-cast-set-mark : tie.Need-cast-set-mark
-cast-set-mark c = search needs
-
-set-mark-requires-4 : tie.Need-set-mark-requires-4
-set-mark-requires-4 c κs = search needs
+mark-echo-sent-requires : tie.Need-mark-echo-sent-requires
+mark-echo-sent-requires c κs = search needs
 
 enum-known-a-2 : tie.Need-enum-known-a-2
 enum-known-a-2 c = search needs
 
-cast-set-mark-2 : tie.Need-cast-set-mark-2
-cast-set-mark-2 c = search needs
-
-set-mark-requires-5 : tie.Need-set-mark-requires-5
-set-mark-requires-5 c κs = search needs
+mark-ready-sent-requires : tie.Need-mark-ready-sent-requires
+mark-ready-sent-requires c κs = search needs
 
 enum-known-a-3 : tie.Need-enum-known-a-3
 enum-known-a-3 c = search needs
@@ -52,41 +46,17 @@ enter-requires c κs = search needs
 enum-known-a-4 : tie.Need-enum-known-a-4
 enum-known-a-4 c = search needs
 
-cast-set-mark-3 : tie.Need-cast-set-mark-3
-cast-set-mark-3 c = search needs
+cast-mark-est-sent : tie.Need-cast-mark-est-sent
+cast-mark-est-sent c = search needs
 
-add-set-mark : tie.Need-add-set-mark
-add-set-mark c = search needs
-
-cast-set-mark-4 : tie.Need-cast-set-mark-4
-cast-set-mark-4 c = search needs
-
-mul-set-mark : tie.Need-mul-set-mark
-mul-set-mark c = search needs
-
-cast-set-mark-5 : tie.Need-cast-set-mark-5
-cast-set-mark-5 c = search needs
-
-add-set-mark-2 : tie.Need-add-set-mark-2
-add-set-mark-2 c = search needs
-
-set-mark-requires-6 : tie.Need-set-mark-requires-6
-set-mark-requires-6 c κs = search needs
+mark-est-sent-requires : tie.Need-mark-est-sent-requires
+mark-est-sent-requires c κs = search needs
 
 enum-known-a-5 : tie.Need-enum-known-a-5
 enum-known-a-5 c = search needs
 
-cast-set-mark-6 : tie.Need-cast-set-mark-6
-cast-set-mark-6 c = search needs
-
-add-set-mark-3 : tie.Need-add-set-mark-3
-add-set-mark-3 c = search needs
-
-cast-set-mark-7 : tie.Need-cast-set-mark-7
-cast-set-mark-7 c = search needs
-
-set-mark-requires-7 : tie.Need-set-mark-requires-7
-set-mark-requires-7 c κs = search needs
+mark-aux-sent-requires : tie.Need-mark-aux-sent-requires
+mark-aux-sent-requires c κs = search needs
 
 enum-known-a-6 : tie.Need-enum-known-a-6
 enum-known-a-6 c = search needs
@@ -157,32 +127,22 @@ mark-act-spec =
     (tie.spec
     enum-told
     enum-told-2
-    set-mark-requires
+    mark-closed-requires
     enum-told-3
-    set-mark-requires-2
+    mark-commit-sent-requires
     enum-told-4
-    set-mark-requires-3
+    mark-send-sent-requires
     enum-known-a
-    cast-set-mark
-    set-mark-requires-4
+    mark-echo-sent-requires
     enum-known-a-2
-    cast-set-mark-2
-    set-mark-requires-5
+    mark-ready-sent-requires
     enum-known-a-3
     enter-requires
     enum-known-a-4
-    cast-set-mark-3
-    add-set-mark
-    cast-set-mark-4
-    mul-set-mark
-    cast-set-mark-5
-    add-set-mark-2
-    set-mark-requires-6
+    cast-mark-est-sent
+    mark-est-sent-requires
     enum-known-a-5
-    cast-set-mark-6
-    add-set-mark-3
-    cast-set-mark-7
-    set-mark-requires-7
+    mark-aux-sent-requires
     enum-known-a-6
     move-vote-requires
     returns

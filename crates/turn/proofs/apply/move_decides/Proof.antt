@@ -1,5 +1,5 @@
 -- The coin, and no decision that stands.
-use Rattle.turn.specs.Applying.{apply-cases}
+use Rattle.turn.specs.laws.Applying.{apply-cases}
 use borrow.Author.Needs.{needs}
 use Rattle.turn.proofs.apply.move_decides.Statement.{statement}
 use Rattle.turn.proofs.apply.move_decides.Tie as tie

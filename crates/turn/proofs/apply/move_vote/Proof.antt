@@ -1,5 +1,5 @@
 -- The decision, then the next round.
-use Rattle.turn.specs.Applying.{apply-cases}
+use Rattle.turn.specs.laws.Applying.{apply-cases}
 use borrow.Author.Needs.{needs}
 use Rattle.turn.proofs.apply.move_vote.Statement.{statement}
 use Rattle.turn.proofs.apply.move_vote.Tie as tie

@@ -1,5 +1,5 @@
 -- None if one was sent, the set the exits name, or one that is repeated.
-use Rattle.turn.specs.Choosing.{commit-cases}
+use Rattle.turn.specs.laws.Choosing.{commit-cases}
 use borrow.Author.Needs.{needs}
 use Rattle.turn.proofs.due.commit_rule.Statement.{statement}
 use Rattle.turn.proofs.due.commit_rule.Tie as tie

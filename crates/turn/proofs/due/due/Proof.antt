@@ -1,5 +1,5 @@
 -- The first of the rules that is due.
-use Rattle.turn.specs.Deciding.{due-cases}
+use Rattle.turn.specs.laws.Deciding.{due-cases}
 use borrow.Author.Needs.{needs}
 use Rattle.turn.proofs.due.due.Statement.{statement}
 use Rattle.turn.proofs.due.due.Tie as tie

@@ -1,5 +1,5 @@
 -- A set that n − ts senders hold, or none.
-use Rattle.turn.specs.Choosing.{in-force-cases}
+use Rattle.turn.specs.laws.Choosing.{in-force-cases}
 use borrow.Author.Needs.{needs}
 use Rattle.turn.proofs.due.in_force_rule.Statement.{statement}
 use Rattle.turn.proofs.due.in_force_rule.Tie as tie

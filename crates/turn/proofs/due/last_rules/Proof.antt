@@ -1,5 +1,5 @@
 -- READY, or the votes unless Exit 1 holds.
-use Rattle.turn.specs.Choosing.{last-cases}
+use Rattle.turn.specs.laws.Choosing.{last-cases}
 use borrow.Author.Needs.{needs}
 use Rattle.turn.proofs.due.last_rules.Statement.{statement}
 use Rattle.turn.proofs.due.last_rules.Tie as tie
@@ -16,9 +16,6 @@ returns c = search last-cases
 returns-2 : tie.Need-returns-2
 returns-2 c = search last-cases
 
-votes-decided-one-requires : tie.Need-votes-decided-one-requires
-votes-decided-one-requires c κs = search needs
-
 vote-rule-requires : tie.Need-vote-rule-requires
 vote-rule-requires c κs = search needs
 
@@ -33,6 +30,5 @@ last-rules-spec =
     is-due-requires
     returns
     returns-2
-    votes-decided-one-requires
     vote-rule-requires
     returns-3)

@@ -1,5 +1,5 @@
 -- SEND, ECHO, or the last rules.
-use Rattle.turn.specs.Choosing.{later-cases}
+use Rattle.turn.specs.laws.Choosing.{later-cases}
 use borrow.Author.Needs.{needs}
 use Rattle.turn.proofs.due.later_rules.Statement.{statement}
 use Rattle.turn.proofs.due.later_rules.Tie as tie

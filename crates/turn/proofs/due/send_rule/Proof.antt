@@ -1,5 +1,5 @@
 -- Once.
-use Rattle.turn.specs.Choosing.{send-cases}
+use Rattle.turn.specs.laws.Choosing.{send-cases}
 use borrow.Author.Needs.{needs}
 use Rattle.turn.proofs.due.send_rule.Statement.{statement}
 use Rattle.turn.proofs.due.send_rule.Tie as tie
@@ -10,11 +10,11 @@ send-sent-requires c κs = search needs
 returns : tie.Need-returns
 returns c = search send-cases
 
-word-requires : tie.Need-word-requires
-word-requires c κs = search needs
+own-input-requires : tie.Need-own-input-requires
+own-input-requires c κs = search needs
 
 returns-2 : tie.Need-returns-2
 returns-2 c = search send-cases
 
 pub send-rule-spec : {M : Type 1} → statement M
-send-rule-spec = tie.close (tie.spec send-sent-requires returns word-requires returns-2)
+send-rule-spec = tie.close (tie.spec send-sent-requires returns own-input-requires returns-2)

@@ -16,8 +16,8 @@ use Rattle.wire.specs.declared.Parsed.{Parsed}
 use Rattle.wire.specs.declared.Parsed.the-variants as parsed
 use Rattle.wire_laws.proofs.Converse.{taken-form}
 use Rattle.delivery.specs.Delivery.{placeHeld, judged, answerOf, wordsAfter}
-use Rattle.delivery.specs.Frame.{InLayout}
-use Rattle.delivery.specs.Kept.{in-layout}
+use Rattle.delivery.specs.laws.Frame.{InLayout}
+use Rattle.delivery.specs.laws.Kept.{in-layout}
 use Rattle.delivery.specs.declared.Verdict.{Verdict}
 use Rattle.delivery.specs.declared.Verdict.the-variants as verdicts
 use Rattle.unweighted.specs.Session.{sessionNumber, isState}

@@ -6,13 +6,13 @@ use mathlib.Core.Path.{_≡_, refl}
 use native.Mathlib.Omega.{arith}
 use lib.Dec.{eqb}
 use borrow.Author.Tests.{eqb-true}
-use Rattle.quorum.specs.Bools.{and-left, refusal-passed, not-passed}
+use Rattle.quorum.specs.laws.Bools.{and-left, refusal-passed, not-passed}
 use Rattle.settings.specs.Refusals.{NO-STATE, CLOSED, COIN}
 use Rattle.records.specs.Layout.{nAt, weightsAt, coinAt}
 use Rattle.records.specs.Words.{word, put}
 use Rattle.records.specs.Records.{closed}
 use Rattle.recording.specs.Recording.{bitMark, otherMark, inLayout, unopposed, recordable, withBit}
-use Rattle.recording.specs.Laws.{within}
+use Rattle.recording.specs.laws.Recording.{within}
 use Rattle.unweighted.specs.Session.{isState}
 use Rattle.unweighted.specs.Recording.{recordAnswer, recordedWords}
 use Rattle.unweighted.specs.laws.apart.Records.{word-apart, closed-apart, printed-apart, coin-mark-apart}

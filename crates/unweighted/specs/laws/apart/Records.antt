@@ -11,7 +11,8 @@ use lib.Seq.{drop-set-lt}
 use Rattle.quorum.specs.Every.{every}
 use Rattle.quorum.specs.Marks.{mark}
 use Rattle.records.specs.Layout.{weightsAt, flagsAt, closedMark, sendSentMark, commitSentMark, echoSentAt, readySentAt, decidedZeroAt, decidedOneAt, sendMarksAt, boxedAt, coinAt, zeroMark, roundAt, estSentAt, estSentMark, auxSentAt, sendValueAt, echoMarksAt, readyMarksAt, echoValueAt, readyValueAt, commitCountAt, commitValueAt, voteAt, estMark, auxMark}
-use Rattle.records.specs.Words.{word, put, marked, word-put-other}
+use Rattle.records.specs.Words.{word, put, marked}
+use Rattle.records.specs.laws.Words.{word-put-other}
 use Rattle.records.specs.Records.{closed, sendSent, commitSent, echoSent, readySent, sendHeld, sendValue, echoHeld, echoValue, readyHeld, readyValue, estHeld, auxHeld, coin, printed, coinRecorded, coinKnown, round, estSent, auxSent, decidedZero, decidedOne, decided, commitCount, commitValue, commitSet}
 use Rattle.commits.specs.Commits.{commitHeld, sameSet}
 

@@ -12,7 +12,6 @@ use Rattle.records.specs.Words.{put}
 use Rattle.exits.specs.Exits.{Exit}
 use Rattle.wire.specs.Message.{atFront}
 use Rattle.report.specs.declared.Answer.the-variants as answer
-use Rattle.report.specs.Report as weighted-report
 use Rattle.unweighted.specs.Settings.{Settings, quorum}
 use Rattle.unweighted.specs.Session.{settingsOf, isState}
 use Rattle.unweighted.specs.Exits.{exitNow}
@@ -54,9 +53,9 @@ module _ (s : List ℕ) (x : ℕ) where
   pub report-named-apart : (named : List ℕ) (inForceWords : ℕ) → reportNamed t named inForceWords ≡ reportNamed s named inForceWords
   unfolding reportNamed
   report-named-apart named inForceWords =
-      giving-apart (length named) inForceWords (λ k. named) _ _ (λ e. ap (λ (y : Exit). weighted-report.atFront (y .names) named) (exit-in-apart e))
+      giving-apart (length named) inForceWords (λ k. named) _ _ (λ e. ap (λ (y : Exit). atFront (y .names) named) (exit-in-apart e))
 
   pub report-in-force-apart : (namedWords : ℕ) (inForce : List ℕ) → reportInForce t namedWords inForce ≡ reportInForce s namedWords inForce
   unfolding reportInForce
   report-in-force-apart namedWords inForce =
-      giving-apart namedWords (length inForce) (λ k. inForce) _ _ (λ e. ap (λ (set : List ℕ). weighted-report.atFront set inForce) (in-force-apart e))
+      giving-apart namedWords (length inForce) (λ k. inForce) _ _ (λ e. ap (λ (set : List ℕ). atFront set inForce) (in-force-apart e))

@@ -1,51 +1,39 @@
 -- What is due, and the exit, are the same whatever x stands in the word of the weights. There are at most 16 concentrators.
 use Prim.Native.Nat.{ℕ, _-_, _^_, _≤_, min}
-use mathlib.Core.Bool.{Bool, true, false, _&&_, cond}
+use mathlib.Core.Bool.{Bool, _&&_, cond}
 use mathlib.Core.List.{List}
-use mathlib.Core.Path.{_≡_, refl, sym, ap, ap₂, fun-ext, _∙_}
+use mathlib.Core.Path.{_≡_, refl, sym, ap₂, fun-ext, _∙_}
 use native.Mathlib.Omega.{arith}
 use lib.Dec.{eqb}
-use borrow.Author.Tests.{eqb-false}
-use Rattle.quorum.specs.TotalLaws.{total-agree}
-use Rattle.quorum.specs.Lowest.{lowest, lowest-agree, lowest-le}
-use Rattle.quorum.specs.Whole.{ones-weight}
+use Rattle.quorum.specs.laws.Total.{total-agree}
+use Rattle.quorum.specs.laws.Lowest.{lowest-agree, lowest-le}
+use Rattle.quorum.specs.laws.Whole.{ones-weight}
 use Rattle.settings.specs.Settings.{roundLimit}
 use Rattle.settings.specs.declared.Settings as weighted-settings
 use Rattle.records.specs.Layout.{weightsAt, inputAt}
 use Rattle.records.specs.Words.{put}
 use Rattle.records.specs.Records.{round, decidedZero, decidedOne}
-use Rattle.acts.specs.Acts.{isDue, orAct, actAt, firstAct}
+use Rattle.acts.specs.Acts.{orAct, firstAct}
 use Rattle.acts.specs.declared.Act.{Act}
 use Rattle.acts.specs.declared.Act.the-variants.{Idle}
 use Rattle.broadcasts.specs.Broadcasts.{echoAct}
 use Rattle.broadcasts.specs.Leading.{present}
 use Rattle.broadcasts.specs.declared.Output.{Output}
-use Rattle.votes.specs.Votes.{running, carries}
+use Rattle.votes.specs.Votes.{running}
 use Rattle.exits.specs.Exits.{Exit}
-use Rattle.exits.specs.Laws.{exit-agree}
+use Rattle.exits.specs.laws.Exits.{exit-agree}
 use Rattle.commits.specs.Commits.{setOf}
 use Rattle.turn.specs.Due.{orSet, sendRule}
 use Rattle.unweighted.specs.Settings.{Settings}
 use Rattle.unweighted.specs.Broadcasts.{output, readyDue, readyAct, echoRule, readyRule}
-use Rattle.unweighted.specs.Votes.{estCount, accepted, votesDecidedOne, startAct, relayValue, relayRound, relayAct, auxValue, auxAct, carriers, auxCount, view, moveValue, moveAct, roundAct, voteAct}
+use Rattle.unweighted.specs.Votes.{estCount, accepted, votesDecidedOne, startAct, relayValue, relayRound, relayAct, auxValue, auxAct, carries, carriers, carried, view, moveValue, moveAct, roundAct, voteAct}
 use Rattle.unweighted.specs.Exits.{exitOf, exitNow}
 use Rattle.unweighted.specs.Commits.{setHolders, setLeads, setLeader, leadingSet}
 use Rattle.unweighted.specs.Due.{inForceRule, commitDue, commitRule, votesRule, due}
 use Rattle.unweighted.specs.laws.Counts.{Ones}
 use Rattle.unweighted.specs.laws.Exits.{exit-same}
 use Rattle.unweighted.specs.laws.apart.Records.{word-apart, send-sent-apart, commit-sent-apart, echo-sent-apart, ready-sent-apart, send-held-apart, zero-apart, one-apart, est-held-apart, aux-held-apart, echo-value-apart, ready-value-apart, send-value-apart, echo-held-apart, ready-held-apart, round-apart, est-sent-apart, aux-sent-apart, coin-known-apart, commit-held-apart, commit-set-apart, same-set-apart}
-
--- acts that agree on 1 to n have the same first
-first-agree : (f h : ℕ → Act) (n : ℕ) → ((i : ℕ) → 1 ≤ i → i ≤ n → f i ≡ h i) → firstAct f n ≡ firstAct h n
-unfolding firstAct actAt
-first-agree f h n e = rw (lowest-agree (λ i. isDue (f i)) (λ i. isDue (h i)) n (λ i a b. ap isDue (e i a b))) (at (eqb k 0) refl)
-  where
-    k : ℕ
-    k = lowest (λ i. isDue (h i)) n
-
-    at : (b : Bool) → eqb k 0 ≡ b → cond b Idle (f k) ≡ cond b Idle (h k)
-    at true z = refl
-    at false z = e k (omega (arith, eqb-false k 0 z)) (lowest-le (λ i. isDue (h i)) n)
+use Rattle.acts.specs.laws.First.{first-agree}
 
 -- outputs that agree on 1 to n give the same exit: it is that of settings in which each of 1 to n weighs 1
 module _ (g : Settings) (few : g .n ≤ 16) where
@@ -107,26 +95,26 @@ module _ (g : Settings) (few : g .n ≤ 16) (s : List ℕ) (x : ℕ) where
     unfolding auxAct auxValue
     aux-act-apart = rw (round-apart s x i high, aux-sent-apart s x i high (round s i), accepted-apart (round s i) 0, accepted-apart (round s i) 1)
 
-    carries-apart : (r : ℕ) (a0 a1 : Bool) (p : ℕ) → carries t i r a0 a1 p ≡ carries s i r a0 a1 p
+    carries-apart : (r p : ℕ) → carries g t i r p ≡ carries g s i r p
     unfolding carries
-    carries-apart r a0 a1 p = rw (aux-held-apart s x i r 0, aux-held-apart s x i r 1)
+    carries-apart r p = rw (accepted-apart r 0, accepted-apart r 1, aux-held-apart s x i r 0, aux-held-apart s x i r 1)
 
-    carriers-apart : (r : ℕ) (a0 a1 : Bool) → carriers g t i r a0 a1 ≡ carriers g s i r a0 a1
+    carriers-apart : (r : ℕ) → carriers g t i r ≡ carriers g s i r
     unfolding carriers
-    carriers-apart r a0 a1 = total-agree (λ p. 1) _ _ (g .n) (λ p lo hi. carries-apart r a0 a1 p)
+    carriers-apart r = total-agree (λ p. 1) _ _ (g .n) (λ p lo hi. carries-apart r p)
 
-    view-apart : (r : ℕ) (a0 a1 : Bool) → view g t i r a0 a1 ≡ view g s i r a0 a1
-    unfolding view auxCount
-    view-apart r a0 a1 = rw (aux-held-apart s x i r 0, aux-held-apart s x i r 1)
+    view-apart : (r : ℕ) → view g t i r ≡ view g s i r
+    unfolding view carried
+    view-apart r = rw (accepted-apart r 0, accepted-apart r 1, aux-held-apart s x i r 0, aux-held-apart s x i r 1)
 
-    move-value-apart : (r : ℕ) (a0 a1 : Bool) → moveValue g t i r a0 a1 ≡ moveValue g s i r a0 a1
+    move-value-apart : (r : ℕ) → moveValue g t i r ≡ moveValue g s i r
     unfolding moveValue
-    move-value-apart r a0 a1 = rw (carriers-apart r a0 a1, view-apart r a0 a1)
+    move-value-apart r = rw (carriers-apart r, view-apart r)
 
     move-act-apart : moveAct g t i ≡ moveAct g s i
     unfolding moveAct
     move-act-apart =
-        rw (round-apart s x i high, aux-sent-apart s x i high (round s i), coin-known-apart s x i high (round s i), accepted-apart (round s i) 0, accepted-apart (round s i) 1, move-value-apart (round s i) (accepted g s i (round s i) 0) (accepted g s i (round s i) 1))
+        rw (round-apart s x i high, aux-sent-apart s x i high (round s i), coin-known-apart s x i high (round s i), move-value-apart (round s i))
 
     round-act-apart : roundAct g t i ≡ roundAct g s i
     unfolding roundAct running

@@ -8,19 +8,20 @@ use native.Mathlib.Decide.{decLe}
 use lib.Dec.{eqb, leb, ltb}
 use lib.ListN.{length}
 use borrow.Author.Tests.{le-leb, lt-leb, leb-true, eqb-true}
-use Rattle.quorum.specs.Bools.{and-left, and-right}
-use Rattle.quorum.specs.Every.{every-agree}
+use Rattle.quorum.specs.laws.Bools.{and-left, and-right}
+use Rattle.quorum.specs.laws.Every.{every-agree}
 use Rattle.quorum.specs.Weights.{weightOf}
-use Rattle.quorum.specs.Whole.{ones-weight}
+use Rattle.quorum.specs.laws.Whole.{ones-weight}
 use Rattle.records.specs.Layout.{stateWords, nAt, taAt, tsAt, ownAt, sessionAt, turnsAt, weightsAt, boxedAt, roundAt, commitCountAt}
-use Rattle.records.specs.Words.{word, put, length-put, word-put-same}
+use Rattle.records.specs.Words.{word, put}
+use Rattle.records.specs.laws.Words.{length-put, word-put-same}
 use Rattle.session.specs.Session.{roundsRight, commitsRight}
 use Rattle.session.specs.Session as weighted-session
-use Rattle.session.specs.Laws.{is-state}
+use Rattle.session.specs.laws.Session.{is-state}
 use Rattle.acts.specs.declared.Act.{Act}
 use Rattle.turn.specs.Due as weighted-due
-use Rattle.turn.specs.DueLaws.{due-told}
-use Rattle.turn.specs.Frame.{Placed, told-placed}
+use Rattle.turn.specs.laws.Due.{due-told}
+use Rattle.turn.specs.laws.Frame.{Placed, told-placed}
 use Rattle.unweighted.specs.Settings.{Settings, validSettings}
 use Rattle.unweighted.specs.Session.{settingsOf, sessionNumber, numbersRight, isState}
 use Rattle.unweighted.specs.Due.{due}

@@ -11,7 +11,7 @@ use Rattle.settings.specs.Settings.{roundLimit}
 use Rattle.records.specs.Layout.{weightsAt, turnsAt, flagsAt, closedMark, sendSentMark, commitSentMark, echoSentAt, readySentAt, decidedZeroAt, decidedOneAt, roundAt, estSentAt, estSentMark, auxSentAt, sendMarksAt, sendValueAt, echoMarksAt, echoValueAt, readyMarksAt, readyValueAt, voteAt, estMark, auxMark, commitCountAt, commitRowAt}
 use Rattle.records.specs.Words.{put, setMark}
 use Rattle.records.specs.Records.{coin, decided}
-use Rattle.records.specs.Fill.{storeOf}
+use Rattle.records.specs.Words.{storeOf}
 use Rattle.acts.specs.Acts.{isDue}
 use Rattle.acts.specs.declared.Act.{Act}
 use Rattle.acts.specs.declared.Act.the-variants.{Idle, InForce, Commit, Send, Echo, Ready, Start, Relay, Aux, Move}
@@ -21,9 +21,10 @@ use Rattle.wire.specs.Bytes.{valueAt}
 use Rattle.wire.specs.declared.Message.{Message}
 use Rattle.wire.specs.declared.Message.the-variants as message
 use Rattle.delivery.specs.Delivery.{recorded}
-use Rattle.delivery.specs.Frame.{InLayout}
-use Rattle.turn.specs.Turn.{counted, entered, decidedAs, newDecision, moveDecided, moved, marked, applied}
-use Rattle.turn.specs.Frame.{Placed}
+use Rattle.delivery.specs.laws.Frame.{InLayout}
+use Rattle.records.specs.Writing.{withDecision}
+use Rattle.turn.specs.Turn.{withTurnCounted, entered, newDecision, moveDecided, moved, done, applied}
+use Rattle.turn.specs.laws.Frame.{Placed}
 use Rattle.unweighted.specs.laws.Opening.{put-swap, store-put}
 use Rattle.unweighted.specs.laws.apart.Records.{word-apart, coin-apart, decided-apart}
 
@@ -52,8 +53,8 @@ module _ (x : ℕ) where
       ∙ put-apart (storeOf (valueAt v) (commitRowAt p) s k) (commitCountAt p) k (λ e. omega arith)
 
   -- ---- an act of one of the votes 1 to 16
-  counted-apart : (s : List ℕ) → counted (put s weightsAt x) ≡ put (counted s) weightsAt x
-  unfolding counted
+  counted-apart : (s : List ℕ) → withTurnCounted (put s weightsAt x) ≡ put (withTurnCounted s) weightsAt x
+  unfolding withTurnCounted
   counted-apart s = ap (λ (w : ℕ). put (put s weightsAt x) turnsAt (w + 1)) (word-apart s x turnsAt (λ e. omega arith)) ∙ put-apart s turnsAt _ (λ e. omega arith)
 
   entered-apart : (s : List ℕ) (i r b : ℕ) → i ≤ 16 → entered (put s weightsAt x) i r b ≡ put (entered s i r b) weightsAt x
@@ -64,9 +65,8 @@ module _ (x : ℕ) where
       go true = put-apart s (roundAt i) r (λ e. omega arith)
       go false = both-apart s (roundAt i) r (estSentAt i) (estSentMark r b) (λ e. omega arith) (λ e. omega arith)
 
-  decided-as-apart : (s : List ℕ) (i b : ℕ) → decidedAs (put s weightsAt x) i b ≡ put (decidedAs s i b) weightsAt x
-  unfolding decidedAs
-  decided-as-apart s i b = go (eqb b 0)
+  with-decision-apart : (s : List ℕ) (i b : ℕ) → withDecision (put s weightsAt x) i b ≡ put (withDecision s i b) weightsAt x
+  with-decision-apart s i b = go (eqb b 0)
     where
       go : (c : Bool) → setMark (put s weightsAt x) (cond c decidedZeroAt decidedOneAt) i ≡ put (setMark s (cond c decidedZeroAt decidedOneAt) i) weightsAt x
       go true = mark-apart s decidedZeroAt i (λ e. omega arith)
@@ -76,8 +76,8 @@ module _ (x : ℕ) where
   unfolding moveDecided newDecision
   decision-apart s i r v high = rw (decided-apart s x i, coin-apart s x i high r) (go (not (decided s i) && decides (coin s i r) v))
     where
-      go : (c : Bool) → cond c (decidedAs (put s weightsAt x) i (estimate (coin s i r) v)) (put s weightsAt x) ≡ put (cond c (decidedAs s i (estimate (coin s i r) v)) s) weightsAt x
-      go true = decided-as-apart s i (estimate (coin s i r) v)
+      go : (c : Bool) → cond c (withDecision (put s weightsAt x) i (estimate (coin s i r) v)) (put s weightsAt x) ≡ put (cond c (withDecision s i (estimate (coin s i r) v)) s) weightsAt x
+      go true = with-decision-apart s i (estimate (coin s i r) v)
       go false = refl
 
   moved-apart : (s : List ℕ) (i r : ℕ) (v : View) → i ≤ 16 → moved (put s weightsAt x) i r v ≡ put (moved s i r v) weightsAt x
@@ -86,23 +86,23 @@ module _ (x : ℕ) where
       rw (decision-apart s i r v high, coin-apart s x i high r)
       (entered-apart (moveDecided s i r v) i (r + 1) (estimate (coin s i r) v) high)
 
-  marked-apart : (s : List ℕ) (a : Act) → Placed a → marked (put s weightsAt x) a ≡ put (marked s a) weightsAt x
-  unfolding marked
-  marked-apart s Idle h = refl
-  marked-apart s InForce h = mark-apart s flagsAt closedMark (λ e. omega arith)
-  marked-apart s (Commit k) h = mark-apart s flagsAt commitSentMark (λ e. omega arith)
-  marked-apart s (Send v) h = mark-apart s flagsAt sendSentMark (λ e. omega arith)
-  marked-apart s (Echo i v) h = mark-apart s echoSentAt i (λ e. omega arith)
-  marked-apart s (Ready i v) h = mark-apart s readySentAt i (λ e. omega arith)
-  marked-apart s (Start i b) h = entered-apart s i 1 b (h .1)
-  marked-apart s (Relay i r b) h = mark-apart s (estSentAt i) (estSentMark r b) (λ e. omega arith)
-  marked-apart s (Aux i r b) h = mark-apart s (auxSentAt i) r (λ e. omega arith)
-  marked-apart s (Move i r v) h = moved-apart s i r v (h .1)
+  done-apart : (s : List ℕ) (a : Act) → Placed a → done (put s weightsAt x) a ≡ put (done s a) weightsAt x
+  unfolding done
+  done-apart s Idle h = refl
+  done-apart s InForce h = mark-apart s flagsAt closedMark (λ e. omega arith)
+  done-apart s (Commit k) h = mark-apart s flagsAt commitSentMark (λ e. omega arith)
+  done-apart s (Send v) h = mark-apart s flagsAt sendSentMark (λ e. omega arith)
+  done-apart s (Echo i v) h = mark-apart s echoSentAt i (λ e. omega arith)
+  done-apart s (Ready i v) h = mark-apart s readySentAt i (λ e. omega arith)
+  done-apart s (Start i b) h = entered-apart s i 1 b (h .1)
+  done-apart s (Relay i r b) h = mark-apart s (estSentAt i) (estSentMark r b) (λ e. omega arith)
+  done-apart s (Aux i r b) h = mark-apart s (auxSentAt i) r (λ e. omega arith)
+  done-apart s (Move i r v) h = moved-apart s i r v (h .1)
 
   pub applied-apart : (s : List ℕ) (a : Act) → Placed a → applied (put s weightsAt x) a ≡ put (applied s a) weightsAt x
   unfolding applied
   applied-apart s a h = go (isDue a)
     where
-      go : (b : Bool) → cond b (marked (counted (put s weightsAt x)) a) (put s weightsAt x) ≡ put (cond b (marked (counted s) a) s) weightsAt x
-      go true = ap (λ (u : List ℕ). marked u a) (counted-apart s) ∙ marked-apart (counted s) a h
+      go : (b : Bool) → cond b (done (withTurnCounted (put s weightsAt x)) a) (put s weightsAt x) ≡ put (cond b (done (withTurnCounted s) a) s) weightsAt x
+      go true = ap (λ (u : List ℕ). done u a) (counted-apart s) ∙ done-apart (withTurnCounted s) a h
       go false = refl

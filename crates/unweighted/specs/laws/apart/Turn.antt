@@ -13,7 +13,7 @@ use Rattle.records.specs.Records.{closed}
 use Rattle.acts.specs.declared.Act.{Act}
 use Rattle.acts.specs.declared.Act.the-variants as act
 use Rattle.turn.specs.Turn.{moveOutcome, outcomeOf, applied}
-use Rattle.turn.specs.Frame.{Placed}
+use Rattle.turn.specs.laws.Frame.{Placed}
 use Rattle.turn.specs.declared.Outcome.{Outcome}
 use Rattle.turn.specs.declared.Outcome.the-variants as outcome
 use Rattle.unweighted.specs.Settings.{Settings}

@@ -1,19 +1,9 @@
 -- `put4` leaves the four bytes, written in two halves, and then what was there.
-use Prim.Native.Nat.{ℕ, _≤_, _-_, _/_}
-use mathlib.Core.Path.{_≡_, refl}
-use mathlib.Core.List.{List, _++_}
-use lib.ListN.{length, take, drop}
-use borrow.Rule.Slice.PartMut.{putMid}
 use Rattle.wire.specs.Bytes.{bytes2, bytes4}
 use Rattle.wire.proofs.Laws.{patch}
 use borrow.Author.Needs.{needs}
 use Rattle.wire.proofs.bytes.put4.Statement.{statement}
 use Rattle.wire.proofs.bytes.put4.Tie as tie
-
-halves : (x : ℕ) (o xs ys : List ℕ) → 4 ≤ length o → xs ≡ bytes2 (x / 65536) ++ drop 2 o → ys ≡ bytes2 x ++ drop 2 (take (length xs - 2) (drop 2 xs)) →
-    putMid 2 (length xs - 2) xs ys ≡ bytes4 x ++ drop 4 o
-unfolding bytes2 bytes4
-halves x o xs ys h p q = patch (bytes2 (x / 65536)) (bytes2 x) o xs ys 2 2 refl refl h p q
 
 put2-requires : tie.Need-put2-requires
 put2-requires c κs = search needs
@@ -34,7 +24,8 @@ same-length : tie.Need-same-length
 same-length c = search needs
 
 returns : tie.Need-returns
-returns c = search halves
+unfolding bytes2 bytes4
+returns c = search patch
 
 pub put4-spec : {M : Type 1} → statement M
 put4-spec =

@@ -23,9 +23,8 @@ module _ (xs o : List ℕ) (room : 8 * length xs ≤ length o) where
       (f : ys ≡ bytes8 (getD xs k 0) ++ drop 8 (take (length out - 8 * k) (drop (8 * k) out))) where
     turn : putMid (8 * k) (length out - 8 * k) out ys ≡ valueBytes (take (k + 1) xs) ++ drop (8 * (k + 1)) o
     turn =
-        let n : 8 * (k + 1) ≡ 8 * k + 8 = omega arith in
-        patch (valueBytes (take k xs)) (bytes8 (getD xs k 0)) o out ys (8 * k) 8 (front k (omega arith)) (length-bytes8 _) (omega arith) e f
-        ∙ rw (n, valueBytes-more xs k h)
+        patch (valueBytes (take k xs)) (bytes8 (getD xs k 0)) (valueBytes (take (k + 1) xs)) o out ys (8 * k) 8 (8 * (k + 1))
+        (omega arith) e f (valueBytes-more xs k h) (front k (omega arith)) (length-bytes8 _) (omega arith)
 
     kept : length (putMid (8 * k) (length out - 8 * k) out ys) ≡ length o
     kept = long _ (k + 1) (omega arith) turn

@@ -13,7 +13,7 @@ use Rattle.wire.specs.declared.Parsed.{Parsed}
 use Rattle.wire.specs.declared.Parsed.the-variants.{Refused}
 use Rattle.settings.specs.Refusals.{LENGTH}
 use Rattle.wire.specs.Reading.{lengthRight, headerOf, readChecked, readMessage}
-use Rattle.quorum.specs.Bools.{and-left}
+use Rattle.quorum.specs.laws.Bools.{and-left}
 use borrow.Author.Needs.{needs}
 use Rattle.wire.proofs.reading.read_message.Statement.{statement}
 use Rattle.wire.proofs.reading.read_message.Tie as tie

@@ -1,12 +1,13 @@
 -- `write_values` leaves the header, the values after it and then what was there, or all as it was.
 use Prim.Native.Nat.{ℕ, _≤_, _+_, _*_, _-_}
-use mathlib.Core.Path.{_≡_}
+use mathlib.Core.Path.{_≡_, refl}
 use mathlib.Core.List.{List, _++_}
 use lib.ListN.{length, take, drop}
 use borrow.Rule.Slice.PartMut.{putMid}
 use Rattle.wire.specs.declared.Header.{Header}
 use Rattle.wire.specs.Bytes.{valueBytes}
-use Rattle.wire.specs.Message.{headerBytes, messageBytes, fitting, Wrote}
+use Rattle.wire.specs.Message.{headerBytes, messageBytes}
+use Rattle.wire.specs.laws.Message.{fitting, Wrote}
 use Rattle.wire.proofs.Laws.{patch, length-header, length-valueBytes, wrote-short, wrote-fitting}
 use borrow.Author.Needs.{needs}
 use Rattle.wire.proofs.writing.write_values.Statement.{statement}
@@ -18,7 +19,7 @@ module _ (h : Header) (xs o : List ℕ) where
       Wrote (fitting (messageBytes h xs) o) o (12 + 8 * length xs) (putMid 12 (length out - 12) out ys)
   unfolding messageBytes
   parts out ys l p q =
-      wrote-fitting h xs o _ l (patch (headerBytes h) (valueBytes xs) o out ys 12 (8 * length xs) (length-header h) (length-valueBytes xs) l p q)
+      wrote-fitting h xs o _ l (patch (headerBytes h) (valueBytes xs) (messageBytes h xs) o out ys 12 (8 * length xs) _ l p q refl (length-header h) (length-valueBytes xs) refl)
 
 mul-end : tie.Need-mul-end
 mul-end c = search needs

@@ -1,0 +1,6 @@
+pub mod Parts
+pub mod Keeping
+pub mod ReadBack
+pub mod Places
+pub mod SettingsKept
+pub mod laws

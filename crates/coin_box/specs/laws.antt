@@ -1,0 +1,4 @@
+pub mod Box
+pub mod Opened
+pub mod Secrecy
+pub mod Cases

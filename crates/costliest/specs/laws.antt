@@ -1,0 +1,9 @@
+pub mod Packs
+pub mod One
+pub mod Saying
+pub mod Hearing
+pub mod Idle
+pub mod Acting
+pub mod Costliest
+pub mod Five
+pub mod Sent

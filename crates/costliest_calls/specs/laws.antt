@@ -1,0 +1,5 @@
+pub mod Sections
+pub mod Adding
+pub mod Numbering
+pub mod Places
+pub mod Cases

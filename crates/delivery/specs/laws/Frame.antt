@@ -1,0 +1,142 @@
+-- What recording a message leaves: nothing is held after it that was not, but that message.
+use Prim.Native.Nat.{ℕ, _+_, _≤_, _<_}
+use mathlib.Core.Bool.{true}
+use mathlib.Core.List.{List}
+use mathlib.Core.Logic.{_⊎_, inl, inr, _≢_}
+use mathlib.Core.Path.{_≡_, sym, ap, _∙_}
+use native.Mathlib.Omega.{arith}
+use native.Mathlib.Decide.{ℕ-discrete}
+use lib.ListN.{length}
+use Rattle.quorum.specs.Marks.{mark}
+use Rattle.quorum.specs.laws.Marks.{mark-came}
+use Rattle.records.specs.Layout.{sendMarksAt, sendValueAt, echoMarksAt, echoValueAt, readyMarksAt, readyValueAt, voteAt, estMark, auxMark, commitCountAt, commitRowAt}
+use Rattle.records.specs.Words.{word, put, marked, setMark}
+use Rattle.records.specs.laws.Words.{length-put, length-setMark, word-put-other, word-setMark-same, word-setMark-other}
+use Rattle.records.specs.Words.{storeOf}
+use Rattle.records.specs.laws.Fill.{length-storeOf, store-other}
+use Rattle.wire.specs.Bytes.{valueAt}
+use Rattle.wire.specs.declared.Message.{Message}
+use Rattle.wire.specs.declared.Message.the-variants.{Send, Echo, Ready, Est, Aux, Commit}
+use Rattle.delivery.specs.Delivery.{recorded}
+
+-- a message of sender p within the layout; "In SEND the instance equals the sender."
+abbrev pub InLayout : ℕ → Message → Type 0
+InLayout p (Send i x) = (1 ≤ p) × (p ≤ 16) × (i ≡ p)
+InLayout p (Echo i x) = (1 ≤ p) × (p ≤ 16) × (1 ≤ i) × (i ≤ 16)
+InLayout p (Ready i x) = (1 ≤ p) × (p ≤ 16) × (1 ≤ i) × (i ≤ 16)
+InLayout p (Est i r b) = (1 ≤ p) × (p ≤ 16) × (1 ≤ i) × (i ≤ 16) × (1 ≤ r) × (r ≤ 32) × (b ≤ 1)
+InLayout p (Aux i r b) = (1 ≤ p) × (p ≤ 16) × (1 ≤ i) × (i ≤ 16) × (1 ≤ r) × (r ≤ 32) × (b ≤ 1)
+InLayout p (Commit k) = (1 ≤ p) × (p ≤ 16) × (k ≤ 16)
+
+-- a word of the marks of messages that are held
+abbrev pub MarkWord : ℕ → Type 0
+MarkWord a = ((88 ≤ a) × (a ≤ 119)) ⊎ ((a ≡ 140) ⊎ ((1024 ≤ a) × (a ≤ 1535)))
+
+-- the mark that recording a message of sender p sets; a COMMIT has none
+abbrev pub markWordOf : ℕ → Message → ℕ
+markWordOf p (Send i x) = sendMarksAt
+markWordOf p (Echo i x) = echoMarksAt i
+markWordOf p (Ready i x) = readyMarksAt i
+markWordOf p (Est i r b) = voteAt i r
+markWordOf p (Aux i r b) = voteAt i r
+markWordOf p (Commit k) = 0
+
+abbrev pub markOf : ℕ → Message → ℕ
+markOf p (Send i x) = i
+markOf p (Echo i x) = p
+markOf p (Ready i x) = p
+markOf p (Est i r b) = estMark b p
+markOf p (Aux i r b) = auxMark b p
+markOf p (Commit k) = 0
+
+-- a word of values or of the count of a COMMIT, which is no word of marks
+abbrev pub ValueWord : ℕ → Type 0
+ValueWord a = ((72 ≤ a) × (a ≤ 87)) ⊎ (((120 ≤ a) × (a ≤ 135)) ⊎ ((256 ≤ a) × (a ≤ 1023)))
+
+pub no-marks : (a k : ℕ) → ValueWord a → MarkWord k → k ≢ a
+no-marks a k (inl x) (inl y) e = omega arith
+no-marks a k (inl x) (inr (inl y)) e = omega arith
+no-marks a k (inl x) (inr (inr y)) e = omega arith
+no-marks a k (inr (inl x)) (inl y) e = omega arith
+no-marks a k (inr (inl x)) (inr (inl y)) e = omega arith
+no-marks a k (inr (inl x)) (inr (inr y)) e = omega arith
+no-marks a k (inr (inr x)) (inl y) e = omega arith
+no-marks a k (inr (inr x)) (inr (inl y)) e = omega arith
+no-marks a k (inr (inr x)) (inr (inr y)) e = omega arith
+
+-- a mark that is set after one was set was set before, or is that one
+mark-set : (s : List ℕ) (w q a j : ℕ) → w < length s → marked (setMark s w q) a j ≡ true → (marked s a j ≡ true) ⊎ ((a ≡ w) × (j ≡ q))
+unfolding marked
+mark-set s w q a j l e = go (ℕ-discrete a w)
+  where
+    go : Dec (a ≡ w) → (mark (word s a) j ≡ true) ⊎ ((a ≡ w) × (j ≡ q))
+    go (no ne) = inl (ap (λ (x : ℕ). mark x j) (sym (word-setMark-other s w q a ne)) ∙ e)
+    go (yes y) = came (mark-came (word s w) q j (ap (λ (x : ℕ). mark x j) (sym (word-setMark-same s w q l)) ∙ ap (λ (x : ℕ). mark (word (setMark s w q) x) j) (sym y) ∙ e))
+      where
+        came : (mark (word s w) j ≡ true) ⊎ (j ≡ q) → (mark (word s a) j ≡ true) ⊎ ((a ≡ w) × (j ≡ q))
+        came (inl x) = inl (rw y x)
+        came (inr x) = inr (y, x)
+
+-- a store at a word that is not one of marks
+pub mark-put : (s : List ℕ) (k v a j : ℕ) → a ≢ k → marked (put s k v) a j ≡ marked s a j
+unfolding marked
+mark-put s k v a j ne = ap (λ (x : ℕ). mark x j) (word-put-other s k v a ne)
+
+value-then-mark : (s : List ℕ) (k v w q a j : ℕ) → w < length s → a ≢ k → marked (setMark (put s k v) w q) a j ≡ true → (marked s a j ≡ true) ⊎ ((a ≡ w) × (j ≡ q))
+value-then-mark s k v w q a j l ne e = of (mark-set (put s k v) w q a j (rw length-put l) e)
+  where
+    of : (marked (put s k v) a j ≡ true) ⊎ ((a ≡ w) × (j ≡ q)) → (marked s a j ≡ true) ⊎ ((a ≡ w) × (j ≡ q))
+    of (inl x) = inl (sym (mark-put s k v a j ne) ∙ x)
+    of (inr x) = inr x
+
+-- no new mark but that of the message
+pub mark-recorded : (s v : List ℕ) (p : ℕ) (m : Message) (a j : ℕ) → length s ≡ 2048 → InLayout p m → MarkWord a → marked (recorded s p m v) a j ≡ true → (marked s a j ≡ true) ⊎ ((a ≡ markWordOf p m) × (j ≡ markOf p m))
+unfolding recorded marked
+mark-recorded s v p (Send i x) a j l h t e =
+    value-then-mark s (sendValueAt i) x sendMarksAt i a j (omega arith) (no-marks (sendValueAt i) a (inl (omega arith, omega arith)) t) e
+mark-recorded s v p (Echo i x) a j l h t e =
+    value-then-mark s (echoValueAt i p) x (echoMarksAt i) p a j (omega arith) (no-marks (echoValueAt i p) a (inr (inr (omega arith, omega arith))) t) e
+mark-recorded s v p (Ready i x) a j l h t e =
+    value-then-mark s (readyValueAt i p) x (readyMarksAt i) p a j (omega arith) (no-marks (readyValueAt i p) a (inr (inr (omega arith, omega arith))) t) e
+mark-recorded s v p (Est i r b) a j l h t e = mark-set s (voteAt i r) (estMark b p) a j (omega arith) e
+mark-recorded s v p (Aux i r b) a j l h t e = mark-set s (voteAt i r) (auxMark b p) a j (omega arith) e
+mark-recorded s v p (Commit k) a j l h t e = inl (kept ∙ e)
+  where
+    count : a ≢ commitCountAt p
+    count = no-marks (commitCountAt p) a (inr (inl (omega arith, omega arith))) t
+
+    value : (c : ℕ) → 1 ≤ c → c ≤ k → a ≢ commitRowAt p + c
+    value c lo hi = no-marks (commitRowAt p + c) a (inr (inr (omega arith, omega arith))) t
+
+    kept : marked s a j ≡ marked (put (storeOf (valueAt v) (commitRowAt p) s k) (commitCountAt p) k) a j
+    kept = ap (λ (x : ℕ). mark x j) (sym (word-put-other _ (commitCountAt p) k a count ∙ store-other (valueAt v) (commitRowAt p) s k a value))
+
+-- the words that recording a message of sender p may change
+abbrev pub Changed : ℕ → Message → ℕ → Type 0
+Changed p (Send i x) a = (a ≡ sendValueAt i) ⊎ (a ≡ sendMarksAt)
+Changed p (Echo i x) a = (a ≡ echoValueAt i p) ⊎ (a ≡ echoMarksAt i)
+Changed p (Ready i x) a = (a ≡ readyValueAt i p) ⊎ (a ≡ readyMarksAt i)
+Changed p (Est i r b) a = a ≡ voteAt i r
+Changed p (Aux i r b) a = a ≡ voteAt i r
+Changed p (Commit k) a = (a ≡ commitCountAt p) ⊎ ((commitRowAt p < a) × (a ≤ commitRowAt p + k))
+
+-- every other word stays
+pub word-recorded : (s v : List ℕ) (p : ℕ) (m : Message) (a : ℕ) → (Changed p m a → ⊥) → word (recorded s p m v) a ≡ word s a
+unfolding recorded
+word-recorded s v p (Send i x) a h = word-setMark-other _ sendMarksAt i a (λ z. h (inr z)) ∙ word-put-other s (sendValueAt i) x a (λ z. h (inl z))
+word-recorded s v p (Echo i x) a h = word-setMark-other _ (echoMarksAt i) p a (λ z. h (inr z)) ∙ word-put-other s (echoValueAt i p) x a (λ z. h (inl z))
+word-recorded s v p (Ready i x) a h = word-setMark-other _ (readyMarksAt i) p a (λ z. h (inr z)) ∙ word-put-other s (readyValueAt i p) x a (λ z. h (inl z))
+word-recorded s v p (Est i r b) a h = word-setMark-other s (voteAt i r) (estMark b p) a h
+word-recorded s v p (Aux i r b) a h = word-setMark-other s (voteAt i r) (auxMark b p) a h
+word-recorded s v p (Commit k) a h =
+    word-put-other _ (commitCountAt p) k a (λ z. h (inl z))
+    ∙ store-other (valueAt v) (commitRowAt p) s k a (λ j lo hi z. h (inr (omega arith, omega arith)))
+
+pub length-recorded : (s v : List ℕ) (p : ℕ) (m : Message) → length (recorded s p m v) ≡ length s
+unfolding recorded
+length-recorded s v p (Send i x) = simp (length-setMark, length-put)
+length-recorded s v p (Echo i x) = simp (length-setMark, length-put)
+length-recorded s v p (Ready i x) = simp (length-setMark, length-put)
+length-recorded s v p (Est i r b) = length-setMark s (voteAt i r) (estMark b p)
+length-recorded s v p (Aux i r b) = length-setMark s (voteAt i r) (auxMark b p)
+length-recorded s v p (Commit k) = length-put _ (commitCountAt p) k ∙ length-storeOf (valueAt v) (commitRowAt p) s k

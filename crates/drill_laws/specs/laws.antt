@@ -1,0 +1,10 @@
+pub mod States
+pub mod Sound
+pub mod Turns
+pub mod Runs
+pub mod Whole
+pub mod Inside
+pub mod Stored
+pub mod Demands
+pub mod ByLines
+pub mod OutputLength

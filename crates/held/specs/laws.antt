@@ -1,0 +1,5 @@
+pub mod Held
+pub mod Columns
+pub mod Recording
+pub mod Keeping
+pub mod Staying

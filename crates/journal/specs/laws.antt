@@ -1,0 +1,4 @@
+pub mod Journal
+pub mod Parts
+pub mod Fitting
+pub mod Cases

@@ -1,0 +1,12 @@
+pub mod Bools
+pub mod Marks
+pub mod Total
+pub mod Lowest
+pub mod Every
+pub mod MarkMasks
+pub mod Ones
+pub mod Weights
+pub mod Whole
+pub mod Packed
+pub mod RightMasks
+pub mod Marking

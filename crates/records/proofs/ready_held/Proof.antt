@@ -1,0 +1,18 @@
+-- The record's own mark or word.
+use Rattle.records.specs.Records.{readyHeld}
+use borrow.Author.Needs.{needs}
+use Rattle.records.proofs.ready_held.Statement.{statement}
+use Rattle.records.proofs.ready_held.Tie as tie
+
+add-marked : tie.Need-add-marked
+add-marked c = search needs
+
+marked-requires : tie.Need-marked-requires
+marked-requires c κs = search needs
+
+returns : tie.Need-returns
+unfolding readyHeld
+returns c = cc
+
+pub ready-held-spec : {M : Type 1} → statement M
+ready-held-spec = tie.close (tie.spec add-marked marked-requires returns)

@@ -1,0 +1,40 @@
+-- Words of marks that the code reads whole, and the groups of marks in a round's word.
+use Prim.Native.Nat.{ℕ, _+_, _*_}
+use mathlib.Core.Bool.{Bool, _||_}
+use mathlib.Core.List.{List}
+use mathlib.Core.Path.{_≡_, ap, _∙_}
+use Rattle.quorum.specs.Marks.{mark}
+use Rattle.quorum.specs.Weights.{weigh}
+use Rattle.records.specs.Layout.{decidedZeroAt, decidedOneAt, voteAt}
+use Rattle.records.specs.Words.{word, marked}
+use Rattle.records.specs.Records.{estHeld, auxHeld}
+
+-- the votes decided 0, and those decided 1: mark i for vote i
+abbrev pub decidedZeroMarks : List ℕ → ℕ
+decidedZeroMarks s = word s decidedZeroAt
+
+abbrev pub decidedOneMarks : List ℕ → ℕ
+decidedOneMarks s = word s decidedOneAt
+
+-- the ESTs and AUXs held in round r of vote i
+abbrev pub voteMarks : List ℕ → ℕ → ℕ → ℕ
+voteMarks s i r = word s (voteAt i r)
+
+module _ (s : List ℕ) (i r w : ℕ) (e : w ≡ voteMarks s i r) where
+  pub est-mark : (b p : ℕ) (c : Bool) → c ≡ mark w (16 * b + p) → c ≡ estHeld s i r b p
+  unfolding estHeld marked
+  est-mark b p c f = cc
+
+  pub aux-mark : (p : ℕ) (a b : Bool) → a ≡ mark w (32 + p) → b ≡ mark w (48 + p) → (a || b) ≡ (auxHeld s i r 0 p || auxHeld s i r 1 p)
+  unfolding auxHeld marked
+  aux-mark p a b f g = rw (f, g, e)
+
+  pub est-weighed : (b n c ws : ℕ) → c ≡ weigh ws (λ p. mark w (16 * b + p)) n → c ≡ weigh ws (estHeld s i r b) n
+  unfolding estHeld marked
+  est-weighed b n c ws h = h ∙ ap (λ (x : ℕ). weigh ws (λ p. mark x (16 * b + p)) n) e
+
+  pub aux-weighed : (b n c ws : ℕ) → c ≡ weigh ws (λ p. mark w (32 + 16 * b + p)) n → c ≡ weigh ws (auxHeld s i r b) n
+  unfolding auxHeld marked
+  aux-weighed b n c ws h = h ∙ ap (λ (x : ℕ). weigh ws (λ p. mark x (32 + 16 * b + p)) n) e
+
+pub ruleset groups = (est-mark, aux-mark, est-weighed, aux-weighed)

@@ -1,0 +1,83 @@
+-- The cases of the code.
+use Prim.Native.Nat.{ℕ, _+_, _≤_, _<_}
+use mathlib.Core.Bool.{Bool, true, false, _&&_, not}
+use mathlib.Core.List.{List}
+use mathlib.Core.Path.{_≡_, sym, _∙_}
+use native.Mathlib.Omega.{arith}
+use lib.ListN.{length}
+use lib.Dec.{leb}
+use borrow.Author.Tests.{eq-eqb, ne-eqb, lt-leb, le-leb, not-true, not-false, leb-true}
+use Rattle.quorum.specs.laws.Bools.{and-left, and-right}
+use Rattle.settings.specs.laws.Settings.{checkSettings}
+use Rattle.settings.specs.Settings.{turnBound}
+use Rattle.settings.specs.laws.Rules.{Taken, check-taken, check-refused}
+use Rattle.settings.specs.declared.Settings.{Settings}
+use Rattle.settings.specs.declared.Checked.{Checked}
+use Rattle.settings.specs.declared.Checked.the-variants.{Valid, Invalid}
+use Rattle.quorum.specs.Every.{every}
+use Rattle.records.specs.Layout.{nAt, taAt, tsAt, ownAt, weightsAt, boxedAt, turnsAt}
+use Rattle.records.specs.Words.{word}
+use Rattle.session.specs.Session.{numbered, roundsRight, commitsRight, numbersRight, settingsOf, isState, sessionWith, sessionOf, stored}
+use Rattle.session.specs.laws.Session.{storedWith}
+use Rattle.session.specs.declared.Session.{Session}
+use Rattle.session.specs.declared.Stored.{Stored}
+use Rattle.session.specs.declared.Stored.the-variants.{NoState, Held}
+
+module _ (g : Settings) (s : List ℕ) (own : ℕ) (eo : own ≡ word s ownAt) (b : Bool) (eb : b ≡ numbered (g .n) own) where
+  pub own-wrong : not b ≡ true → false ≡ numbersRight g s
+  unfolding numbersRight
+  own-wrong t = rw (← eo, ← eb, not-true b t)
+
+  module _ (tb : not b ≡ false) (x : ℕ) (ex : x ≡ word s boxedAt) where
+    pub boxed-wrong : 1 < x → false ≡ numbersRight g s
+    unfolding numbersRight
+    boxed-wrong l = rw (← eo, ← eb, not-false b tb, ← ex, lt-leb x 1 l)
+
+    module _ (lx : x ≤ 1) (k turns : ℕ) (ek : k ≡ turnBound g) (et : turns ≡ word s turnsAt) where
+      pub turns-wrong : k < turns → false ≡ numbersRight g s
+      unfolding numbersRight
+      turns-wrong l = rw (← eo, ← eb, not-false b tb, ← ex, le-leb x 1 lx, ← ek, ← et, lt-leb turns k l)
+
+      module _ (lt : turns ≤ k) (r : Bool) (er : r ≡ every (λ i. leb (word s (23 + i)) 33) (g .n)) where
+        pub rounds-wrong : not r ≡ true → false ≡ numbersRight g s
+        unfolding numbersRight roundsRight
+        rounds-wrong t = rw (← eo, ← eb, not-false b tb, ← ex, le-leb x 1 lx, ← ek, ← et, le-leb turns k lt, ← er, not-true r t)
+
+        pub commits-asked : (c : Bool) → not r ≡ false → c ≡ every (λ p. leb (word s (119 + p)) (g .n)) (g .n) → c ≡ numbersRight g s
+        unfolding numbersRight roundsRight commitsRight
+        commits-asked c t ec = rw (← eo, ← eb, not-false b tb, ← ex, le-leb x 1 lx, ← ek, ← et, le-leb turns k lt, ← er, not-false r t) ec
+
+pub ruleset number-cases = (own-wrong, boxed-wrong, turns-wrong, rounds-wrong, commits-asked)
+
+pub own-small : (g : Settings) (s : List ℕ) (b : Bool) → b ≡ numbersRight g s → b ≡ true → g .n < 256 → word s ownAt < 256
+unfolding numbersRight numbered
+own-small g s b e t h =
+    let all : numbersRight g s ≡ true = sym e ∙ t in
+    let o : leb 1 (word s ownAt) && leb (word s ownAt) (g .n) ≡ true = and-left _ _ (and-left _ _ (and-left _ _ (and-left _ _ all))) in
+    let l : word s ownAt ≤ g .n = leb-true (word s ownAt) (g .n) (and-right (leb 1 (word s ownAt)) _ o) in
+    omega arith
+
+pub with-held : (g : Settings) (s : List ℕ) (b : Bool) (x : Session) → b ≡ numbersRight g s → b ≡ true → x ≡ sessionWith g s → Held x ≡ storedWith g s
+unfolding storedWith
+with-held g s b x e t f = rw (← e, t, f)
+
+pub with-none : (g : Settings) (s : List ℕ) (b : Bool) → b ≡ numbersRight g s → b ≡ false → NoState ≡ storedWith g s
+unfolding storedWith
+with-none g s b e t = rw (← e, t)
+
+pub size-wrong : (s : List ℕ) → (length s ≡ 2048 → ⊥) → NoState ≡ stored s
+unfolding stored isState
+size-wrong s h = rw (ne-eqb (length s) 2048 h)
+
+module _ (s : List ℕ) (size : length s ≡ 2048) (n ta ts w : ℕ) (en : n ≡ word s nAt) (ea : ta ≡ word s taAt) (es : ts ≡ word s tsAt) (ew : w ≡ word s weightsAt) (c : Checked) (ec : c ≡ checkSettings n ta ts w) where
+  pub settings-wrong : c ≡ Invalid → NoState ≡ stored s
+  unfolding stored isState
+  settings-wrong t = rw (eq-eqb (length s) 2048 size, ← en, ← ea, ← es, ← ew, check-refused n ta ts w (sym ec ∙ t))
+
+  pub settings-right : (g : Settings) (r : Stored) → c ≡ Valid g → r ≡ storedWith g s → r ≡ stored s
+  unfolding stored isState sessionOf storedWith settingsOf
+  settings-right g r t f =
+      let k : Taken n ta ts w g = check-taken n ta ts w g (sym ec ∙ t) in
+      f ∙ rw (k .same, eq-eqb (length s) 2048 size, ← en, ← ea, ← es, ← ew, k .valid)
+
+pub ruleset state-cases = (own-small, with-held, with-none, size-wrong, settings-wrong, settings-right)

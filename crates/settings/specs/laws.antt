@@ -1,0 +1,5 @@
+pub mod Settings
+pub mod Rules
+pub mod Thresholds
+pub mod Cases
+pub mod Unnamed

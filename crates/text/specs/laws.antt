@@ -1,0 +1,6 @@
+pub mod Numbers
+pub mod Paste
+pub mod Each
+pub mod Digits
+pub mod DigitCases
+pub mod Lengths

@@ -1,0 +1,12 @@
+pub mod Stored
+pub mod Due
+pub mod Turn
+pub mod Told
+pub mod Choosing
+pub mod Deciding
+pub mod Applying
+pub mod Admitting
+pub mod Taking
+pub mod Frame
+pub mod Marks
+pub mod Decisions

@@ -1,0 +1,16 @@
+pub mod TurnBound
+pub mod Computing
+pub mod Sums
+pub mod Potential
+pub mod Rounds
+pub mod Raising
+pub mod ByOne
+pub mod Sound
+pub mod Delivering
+pub mod Recorded
+pub mod Turning
+pub mod Opened
+pub mod Count
+pub mod Stepped
+pub mod CallCount
+pub mod Lined

@@ -1,0 +1,5 @@
+pub mod Given
+pub mod Votes
+pub mod Cases
+pub mod Told
+pub mod Views
