@@ -1,5 +1,5 @@
--- Three concentrators of weight 1: n = 3, ta = 0, ts = 1, session 7, coin words of 0. Concentrators 1 and 2 put in 5; 3 lies. So liars weigh more
--- than ta, but not more than ts.
+-- Three concentrators of weight 1: n = 3, ta = 0, ts = 1, session 7, coin words of 0. Concentrator 1 is opened with ta = 0, 2 with 255, which is read
+-- as 0. Both put in 5; 3 lies. So liars weigh more than ta, but not more than ts.
 -- The liar tells 6 to 1 and 8 to 2, in its SEND, ECHO and READY, so that its broadcast has two outputs; liars of up to ta cannot bring that about.
 -- Broadcasts 1 and 2 have the output 5, which is Exit 1 at both.
 use Prim.Native.Nat.{ℕ, _<_}
@@ -10,6 +10,7 @@ use Rattle.broadcasts.specs.Broadcasts.{output}
 use Rattle.broadcasts.specs.declared.Output.the-variants.{Value}
 use Rattle.wire.specs.declared.Message.{Message}
 use Rattle.wire.specs.declared.Message.the-variants.{Send, Echo, Ready, Commit}
+use Rattle.settings.specs.Settings.{UNNAMED}
 use Rattle.agreement.specs.Evidence.{Honest, liars}
 use Rattle.agreement.specs.Calls.{Call, opening, report, world, words}
 use Rattle.agreement.specs.EngineCalls.{engine, Agreed}
@@ -23,7 +24,7 @@ session = record { settings = record { n = 3; ta = 0; ts = 1; whole = 3; weights
 -- The last call stands first; `cs` are the calls before.
 
 unfoldable pub openings : List (Call engine)
-openings = opening 2 (openingOf 3 0 1 2) ∷ opening 1 (openingOf 3 0 1 1) ∷ []
+openings = opening 2 (openingOf 3 UNNAMED 1 2) ∷ opening 1 (openingOf 3 0 1 1) ∷ []
 
 -- the liar sends m to 1 and k to 2
 unfoldable pub equivocated : Message → Message → List (Call engine) → List (Call engine)
