@@ -1,4 +1,4 @@
--- No message is lost: those sent are no more than the turns that the sessions have counted, and these are at most 1,600.
+-- The turns that the sessions of a drill have counted.
 use Prim.Native.Nat.{ℕ, zero, suc, _+_}
 use mathlib.Core.List.{List}
 use Rattle.records.specs.Layout.{turnsAt}

@@ -1,4 +1,4 @@
--- What an answer of the code states, and the paths of the functions that make it.
+-- The exit that an answer of the code states.
 use Prim.Native.Nat.{_≤_}
 use mathlib.Core.Path.{_≡_}
 use lib.ListN.{length}

@@ -1,6 +1,4 @@
--- The state as a list of words: one word read, one word put, one mark set.
--- The front of a list written over with the front of another, and what the loop that does so keeps.
--- Lists of zeros, runs of stores, the front of a list written over, and what the loops that do so keep.
+-- The state as a list of words: one word read, one word put, one mark set, words stored in a row, a front copied.
 use Prim.Native.Nat.{ℕ, _+_, _-_, zero, suc}
 use mathlib.Core.Bool.{Bool}
 use mathlib.Core.List.{List, _++_}
