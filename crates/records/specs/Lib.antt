@@ -2,4 +2,6 @@ pub mod Words
 pub mod Layout
 pub mod Records
 pub mod Writing
+pub mod MarkWords
+pub mod Sets
 pub mod laws

@@ -15,8 +15,8 @@ ghost use Rattle.records.specs.Records.{sendHeld, sendValue, echoHeld, r
 ghost use Rattle.records.specs.Layout.{auxGroup};
 ghost use Rattle.records.specs.Words.{word, put, marked, equalAt, setMark};
 ghost use Rattle.records.specs.laws.Words.{Reached};
-ghost use Rattle.records.specs.laws.MarkWords.{decidedZeroMarks, decidedOneMarks, voteMarks};
-ghost use Rattle.records.specs.laws.Sets.{SetRoom, SetCopied};
+ghost use Rattle.records.specs.MarkWords.{decidedZeroMarks, decidedOneMarks, voteMarks};
+ghost use Rattle.records.specs.Sets.{SetRoom, SetCopied};
 
 // The word at k, and 0 past the end.
 pub fn word(s: &[u64], k: usize) -> u64

@@ -13,7 +13,7 @@ ghost use Rattle.commits.specs.Commits.{setOf};
 ghost use Rattle.exits.specs.Exits.{exitNow};
 ghost use Rattle.exits.specs.Stated.{Stated};
 ghost use Rattle.report.specs.Report.{admits, figuresOf, inForceSet, reportAnswer, reportNamed, reportInForce};
-ghost use Rattle.records.specs.laws.Sets.{SetRoom};
+ghost use Rattle.records.specs.Sets.{SetRoom};
 ghost use Rattle.report.specs.laws.Cases.{inForceSender, SetWritten, Room, Written};
 ghost use Rattle.report.specs.laws.Stored.{admittedIn};
 

@@ -1,4 +1,3 @@
-pub mod Settings
 pub mod Rules
 pub mod Thresholds
 pub mod Cases

@@ -4,7 +4,7 @@ pub mod refusal;
 ghost use mathlib.Core.Path.{_≡_};
 ghost use Prim.Native.Nat.{_-_};
 ghost use Rattle.settings.specs.Settings.{largestTa, namedTa};
-ghost use Rattle.settings.specs.laws.Settings.{checkSettings};
+ghost use Rattle.settings.specs.Check.{checkSettings};
 ghost use Rattle.settings.specs.Settings.{quorum, repeat, voteQuorum, relay, accept, turnBound};
 
 // u8 fields: no threshold can wrap, so none has a `requires`. `whole` is the sum of the weights, which are one word.

@@ -11,7 +11,7 @@ use borrow.Author.Tests.{eq-eqb, ne-eqb, not-true, not-false}
 use mir.Val.{Fits}
 use mir.Syntax.{w8}
 use Rattle.settings.specs.Settings.{validSettings, namedTa}
-use Rattle.settings.specs.laws.Settings.{checkSettings}
+use Rattle.settings.specs.Check.{checkSettings}
 use Rattle.settings.specs.laws.Rules.{check-taken, check-refused}
 use Rattle.settings.specs.declared.Settings.{Settings}
 use Rattle.settings.specs.declared.Checked.{Checked}

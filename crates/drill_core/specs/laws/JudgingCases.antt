@@ -11,7 +11,7 @@ use mir.Syntax.{w8, w16, w32}
 use borrow.Author.Tests.{le-leb, leb-true, ltb-true, eq-eqb}
 use Rattle.quorum.specs.laws.Bools.{and-left, and-right, not-passed}
 use Rattle.settings.specs.Settings.{validSettings, namedTa}
-use Rattle.settings.specs.laws.Settings.{checkSettings}
+use Rattle.settings.specs.Check.{checkSettings}
 use Rattle.settings.specs.laws.Rules.{check-taken, check-refused, valid-rules}
 use Rattle.settings.specs.declared.Settings.{Settings}
 use Rattle.settings.specs.declared.Checked.{Checked}

@@ -11,7 +11,7 @@ use mir.Val.{Fits}
 use mir.Syntax.{w8}
 use Rattle.quorum.specs.laws.Bools.{refusal-passed, not-passed}
 use Rattle.settings.specs.Settings.{validSettings, namedTa}
-use Rattle.settings.specs.laws.Settings.{checkSettings}
+use Rattle.settings.specs.Check.{checkSettings}
 use Rattle.settings.specs.laws.Rules.{check-taken, check-refused, valid-rules}
 use Rattle.settings.specs.declared.Settings.{Settings}
 use Rattle.settings.specs.declared.Checked.{Checked}

@@ -1,24 +1,13 @@
--- Words of marks that the code reads whole, and the groups of marks in a round's word.
+-- The groups of marks in a round's word.
 use Prim.Native.Nat.{ℕ, _+_, _*_}
 use mathlib.Core.Bool.{Bool, _||_}
 use mathlib.Core.List.{List}
 use mathlib.Core.Path.{_≡_, ap, _∙_}
 use Rattle.quorum.specs.Marks.{mark}
 use Rattle.quorum.specs.Weights.{weigh}
-use Rattle.records.specs.Layout.{decidedZeroAt, decidedOneAt, voteAt}
-use Rattle.records.specs.Words.{word, marked}
+use Rattle.records.specs.Words.{marked}
+use Rattle.records.specs.MarkWords.{voteMarks}
 use Rattle.records.specs.Records.{estHeld, auxHeld}
-
--- the votes decided 0, and those decided 1: mark i for vote i
-abbrev pub decidedZeroMarks : List ℕ → ℕ
-decidedZeroMarks s = word s decidedZeroAt
-
-abbrev pub decidedOneMarks : List ℕ → ℕ
-decidedOneMarks s = word s decidedOneAt
-
--- the ESTs and AUXs held in round r of vote i
-abbrev pub voteMarks : List ℕ → ℕ → ℕ → ℕ
-voteMarks s i r = word s (voteAt i r)
 
 module _ (s : List ℕ) (i r w : ℕ) (e : w ≡ voteMarks s i r) where
   pub est-mark : (b p : ℕ) (c : Bool) → c ≡ mark w (16 * b + p) → c ≡ estHeld s i r b p

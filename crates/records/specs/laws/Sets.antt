@@ -1,26 +1,15 @@
--- The set in a COMMIT, copied out of the state.
+-- A state has the set of a COMMIT, and the copy is that set.
 use Prim.Native.Nat.{ℕ, _+_, _*_, _-_, _≤_}
-use mathlib.Core.List.{List, _++_}
+use mathlib.Core.List.{List}
 use mathlib.Core.Path.{_≡_, _∙_}
 use native.Mathlib.Omega.{arith}
 use native.Mathlib.Nat.{min-le-right}
 use lib.ListN.{length, take, drop, length-take, length-drop}
 use lib.Seq.{take-all, length-take-le}
-use Rattle.records.specs.Layout.{stateWords, commitValueAt}
+use Rattle.records.specs.Layout.{commitValueAt}
 use Rattle.records.specs.Words.{copied}
+use Rattle.records.specs.Sets.{SetRoom, SetCopied}
 use Rattle.records.specs.Records.{commitCount, commitSet}
-
--- a whole state, and room for the longest set
-pub record SetRoom (s : List ℕ) (p : ℕ) (out : List ℕ) : Type 0 where
-  pub size : length s ≡ stateWords
-  pub sender : p ≤ 16
-  pub room : 16 ≤ length out
-
--- the set of sender p stands at the front of what was old
-pub record SetCopied (s : List ℕ) (p : ℕ) (old new : List ℕ) (count : ℕ) : Type 0 where
-  pub words : new ≡ commitSet s p ++ drop count old
-  pub counted : count ≡ commitCount s p
-  pub sized : length (commitSet s p) ≡ count
 
 module _ (s : List ℕ) (p : ℕ) (out : List ℕ) (h : SetRoom s p out) (k : ℕ) (e : k ≡ commitCount s p) where
   count-few : k ≤ 16

@@ -13,7 +13,7 @@ use Rattle.settings.specs.declared.Settings.{Settings}
 use Rattle.quorum.specs.Lowest.{lowest}
 use Rattle.quorum.specs.laws.Lowest.{lowest-le}
 use Rattle.records.specs.Records.{turnCount, closed}
-use Rattle.records.specs.laws.Sets.{SetRoom, SetCopied}
+use Rattle.records.specs.Sets.{SetRoom, SetCopied}
 use Rattle.records.specs.Words.{copied}
 use Rattle.commits.specs.Commits.{setLeads, setLeader, setOf, leadingSet}
 use Rattle.exits.specs.Exits.{Exit, named}

@@ -8,7 +8,7 @@ use lib.ListN.{length}
 use lib.Dec.{leb}
 use borrow.Author.Tests.{eq-eqb, ne-eqb, lt-leb, le-leb, not-true, not-false, leb-true}
 use Rattle.quorum.specs.laws.Bools.{and-left, and-right}
-use Rattle.settings.specs.laws.Settings.{checkSettings}
+use Rattle.settings.specs.Check.{checkSettings}
 use Rattle.settings.specs.Settings.{turnBound}
 use Rattle.settings.specs.laws.Rules.{Taken, check-taken, check-refused}
 use Rattle.settings.specs.declared.Settings.{Settings}

@@ -9,7 +9,7 @@ use mir.Syntax.{w8, w64}
 use Rattle.quorum.specs.Whole.{wholeOf, weightsRight}
 use Rattle.quorum.specs.laws.Whole.{whole-le}
 use Rattle.settings.specs.Settings.{validSettings, UNNAMED, largestTa, namedTa}
-use Rattle.settings.specs.laws.Settings.{checkSettings}
+use Rattle.settings.specs.Check.{checkSettings}
 use Rattle.settings.specs.laws.Rules.{rules-valid, refused-check}
 use Rattle.settings.specs.declared.Checked.the-variants.{Valid, Invalid}
 

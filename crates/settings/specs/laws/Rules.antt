@@ -9,7 +9,7 @@ use Rattle.quorum.specs.laws.Bools.{and-left, and-right}
 use Rattle.quorum.specs.Whole.{wholeOf, weightsRight}
 use Rattle.quorum.specs.laws.Whole.{whole-le}
 use Rattle.settings.specs.Settings.{validSettings, settingsFrom}
-use Rattle.settings.specs.laws.Settings.{checkSettings}
+use Rattle.settings.specs.Check.{checkSettings}
 use Rattle.settings.specs.declared.Settings.{Settings}
 use Rattle.settings.specs.declared.Checked.the-variants.{Valid, Invalid}
 use Rattle.settings.specs.Rules.{Rules, Ruled}

@@ -15,7 +15,7 @@ use Rattle.settings.specs.declared.Settings.{Settings}
 use Rattle.quorum.specs.laws.Lowest.{Lowest, lowest-is}
 use Rattle.quorum.specs.Marks.{mark}
 use Rattle.records.specs.Records.{ownInput, sendSent, commitSent, commitCount, commitSet}
-use Rattle.records.specs.laws.Sets.{SetRoom, SetCopied}
+use Rattle.records.specs.Sets.{SetRoom, SetCopied}
 use Rattle.acts.specs.Acts.{isDue, orAct}
 use Rattle.acts.specs.declared.Act.{Act}
 use Rattle.acts.specs.declared.Act.the-variants.{Idle, InForce, Commit, Send}

@@ -17,7 +17,7 @@ use Rattle.quorum.specs.Weights.{weightOf, weigh}
 use Rattle.quorum.specs.laws.Total.{total-agree}
 use Rattle.records.specs.Layout.{auxGroup}
 use Rattle.records.specs.Words.{marked}
-use Rattle.records.specs.laws.MarkWords.{decidedOneMarks, voteMarks}
+use Rattle.records.specs.MarkWords.{decidedOneMarks, voteMarks}
 use Rattle.records.specs.Records.{auxHeld, decidedOne, round, estSent, auxSent, coinKnown}
 use Rattle.acts.specs.Acts.{isDue, orAct, firstAct}
 use Rattle.acts.specs.declared.Act.{Act}

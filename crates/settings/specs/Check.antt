@@ -1,4 +1,4 @@
--- The answer of the code's check.
+-- The check of settings.
 use Prim.Native.Nat.{ℕ}
 use mathlib.Core.Bool.{cond}
 use Rattle.settings.specs.declared.Checked.{Checked}
