@@ -1,0 +1,1 @@
+// One model of calls, and the engine as a machine in it: definitions only, in specs/.
