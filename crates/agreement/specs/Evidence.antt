@@ -7,6 +7,7 @@ use Rattle.settings.specs.Rules.{Ruled}
 use Rattle.settings.specs.declared.Settings.{Settings}
 use Rattle.quorum.specs.Total.{total, everyone}
 use Rattle.quorum.specs.Weights.{weightOf}
+use Rattle.agreement.specs.Honest as honest
 
 -- the session's settings, who is honest, and the coin of a vote and a round
 pub record World : Type 0 where
@@ -23,7 +24,7 @@ whole W = weigh W everyone
 
 -- what the liars count
 abbrev pub liars : World → ℕ
-liars W = weigh W (λ m. not (W .honest m))
+liars W = honest.liars (W .settings) (W .honest)
 
 -- settings within the rules, and liars of at most L, which is at most ts
 pub record Sound (W : World) (L : ℕ) : Type 0 where
@@ -33,11 +34,8 @@ pub record Sound (W : World) (L : ℕ) : Type 0 where
   pub few : liars W ≤ L
 
 module _ (W : World) where
-  -- "Honest are any chosen numbers from 1 to n"
-  pub record Honest (m : ℕ) : Type 0 where
-    pub low : 1 ≤ m
-    pub high : m ≤ W .settings .n
-    pub fair : W .honest m ≡ true
+  abbrev pub Honest : ℕ → Type 0
+  Honest m = honest.Honest (W .settings) (W .honest) m
 
   -- a set of senders of weight k or more, up to the slack, whose honest members have P
   pub record Backed (k slack : ℕ) (P : ℕ → Type 0) : Type 0 where

@@ -1,10 +1,10 @@
 // Demand 3. The functions do nothing: their contracts state what is proved in specs/.
 ghost use Rattle.agreement.specs.Agreement.{Agree, Named, Valid};
-ghost use Rattle.agreement.specs.EngineCalls.{EngineAgrees};
+ghost use Rattle.agreement.specs.DemandThree.{EngineAgrees};
 ghost use Rattle.agreement.specs.EngineRestores.{RestoreGives};
 ghost use Rattle.agreement.specs.Plain.{PrintedMeets, PlainMeets};
 
-// Demand 3 of the engine, all of it: specs/Calls.antt states it of whole lists of calls, specs/EngineCalls.antt has the engine's.
+// Demand 3 of the engine, all of it: specs/DemandThree.antt states it of whole lists of calls.
 pub fn demand_three()
     ensures { λ _. ⌜ EngineAgrees ⌝ }
 {}

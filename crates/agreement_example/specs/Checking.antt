@@ -13,8 +13,8 @@ use Rattle.turn.specs.declared.Outcome.{Outcome}
 use Rattle.turn.specs.declared.Outcome.the-variants as outcome
 use Rattle.journal.specs.Journal.{openNumber, turnedOutcome, turnedMessage}
 use Rattle.restore.specs.Restoring.{MESSAGE-BYTES}
-use Rattle.agreement.specs.Calls.{Call, opening, delivery, turn, report, restore, recording}
-use Rattle.agreement.specs.EngineCalls.{engine, OpeningGiven, Bytes, TurnLent, BitGiven, RestoreLent, Agreed, agreed}
+use Rattle.calls.specs.Machine.{Call, opening, delivery, turn, report, restore, recording}
+use Rattle.calls.specs.Engine.{engine, OpeningGiven, Bytes, TurnLent, BitGiven, RestoreLent, Agreed, agreed}
 use Rattle.agreement_example.specs.Bits.{boxBit}
 
 -- a line of a journal: its bytes, the words after it, and the messages that its call sent, one or none

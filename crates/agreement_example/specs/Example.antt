@@ -8,8 +8,10 @@ use lib.ListN.{length}
 use Rattle.records.specs.Layout.{stateWords}
 use Rattle.agreement.specs.Evidence.{liars, Honest}
 use Rattle.agreement.specs.Moments.{Within}
-use Rattle.agreement.specs.Calls.{Call, opening, world, words, Opened, Conditions}
-use Rattle.agreement.specs.EngineCalls.{engine, OpeningGiven, Agreed, ReportNames, ReportEnforces}
+use Rattle.calls.specs.Machine.{Call, opening, words}
+use Rattle.agreement.specs.laws.Worlds.{world}
+use Rattle.agreement.specs.DemandThree.{Opened, Conditions}
+use Rattle.calls.specs.Engine.{engine, OpeningGiven, Agreed, ReportNames, ReportEnforces}
 
 -- p is opened, Exit k names the set X, and X is in force
 pub record Shown (start : ℕ → List ℕ) (cs : List (Call engine)) (p k : ℕ) (X : List ℕ) : Type 0 where

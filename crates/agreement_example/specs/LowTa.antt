@@ -12,10 +12,11 @@ use Rattle.wire.specs.declared.Message.{Message}
 use Rattle.wire.specs.declared.Message.the-variants.{Send, Echo, Ready, Commit}
 use Rattle.settings.specs.Settings.{UNNAMED}
 use Rattle.agreement.specs.Evidence.{Honest, liars}
-use Rattle.agreement.specs.Calls.{Call, opening, report, world, words}
-use Rattle.agreement.specs.EngineCalls.{engine, Agreed}
+use Rattle.calls.specs.Machine.{Call, opening, report, words}
+use Rattle.agreement.specs.laws.Worlds.{world}
+use Rattle.calls.specs.Engine.{engine, Agreed}
 use Rattle.agreement_example.specs.Example.{Shown, Supposed, FromAny}
-use Rattle.agreement_example.specs.Messages.{inputFive, openingOf, deliver}
+use Rattle.agreement_example.specs.Messages.{inputFive, openingFive, deliver}
 use Rattle.agreement_example.specs.Weighted.{firstTwo, turns, toBoth, fromBoth}
 
 abbrev pub session : Agreed
@@ -24,7 +25,7 @@ session = record { settings = record { n = 3; ta = 0; ts = 1; whole = 3; weights
 -- The last call stands first; `cs` are the calls before.
 
 unfoldable pub openings : List (Call engine)
-openings = opening 2 (openingOf 3 UNNAMED 1 2) ∷ opening 1 (openingOf 3 0 1 1) ∷ []
+openings = opening 2 (openingFive 3 UNNAMED 1 2) ∷ opening 1 (openingFive 3 0 1 1) ∷ []
 
 -- the liar sends m to 1 and k to 2
 unfoldable pub equivocated : Message → Message → List (Call engine) → List (Call engine)

@@ -10,17 +10,18 @@ use Rattle.wire.specs.declared.Message.{Message}
 use Rattle.wire.specs.declared.Message.the-variants.{Send, Echo, Ready, Commit}
 use Rattle.agreement.specs.Evidence.{Honest, liars}
 use Rattle.agreement.specs.Moments.{Within}
-use Rattle.agreement.specs.Calls.{Call, opening, report, world, place}
-use Rattle.agreement.specs.EngineCalls.{engine}
+use Rattle.calls.specs.Machine.{Call, opening, report, place}
+use Rattle.agreement.specs.laws.Worlds.{world}
+use Rattle.calls.specs.Engine.{engine}
 use Rattle.agreement_example.specs.Example.{Shown, Supposed, FromAny}
-use Rattle.agreement_example.specs.Messages.{inputFive, openingOf}
+use Rattle.agreement_example.specs.Messages.{inputFive, openingFive}
 use Rattle.agreement_example.specs.Four.{session, firstThree}
 use Rattle.agreement_example.specs.Weighted.{turns, toBoth, fromBoth}
 
 -- The last call stands first; `cs` are the calls before.
 
 unfoldable pub openings : List (Call engine)
-openings = opening 2 (openingOf 4 1 1 2) ∷ opening 1 (openingOf 4 1 1 1) ∷ []
+openings = opening 2 (openingFive 4 1 1 2) ∷ opening 1 (openingFive 4 1 1 1) ∷ []
 
 -- the same message of 1, 2 and 4
 unfoldable pub fromThree : Message → List ℕ → List (Call engine) → List (Call engine)

@@ -8,7 +8,7 @@ ghost use mathlib.Core.Path.{_≡_};
 ghost use Prim.Native.Nat.{ℕ};
 ghost use lib.ListN.{length, take};
 ghost use Rattle.opening.specs.Arguments.{arguments};
-ghost use Rattle.agreement.specs.EngineCalls.{OpeningGiven, Bytes, TurnLent, BitGiven, RestoreLent};
+ghost use Rattle.calls.specs.Engine.{OpeningGiven, Bytes, TurnLent, BitGiven, RestoreLent};
 ghost use Rattle.engine_calls.specs.Answers.{OpeningOf, BytesOf, OpensAs, DeliversAs, TurnsAs, RecordsAs, RestoresAs, ReportsAs};
 
 // Opens a session in the lent words.

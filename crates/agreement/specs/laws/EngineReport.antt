@@ -32,8 +32,8 @@ use Rattle.agreement.specs.Evidence.{World, whole}
 use Rattle.agreement.specs.History.{Act, Names}
 use Rattle.held.specs.laws.Held.{COMMIT}
 use Rattle.agreement.specs.laws.Runs.{HeldFrom, OutputsHeld}
-use Rattle.agreement.specs.Calls.{worldWith}
-use Rattle.agreement.specs.EngineCalls.{OpeningGiven, agreed, TurnLent, ReportNames, ReportEnforces, engine}
+use Rattle.agreement.specs.laws.Worlds.{worldWith}
+use Rattle.calls.specs.Engine.{OpeningGiven, agreed, TurnLent, ReportNames, ReportEnforces, engine}
 use Rattle.agreement.specs.laws.EngineSeen.{engineSeen}
 use Rattle.agreement.specs.laws.EngineLent.{forMessage}
 use Rattle.agreement.specs.laws.EngineReading.{Belongs, admittedAct, actOf}

@@ -56,8 +56,8 @@ use Rattle.agreement.specs.Evidence.{World}
 use Rattle.agreement.specs.History.{Act, commit, move}
 use Rattle.held.specs.laws.Held.{Message, EST, meaning}
 use Rattle.agreement.specs.laws.Runs as runs
-use Rattle.agreement.specs.Calls.{worldWith}
-use Rattle.agreement.specs.EngineCalls.{OpeningGiven, agreed, Bytes, engine}
+use Rattle.agreement.specs.laws.Worlds.{worldWith}
+use Rattle.calls.specs.Engine.{OpeningGiven, agreed, Bytes, engine}
 use Rattle.agreement.specs.laws.EngineSeen.{engineSeen}
 use Rattle.agreement.specs.laws.EngineLent.{SendsPlain}
 use Rattle.agreement.specs.laws.EngineReading.{Belongs, Sets, shownAct, Says}

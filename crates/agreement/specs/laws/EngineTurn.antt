@@ -39,8 +39,8 @@ use Rattle.turn.specs.laws.Stored.{room-enough}
 use Rattle.agreement.specs.Evidence.{World}
 use Rattle.agreement.specs.History.{Act, send}
 use Rattle.held.specs.laws.Keeping.{kept-holding, count-back, set-back}
-use Rattle.agreement.specs.Calls.{worldWith}
-use Rattle.agreement.specs.EngineCalls.{OpeningGiven, agreed, Bytes, TurnLent, SendsBytes, engine}
+use Rattle.agreement.specs.laws.Worlds.{worldWith}
+use Rattle.calls.specs.Engine.{OpeningGiven, agreed, Bytes, TurnLent, SendsBytes, engine}
 use Rattle.agreement.specs.laws.Runs.{CoinsAre, CoinsStay}
 use Rattle.agreement.specs.laws.Machine.{Turned}
 use Rattle.agreement.specs.laws.EngineSeen.{engineSeen}

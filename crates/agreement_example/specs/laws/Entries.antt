@@ -6,7 +6,7 @@ use mathlib.Core.Path.{_≡_, refl, sym, ap, _∙_}
 use borrow.Author.Tests.{eqb-true}
 use lib.Dec.{eqb}
 use Rattle.quorum.specs.laws.Bools.{and-left, and-right}
-use Rattle.agreement.specs.EngineCalls.{Agreed}
+use Rattle.calls.specs.Engine.{Agreed}
 use Rattle.agreement_example.specs.Checking.{Line, Entry, isOpened, wordsOf, linesOf, withEntry, sameList, sameSession}
 
 -- one of two tests passed, and the first did not

@@ -14,8 +14,10 @@ use Rattle.records.specs.laws.Fill.{length-blank}
 use Rattle.report.specs.Report.{reportAnswer, reportNamed, reportInForce}
 use Rattle.report.specs.declared.Answer.{Answer}
 use Rattle.agreement.specs.Evidence.{liars, Honest}
-use Rattle.agreement.specs.Calls.{Call, world, words, Opened}
-use Rattle.agreement.specs.EngineCalls.{engine, Agreed, ReportNames, ReportEnforces}
+use Rattle.calls.specs.Machine.{Call, words}
+use Rattle.agreement.specs.laws.Worlds.{world}
+use Rattle.agreement.specs.DemandThree.{Opened}
+use Rattle.calls.specs.Engine.{engine, Agreed, ReportNames, ReportEnforces}
 use Rattle.agreement_example.specs.laws.Lists.{conditions-met, put-in-met}
 use Rattle.agreement_example.specs.Checking.{Entry, Gone, Run, isOpened, wordsOf, sameList, run}
 use Rattle.agreement_example.specs.laws.Entries.{or-second, not-of-true, same-list}

@@ -10,8 +10,10 @@ use lib.ListN.{length}
 use Rattle.quorum.specs.laws.Bools.{and-left, and-right}
 use Rattle.records.specs.Layout.{stateWords}
 use Rattle.agreement.specs.Moments.{now, after}
-use Rattle.agreement.specs.Calls.{Call, turn, Moment, Journal, newest, bytes, complete, Stands, words, journal, Opened, Sent}
-use Rattle.agreement.specs.EngineCalls.{engine, Bytes, TurnLent, SendsBytes}
+use Rattle.calls.specs.Machine.{Call, turn, words}
+use Rattle.agreement.specs.Journals.{Moment, Journal, newest, bytes, complete, Stands, journal}
+use Rattle.agreement.specs.DemandThree.{Opened, Sent}
+use Rattle.calls.specs.Engine.{engine, Bytes, TurnLent, SendsBytes}
 use Rattle.agreement_example.specs.Checking.{Line, Gone, among, wasSent, textOf, completeOf, keeps}
 use Rattle.agreement_example.specs.laws.Entries.{or-second, not-of-true}
 

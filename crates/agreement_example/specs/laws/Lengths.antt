@@ -24,8 +24,8 @@ use Rattle.turn.specs.declared.Admitted.{Admitted}
 use Rattle.turn.specs.declared.Admitted.the-variants as admitted
 use Rattle.journal.specs.Journal.{LINE-BYTES, lineWords, openedWords, deliveredWords, recordWords, turnRoom}
 use Rattle.agreement.specs.Plain.{NoRestore}
-use Rattle.agreement.specs.Calls.{Call, opening, delivery, turn, report, restore, recording, left}
-use Rattle.agreement.specs.EngineCalls.{engine}
+use Rattle.calls.specs.Machine.{Call, opening, delivery, turn, report, restore, recording, left}
+use Rattle.calls.specs.Engine.{engine}
 
 length-opened : (s : List ℕ) (o : Arguments) → length s ≡ stateWords → length (opened s o) ≡ stateWords
 unfolding opened

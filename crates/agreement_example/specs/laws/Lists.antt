@@ -7,7 +7,9 @@ use mathlib.Core.Path.{_≡_, refl, sym, _∙_}
 use Rattle.agreement.specs.Evidence.{Honest}
 use Rattle.agreement.specs.Moments.{Within, now, after}
 use Rattle.agreement.specs.laws.Moments.{within-none}
-use Rattle.agreement.specs.Calls.{Machine, Call, opening, delivery, turn, report, restore, recording, world, place, words, Opened, Sent, Departed, FallsBack, Conditions}
+use Rattle.calls.specs.Machine.{Machine, Call, opening, delivery, turn, report, restore, recording, place, words}
+use Rattle.agreement.specs.laws.Worlds.{world}
+use Rattle.agreement.specs.DemandThree.{Opened, Sent, Departed, FallsBack, Conditions}
 use Rattle.agreement_example.specs.Bits.{boxBit}
 
 module _ (M : Machine) (start : ℕ → M .Words) where

@@ -8,8 +8,8 @@ use Rattle.records.specs.Layout.{stateWords}
 use Rattle.turn.specs.declared.Outcome.{Outcome}
 use Rattle.turn.specs.declared.Outcome.the-variants as outcome
 use Rattle.journal.specs.Journal.{openNumber, deliverNumber, recordNumber, turnedOutcome}
-use Rattle.agreement.specs.Calls.{Call, opening, delivery, turn, report, restore, recording}
-use Rattle.agreement.specs.EngineCalls.{engine, Agreed}
+use Rattle.calls.specs.Machine.{Call, opening, delivery, turn, report, restore, recording}
+use Rattle.calls.specs.Engine.{engine, Agreed}
 use Rattle.agreement_example.specs.Checking.{Entry, Run, isOpened, wordsOf, step, run}
 
 -- the number of a turn's refusal, 0 for none

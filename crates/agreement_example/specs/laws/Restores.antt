@@ -11,8 +11,11 @@ use Rattle.quorum.specs.laws.Bools.{and-left, and-right}
 use Rattle.records.specs.Layout.{stateWords}
 use Rattle.restore.specs.Restoring.{MESSAGE-BYTES, accepted}
 use Rattle.agreement.specs.Evidence.{Honest}
-use Rattle.agreement.specs.Calls.{Call, restore, world, Moment, Journal, bytes, complete, words, journal, FallsBack}
-use Rattle.agreement.specs.EngineCalls.{engine, Agreed, RestoreLent}
+use Rattle.calls.specs.Machine.{Call, restore, words}
+use Rattle.agreement.specs.laws.Worlds.{world}
+use Rattle.agreement.specs.Journals.{Moment, Journal, bytes, complete, journal}
+use Rattle.agreement.specs.DemandThree.{FallsBack}
+use Rattle.calls.specs.Engine.{engine, Agreed, RestoreLent}
 use Rattle.agreement.specs.EngineRestores.{Gives, RestoreGives}
 use Rattle.agreement.specs.laws.EngineRestores.{restore-gives}
 use Rattle.agreement_example.specs.laws.Lists.{departed-before, conditions-met}

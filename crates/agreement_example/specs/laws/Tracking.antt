@@ -19,8 +19,11 @@ use Rattle.journal.specs.Journal.{turnedOutcome, turnedMessage}
 use Rattle.restore.specs.Restoring.{accepted}
 use Rattle.agreement.specs.Evidence.{Honest}
 use Rattle.agreement.specs.Moments.{now}
-use Rattle.agreement.specs.Calls.{Call, opening, delivery, turn, report, restore, recording, world, bytes, words, journal, Opened, Sent, Departed}
-use Rattle.agreement.specs.EngineCalls.{engine, OpeningGiven, Agreed, Bytes, TurnLent, BitGiven, agreed, SendsBytes}
+use Rattle.calls.specs.Machine.{Call, opening, delivery, turn, report, restore, recording, words}
+use Rattle.agreement.specs.laws.Worlds.{world}
+use Rattle.agreement.specs.Journals.{bytes, journal}
+use Rattle.agreement.specs.DemandThree.{Opened, Sent, Departed}
+use Rattle.calls.specs.Engine.{engine, OpeningGiven, Agreed, Bytes, TurnLent, BitGiven, agreed, SendsBytes}
 use Rattle.agreement_example.specs.Bits.{boxBit}
 use Rattle.agreement_example.specs.laws.Lists.{not-opened, not-departed, opened-later, opened-cases, Leaves, departed-before, departed-cases, DeliveryMeets, RecordingMeets}
 use Rattle.agreement_example.specs.Checking.{Line, Entry, Gone, isOpened, wordsOf, linesOf, sameList, among, wasSent, some, sentIn, sentBy, sameSession, opens, firstLines, deliveryLines, turnLines, recordingLines, statesAfter, goneAfter, restoreRight, listed, openingRight, deliveryRight, recordingRight, callRight, step, run}

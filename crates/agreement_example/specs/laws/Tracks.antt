@@ -11,8 +11,11 @@ use Rattle.records.specs.Layout.{stateWords}
 use Rattle.opening.specs.Opening.{openWords}
 use Rattle.agreement.specs.Evidence.{Honest}
 use Rattle.agreement.specs.Plain.{NoRestore}
-use Rattle.agreement.specs.Calls.{Call, world, place, left, Moment, Journal, wrote, words, journal, Opened, Departed}
-use Rattle.agreement.specs.EngineCalls.{engine, OpeningGiven, Agreed, Bytes}
+use Rattle.calls.specs.Machine.{Call, place, left, words}
+use Rattle.agreement.specs.laws.Worlds.{world}
+use Rattle.agreement.specs.Journals.{Moment, Journal, wrote, journal}
+use Rattle.agreement.specs.DemandThree.{Opened, Departed}
+use Rattle.calls.specs.Engine.{engine, OpeningGiven, Agreed, Bytes}
 use Rattle.agreement.specs.laws.EngineOpening.{opened-first, open-refused}
 use Rattle.agreement_example.specs.laws.Lists.{opened-later, opened-before, NoOpening, AllMeet}
 use Rattle.agreement_example.specs.Checking.{Line, Entry, Gone, isOpened, wordsOf, linesOf, withEntry, some, opens, listed}

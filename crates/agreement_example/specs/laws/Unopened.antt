@@ -9,8 +9,8 @@ use lib.Dec.{eqb}
 use Rattle.quorum.specs.laws.Bools.{and-left, and-right}
 use Rattle.turn_bound.specs.laws.Computing.{calls}
 use Rattle.agreement.specs.Moments.{Within, now, after}
-use Rattle.agreement.specs.Calls.{Call, place}
-use Rattle.agreement.specs.EngineCalls.{engine}
+use Rattle.calls.specs.Machine.{Call, place}
+use Rattle.calls.specs.Engine.{engine}
 use Rattle.agreement_example.specs.Checking.{listed}
 use Rattle.agreement_example.specs.laws.Computing.{checks}
 use Rattle.agreement_example.specs.laws.Example.{passesAt, passes-at}

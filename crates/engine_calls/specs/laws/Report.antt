@@ -19,7 +19,7 @@ use Rattle.report.specs.declared.Admitted.{Admitted}
 use Rattle.report.specs.declared.Admitted.the-variants as admitted
 use Rattle.report.specs.declared.Answer.{Answer}
 use Rattle.report.specs.declared.Answer.the-variants.{Given}
-use Rattle.agreement.specs.EngineCalls.{ReportNames, ReportEnforces}
+use Rattle.calls.specs.Engine.{ReportNames, ReportEnforces}
 use Rattle.engine_calls.specs.Answers.{ReportsAs}
 
 -- a set is read from the front of the words that were lent for it

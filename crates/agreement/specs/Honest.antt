@@ -1,0 +1,16 @@
+-- Who is honest, and what the others count.
+use Prim.Native.Nat.{ℕ, _≤_}
+use mathlib.Core.Bool.{Bool, true, not}
+use mathlib.Core.Path.{_≡_}
+use Rattle.settings.specs.declared.Settings.{Settings}
+use Rattle.quorum.specs.Weights.{weigh}
+
+-- "Honest are any chosen numbers from 1 to n": those of H
+pub record Honest (g : Settings) (H : ℕ → Bool) (m : ℕ) : Type 0 where
+  pub low : 1 ≤ m
+  pub high : m ≤ g .n
+  pub fair : H m ≡ true
+
+-- what the liars count: "the others are the liars", by their weights
+abbrev pub liars : Settings → (ℕ → Bool) → ℕ
+liars g H = weigh (g .weights) (λ m. not (H m)) (g .n)
