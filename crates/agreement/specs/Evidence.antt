@@ -1,7 +1,7 @@
 -- The world of a session, and evidence: sets of senders that are heavy enough to have honest members.
 -- Thresholds stand as sums: "n−ts senders" is whole ≤ weight + ts.
 use Prim.Native.Nat.{ℕ, _+_, _*_, _≤_, _<_}
-use mathlib.Core.Bool.{Bool, true, not}
+use mathlib.Core.Bool.{Bool, true}
 use mathlib.Core.Path.{_≡_}
 use Rattle.settings.specs.Rules.{Ruled}
 use Rattle.settings.specs.declared.Settings.{Settings}

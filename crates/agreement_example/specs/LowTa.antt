@@ -11,9 +11,8 @@ use Rattle.broadcasts.specs.declared.Output.the-variants.{Value}
 use Rattle.wire.specs.declared.Message.{Message}
 use Rattle.wire.specs.declared.Message.the-variants.{Send, Echo, Ready, Commit}
 use Rattle.settings.specs.Settings.{UNNAMED}
-use Rattle.agreement.specs.Evidence.{Honest, liars}
+use Rattle.agreement.specs.Honest.{Honest, liars}
 use Rattle.calls.specs.Machine.{Call, opening, report, words}
-use Rattle.agreement.specs.laws.Worlds.{world}
 use Rattle.calls.specs.Engine.{engine, Agreed}
 use Rattle.agreement_example.specs.Example.{Shown, Supposed, FromAny}
 use Rattle.agreement_example.specs.Messages.{inputFive, openingFive, deliver}
@@ -52,9 +51,9 @@ lowTaCalls = closing openings
 
 -- the list cs of the session S, in which 1 and 2 are honest and put in 5
 pub record OverTa (start : ℕ → List ℕ) (S : Agreed) (cs : List (Call engine)) : Type 0 where
-  pub over : S .settings .ta < liars (world engine S firstTwo)
+  pub over : S .settings .ta < liars (S .settings) firstTwo
   pub supposed : Supposed start S firstTwo inputFive cs
-  pub shown : (p : ℕ) → Honest (world engine S firstTwo) p → Shown start cs p 1 (5 ∷ [])
+  pub shown : (p : ℕ) → Honest (S .settings) firstTwo p → Shown start cs p 1 (5 ∷ [])
   -- the two outputs
   pub at-first : output (S .settings) (words engine start cs 1) 3 ≡ Value 6
   pub at-second : output (S .settings) (words engine start cs 2) 3 ≡ Value 8

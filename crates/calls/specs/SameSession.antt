@@ -1,6 +1,4 @@
 -- What openings agree in where they are of one session, said field by field.
-use Prim.Native.Nat.{ℕ}
-use mathlib.Core.List.{List}
 use mathlib.Core.Path.{_≡_}
 use Rattle.opening.specs.Arguments.{Arguments, weightsBy, taBy}
 use Rattle.calls.specs.Engine.{agreed}

@@ -1,9 +1,6 @@
 -- The statement of specs/SameSession.antt.
-use Prim.Native.Nat.{ℕ}
-use mathlib.Core.List.{List}
-use mathlib.Core.Path.{_≡_, ap}
-use Rattle.opening.specs.Arguments.{Arguments}
-use Rattle.calls.specs.Engine.{Agreed, agreed}
+use mathlib.Core.Path.{ap}
+use Rattle.calls.specs.Engine.{Agreed}
 use Rattle.calls.specs.SameSession.{SameSession}
 
 pub same-session : SameSession
