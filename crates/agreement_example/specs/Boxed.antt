@@ -8,8 +8,8 @@ use Rattle.turn.specs.declared.Outcome.the-variants.{Idle, Sent}
 use Rattle.journal.specs.Journal.{LINE-BYTES, turnedOutcome}
 use Rattle.calls.specs.Machine.{Call, opening}
 use Rattle.calls.specs.Engine.{engine, Agreed}
-use Rattle.agreement_example.specs.Checking.{wordsOf, run}
-use Rattle.agreement_example.specs.Example.{Example, FromAny}
+use Rattle.agreement_check.specs.Checking.{wordsOf, run}
+use Rattle.agreement_check.specs.Example.{Example, FromAny}
 use Rattle.agreement_example.specs.Messages.{inputFive, openingWith, recordOf}
 use Rattle.agreement_example.specs.Weighted.{firstTwo, turns, withAuxes, withLastAuxes, withSets}
 

@@ -11,7 +11,7 @@ use Rattle.agreement.specs.Moments.{Within}
 use Rattle.calls.specs.Machine.{Call, opening, delivery, words}
 use Rattle.agreement.specs.DemandThree.{Sent}
 use Rattle.calls.specs.Engine.{engine, OpeningGiven, Bytes}
-use Rattle.agreement_example.specs.Example.{Example, FromAny}
+use Rattle.agreement_check.specs.Example.{Example, FromAny}
 use Rattle.calls.specs.Given.{bytesOf}
 use Rattle.agreement_example.specs.Messages.{inputFive, openingWith, openingFive, turnOf}
 use Rattle.agreement_example.specs.Weighted.{session, firstTwo, weightedCalls}

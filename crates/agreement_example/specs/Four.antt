@@ -10,7 +10,7 @@ use Rattle.wire.specs.declared.Message.{Message}
 use Rattle.wire.specs.declared.Message.the-variants.{Send, Echo, Ready, Commit}
 use Rattle.calls.specs.Machine.{Call, opening, delivery, report}
 use Rattle.calls.specs.Engine.{engine, Agreed}
-use Rattle.agreement_example.specs.Example.{Example, FromAny}
+use Rattle.agreement_check.specs.Example.{Example, FromAny}
 use Rattle.calls.specs.Given.{bytesOf}
 use Rattle.agreement_example.specs.Messages.{inputFive, openingFive, deliver, turnOf}
 

@@ -11,7 +11,7 @@ use Rattle.wire.specs.declared.Message.the-variants.{Send}
 use Rattle.calls.specs.Machine.{Call, opening, restore}
 use Rattle.agreement.specs.DemandThree.{Conditions}
 use Rattle.calls.specs.Engine.{engine, Agreed}
-use Rattle.agreement_example.specs.Example.{FromAny}
+use Rattle.agreement_check.specs.Example.{FromAny}
 use Rattle.agreement_example.specs.Messages.{openingFive, deliver, turnOf}
 use Rattle.agreement_example.specs.One.{session, everyone}
 use Rattle.agreement_example.specs.PowerLost.{firstLine, from}

@@ -14,7 +14,7 @@ use Rattle.settings.specs.Settings.{UNNAMED}
 use Rattle.agreement.specs.Honest.{Honest, liars}
 use Rattle.calls.specs.Machine.{Call, opening, report, words}
 use Rattle.calls.specs.Engine.{engine, Agreed}
-use Rattle.agreement_example.specs.Example.{Shown, Supposed, FromAny}
+use Rattle.agreement_check.specs.Example.{Shown, Supposed, FromAny}
 use Rattle.agreement_example.specs.Messages.{inputFive, openingFive, deliver}
 use Rattle.agreement_example.specs.Weighted.{firstTwo, turns, toBoth, fromBoth}
 

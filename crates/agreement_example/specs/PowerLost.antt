@@ -13,7 +13,7 @@ use Rattle.wire.specs.declared.Message.the-variants.{Send, Echo, Ready, Commit}
 use Rattle.journal.specs.Lines.{LETTER-D, LETTER-T, openingLine, turnLine}
 use Rattle.calls.specs.Machine.{Call, opening, report, restore}
 use Rattle.calls.specs.Engine.{engine, RestoreLent}
-use Rattle.agreement_example.specs.Example.{Example, FromAny}
+use Rattle.agreement_check.specs.Example.{Example, FromAny}
 use Rattle.agreement_example.specs.Messages.{inputFive, openingFive, deliver, turnOf}
 use Rattle.agreement_example.specs.One.{session, everyone}
 

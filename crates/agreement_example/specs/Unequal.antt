@@ -10,7 +10,7 @@ use Rattle.wire.specs.declared.Message.the-variants.{Send, Echo, Ready, Est, Au
 use Rattle.opening.specs.Given.{onesGiven}
 use Rattle.calls.specs.Machine.{Call, opening, report}
 use Rattle.calls.specs.Engine.{engine, Agreed}
-use Rattle.agreement_example.specs.Example.{Example, FromAny}
+use Rattle.agreement_check.specs.Example.{Example, FromAny}
 use Rattle.agreement_example.specs.Messages.{openingWith}
 use Rattle.agreement_example.specs.Four.{firstThree, turns, toAll, fromAll}
 

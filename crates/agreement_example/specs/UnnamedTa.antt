@@ -5,7 +5,7 @@ use mathlib.Core.List.{List, [], _∷_}
 use Rattle.settings.specs.Settings.{UNNAMED}
 use Rattle.calls.specs.Machine.{Call, opening}
 use Rattle.calls.specs.Engine.{engine, Agreed}
-use Rattle.agreement_example.specs.Example.{FromAny}
+use Rattle.agreement_check.specs.Example.{FromAny}
 use Rattle.agreement_example.specs.Messages.{openingWith}
 use Rattle.agreement_example.specs.Weighted.{firstTwo}
 use Rattle.agreement_example.specs.LowTa.{closing, OverTa}

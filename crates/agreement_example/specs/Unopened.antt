@@ -12,7 +12,7 @@ use Rattle.agreement.specs.Honest.{Honest, liars}
 use Rattle.agreement.specs.Moments.{Within}
 use Rattle.calls.specs.Machine.{Call, opening, report, place}
 use Rattle.calls.specs.Engine.{engine}
-use Rattle.agreement_example.specs.Example.{Shown, Supposed, FromAny}
+use Rattle.agreement_check.specs.Example.{Shown, Supposed, FromAny}
 use Rattle.agreement_example.specs.Messages.{inputFive, openingFive}
 use Rattle.agreement_example.specs.Four.{session, firstThree}
 use Rattle.agreement_example.specs.Weighted.{turns, toBoth, fromBoth}

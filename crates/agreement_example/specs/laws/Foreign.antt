@@ -15,12 +15,12 @@ use Rattle.agreement.specs.Journals.{journal}
 use Rattle.agreement.specs.DemandThree.{Sent}
 use Rattle.calls.specs.Engine.{engine, TurnLent}
 use Rattle.calls.specs.Given.{turnWith}
-use Rattle.agreement_example.specs.Checking.{opens, listed}
+use Rattle.agreement_check.specs.Checking.{opens, listed}
 use Rattle.agreement_example.specs.laws.Computing.{checks}
-use Rattle.agreement_example.specs.Example.{Sized}
-use Rattle.agreement_example.specs.laws.Example.{passes, passes-example}
-use Rattle.agreement_example.specs.laws.Tracking.{AllSized}
-use Rattle.agreement_example.specs.laws.Tracks.{words-here, size-next, opens-sized, opened-sized, listed-honest}
+use Rattle.agreement_check.specs.Example.{Sized}
+use Rattle.agreement_check.specs.laws.Example.{passes, passes-example}
+use Rattle.agreement_check.specs.laws.Tracking.{AllSized}
+use Rattle.agreement_check.specs.laws.Tracks.{words-here, size-next, opens-sized, opened-sized, listed-honest}
 use Rattle.agreement_example.specs.Messages.{inputFive, turnOf}
 use Rattle.agreement_example.specs.Weighted.{session, firstTwo, openings, turns, toBoth, fromBoth, twice, withReadies, withAuxes, withLastAuxes, withSets, weightedCalls}
 use Rattle.agreement_example.specs.Foreign.{asFourth, asSecond, unsent, foreign, foreignCalls, OpenedAs, Uncredited, ForeignMeet}

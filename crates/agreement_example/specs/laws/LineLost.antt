@@ -21,11 +21,11 @@ use Rattle.calls.specs.Given.{bytesOf}
 use Rattle.agreement_example.specs.Messages.{inputFive, deliver}
 use Rattle.agreement_example.specs.One.{session, everyone}
 use Rattle.agreement_example.specs.PowerLost.{firstLine, from}
-use Rattle.agreement_example.specs.Checking.{Line, Entry, isOpened, wordsOf, linesOf, sameList, completeOf, restoreRight, run}
-use Rattle.agreement_example.specs.laws.Journals.{AllMatch}
-use Rattle.agreement_example.specs.laws.Tracks.{Tracks}
-use Rattle.agreement_example.specs.laws.Restores.{restores-there, restored-lines}
-use Rattle.agreement_example.specs.laws.Tracking.{run-tracks}
+use Rattle.agreement_check.specs.Checking.{Line, Entry, isOpened, wordsOf, linesOf, sameList, completeOf, restoreRight, run}
+use Rattle.agreement_check.specs.laws.Journals.{AllMatch}
+use Rattle.agreement_check.specs.laws.Tracks.{Tracks}
+use Rattle.agreement_check.specs.laws.Restores.{restores-there, restored-lines}
+use Rattle.agreement_check.specs.laws.Tracking.{run-tracks}
 use Rattle.turn_bound.specs.laws.Computing.{calls}
 use Rattle.agreement_example.specs.laws.Computing.{checks}
 use Rattle.agreement_example.specs.LineLost.{untilSent, untilGot, LineMissed}

@@ -10,7 +10,7 @@ use Rattle.turn.specs.declared.Outcome.the-variants as outcome
 use Rattle.journal.specs.Journal.{openNumber, deliverNumber, recordNumber, turnedOutcome}
 use Rattle.calls.specs.Machine.{Call, opening, delivery, turn, report, restore, recording}
 use Rattle.calls.specs.Engine.{engine, Agreed}
-use Rattle.agreement_example.specs.Checking.{Entry, Run, isOpened, wordsOf, step, run}
+use Rattle.agreement_check.specs.Checking.{Entry, Run, isOpened, wordsOf, step, run}
 
 -- the number of a turn's refusal, 0 for none
 unfoldable pub refusalOf : Outcome → ℕ

@@ -17,11 +17,11 @@ use Rattle.agreement.specs.Journals.{Moment, Journal, wrote, journal}
 use Rattle.agreement.specs.DemandThree.{Opened, Departed}
 use Rattle.calls.specs.Engine.{engine, OpeningGiven, Agreed, Bytes}
 use Rattle.agreement.specs.laws.EngineOpening.{opened-first, open-refused}
-use Rattle.agreement_example.specs.laws.Lists.{opened-later, opened-before, NoOpening, AllMeet}
-use Rattle.agreement_example.specs.Checking.{Line, Entry, Gone, isOpened, wordsOf, linesOf, withEntry, some, opens, listed}
-use Rattle.agreement_example.specs.laws.Lengths.{length-left}
-use Rattle.agreement_example.specs.laws.Entries.{opened-with, words-with, lines-with}
-use Rattle.agreement_example.specs.laws.Journals.{Matches, AllMatch, IsGone}
+use Rattle.agreement_check.specs.laws.Lists.{opened-later, opened-before, NoOpening, AllMeet}
+use Rattle.agreement_check.specs.Checking.{Line, Entry, Gone, isOpened, wordsOf, linesOf, withEntry, some, opens, listed}
+use Rattle.agreement_check.specs.laws.Lengths.{length-left}
+use Rattle.agreement_check.specs.laws.Entries.{opened-with, words-with, lines-with}
+use Rattle.agreement_check.specs.laws.Journals.{Matches, AllMatch, IsGone}
 
 module _ (start : ℕ → List ℕ) where
   -- ---- a call at its place, and elsewhere

@@ -15,7 +15,7 @@ use Rattle.journal.specs.Journal.{openNumber, turnedOutcome, turnedMessage}
 use Rattle.restore.specs.Restoring.{MESSAGE-BYTES}
 use Rattle.calls.specs.Machine.{Call, opening, delivery, turn, report, restore, recording}
 use Rattle.calls.specs.Engine.{engine, OpeningGiven, Bytes, TurnLent, BitGiven, RestoreLent, Agreed, agreed}
-use Rattle.agreement_example.specs.Bits.{boxBit}
+use Rattle.agreement_check.specs.Bits.{boxBit}
 
 -- a line of a journal: its bytes, the words after it, and the messages that its call sent, one or none
 pub record Line : Type 0 where

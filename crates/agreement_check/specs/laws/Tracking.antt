@@ -24,13 +24,13 @@ use Rattle.agreement.specs.laws.Worlds.{world}
 use Rattle.agreement.specs.Journals.{bytes, journal}
 use Rattle.agreement.specs.DemandThree.{Opened, Sent, Departed}
 use Rattle.calls.specs.Engine.{engine, OpeningGiven, Agreed, Bytes, TurnLent, BitGiven, agreed, SendsBytes}
-use Rattle.agreement_example.specs.Bits.{boxBit}
-use Rattle.agreement_example.specs.laws.Lists.{not-opened, not-departed, opened-later, opened-cases, Leaves, departed-before, departed-cases, DeliveryMeets, RecordingMeets}
-use Rattle.agreement_example.specs.Checking.{Line, Entry, Gone, isOpened, wordsOf, linesOf, sameList, among, wasSent, some, sentIn, sentBy, sameSession, opens, firstLines, deliveryLines, turnLines, recordingLines, statesAfter, goneAfter, restoreRight, listed, openingRight, deliveryRight, recordingRight, callRight, step, run}
-use Rattle.agreement_example.specs.laws.Entries.{or-second, not-of-true, same-list, same-session, lines-none}
-use Rattle.agreement_example.specs.laws.Tracks.{words-here, journal-here, words-else, journal-else, size-next, opens-sized, opened-sized, Tracks, listed-honest, entry-next, line-next}
-use Rattle.agreement_example.specs.laws.Restores.{restore-next}
-use Rattle.agreement_example.specs.laws.Journals.{SentAt, Matches, AllMatch, sent-in, sent-of, IsGone}
+use Rattle.agreement_check.specs.Bits.{boxBit}
+use Rattle.agreement_check.specs.laws.Lists.{not-opened, not-departed, opened-later, opened-cases, Leaves, departed-before, departed-cases, DeliveryMeets, RecordingMeets}
+use Rattle.agreement_check.specs.Checking.{Line, Entry, Gone, isOpened, wordsOf, linesOf, sameList, among, wasSent, some, sentIn, sentBy, sameSession, opens, firstLines, deliveryLines, turnLines, recordingLines, statesAfter, goneAfter, restoreRight, listed, openingRight, deliveryRight, recordingRight, callRight, step, run}
+use Rattle.agreement_check.specs.laws.Entries.{or-second, not-of-true, same-list, same-session, lines-none}
+use Rattle.agreement_check.specs.laws.Tracks.{words-here, journal-here, words-else, journal-else, size-next, opens-sized, opened-sized, Tracks, listed-honest, entry-next, line-next}
+use Rattle.agreement_check.specs.laws.Restores.{restore-next}
+use Rattle.agreement_check.specs.laws.Journals.{SentAt, Matches, AllMatch, sent-in, sent-of, IsGone}
 
 -- each restore of a list finds 2,048 words
 abbrev pub AllSized : List (Call engine) → Type 0

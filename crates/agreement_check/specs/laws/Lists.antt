@@ -10,7 +10,7 @@ use Rattle.agreement.specs.laws.Moments.{within-none}
 use Rattle.calls.specs.Machine.{Machine, Call, opening, delivery, turn, report, restore, recording, place, words}
 use Rattle.agreement.specs.laws.Worlds.{world}
 use Rattle.agreement.specs.DemandThree.{Opened, Sent, Departed, FallsBack, Conditions}
-use Rattle.agreement_example.specs.Bits.{boxBit}
+use Rattle.agreement_check.specs.Bits.{boxBit}
 
 module _ (M : Machine) (start : ℕ → M .Words) where
   module _ {cs : List (Call M)} (c : Call M) where

@@ -7,7 +7,7 @@ use borrow.Author.Tests.{eqb-true}
 use lib.Dec.{eqb}
 use Rattle.quorum.specs.laws.Bools.{and-left, and-right}
 use Rattle.calls.specs.Engine.{Agreed}
-use Rattle.agreement_example.specs.Checking.{Line, Entry, isOpened, wordsOf, linesOf, withEntry, sameList, sameSession}
+use Rattle.agreement_check.specs.Checking.{Line, Entry, isOpened, wordsOf, linesOf, withEntry, sameList, sameSession}
 
 -- one of two tests passed, and the first did not
 pub or-second : (a b : Bool) → a || b ≡ true → a ≡ false → b ≡ true

@@ -14,8 +14,8 @@ use Rattle.calls.specs.Machine.{Call, turn, words}
 use Rattle.agreement.specs.Journals.{Moment, Journal, newest, bytes, complete, Stands, journal}
 use Rattle.agreement.specs.DemandThree.{Opened, Sent}
 use Rattle.calls.specs.Engine.{engine, Bytes, TurnLent, SendsBytes}
-use Rattle.agreement_example.specs.Checking.{Line, Gone, among, wasSent, textOf, completeOf, keeps}
-use Rattle.agreement_example.specs.laws.Entries.{or-second, not-of-true}
+use Rattle.agreement_check.specs.Checking.{Line, Gone, among, wasSent, textOf, completeOf, keeps}
+use Rattle.agreement_check.specs.laws.Entries.{or-second, not-of-true}
 
 module _ (start : ℕ → List ℕ) (p : ℕ) where
   -- the call of a line is a turn that sent b

@@ -18,12 +18,12 @@ use Rattle.calls.specs.Machine.{Call, words}
 use Rattle.agreement.specs.laws.Worlds.{world}
 use Rattle.agreement.specs.DemandThree.{Opened}
 use Rattle.calls.specs.Engine.{engine, Agreed, ReportNames, ReportEnforces}
-use Rattle.agreement_example.specs.laws.Lists.{conditions-met, put-in-met}
-use Rattle.agreement_example.specs.Checking.{Entry, Gone, Run, isOpened, wordsOf, sameList, run}
-use Rattle.agreement_example.specs.laws.Entries.{or-second, not-of-true, same-list}
-use Rattle.agreement_example.specs.laws.Tracks.{Tracks}
-use Rattle.agreement_example.specs.laws.Tracking.{AllSized, run-tracks}
-use Rattle.agreement_example.specs.Example.{Shown, Supposed, Example, Sized}
+use Rattle.agreement_check.specs.laws.Lists.{conditions-met, put-in-met}
+use Rattle.agreement_check.specs.Checking.{Entry, Gone, Run, isOpened, wordsOf, sameList, run}
+use Rattle.agreement_check.specs.laws.Entries.{or-second, not-of-true, same-list}
+use Rattle.agreement_check.specs.laws.Tracks.{Tracks}
+use Rattle.agreement_check.specs.laws.Tracking.{AllSized, run-tracks}
+use Rattle.agreement_check.specs.Example.{Shown, Supposed, Example, Sized}
 use Rattle.report.specs.declared.Answer.the-variants as answer
 
 -- an answer of the report with these words for the sets: Exit k names X, and X is in force

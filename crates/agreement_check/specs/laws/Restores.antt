@@ -18,11 +18,11 @@ use Rattle.agreement.specs.DemandThree.{FallsBack}
 use Rattle.calls.specs.Engine.{engine, Agreed, RestoreLent}
 use Rattle.agreement.specs.EngineRestores.{Gives, RestoreGives}
 use Rattle.agreement.specs.laws.EngineRestores.{restore-gives}
-use Rattle.agreement_example.specs.laws.Lists.{departed-before, conditions-met}
-use Rattle.agreement_example.specs.Checking.{Line, Entry, Gone, isOpened, linesOf, sameList, textOf, completeOf, some, lastWords, keeps, statesAfter, restoreRight}
-use Rattle.agreement_example.specs.laws.Entries.{same-list}
-use Rattle.agreement_example.specs.laws.Tracks.{words-here, journal-here, words-else, Tracks, entry-next}
-use Rattle.agreement_example.specs.laws.Journals.{AllMatch, bytes-same, complete-same, sent-in, sent-of, kept-sent}
+use Rattle.agreement_check.specs.laws.Lists.{departed-before, conditions-met}
+use Rattle.agreement_check.specs.Checking.{Line, Entry, Gone, isOpened, linesOf, sameList, textOf, completeOf, some, lastWords, keeps, statesAfter, restoreRight}
+use Rattle.agreement_check.specs.laws.Entries.{same-list}
+use Rattle.agreement_check.specs.laws.Tracks.{words-here, journal-here, words-else, Tracks, entry-next}
+use Rattle.agreement_check.specs.laws.Journals.{AllMatch, bytes-same, complete-same, sent-in, sent-of, kept-sent}
 
 module _ (start : ℕ → List ℕ) (S : Agreed) (H : ℕ → Bool) (v : ℕ → ℕ) {cs : List (Call engine)} {xs : List Entry} {gs : List Gone} (x : Tracks start S H v cs xs gs) where
   module _ (p : ℕ) (u : List ℕ) (r : RestoreLent) (sized : length u ≡ stateWords) (k : isOpened xs p ≡ true) (right : restoreRight r (linesOf xs p) ≡ true) where
