@@ -30,14 +30,14 @@ use Rattle.turn.specs.laws.Due.{due-told}
 use Rattle.turn.specs.Turn.{applied, admits, wordsFor, turnWords}
 use Rattle.turn.specs.Turn as turn-specs
 use Rattle.turn.specs.laws.Frame.{Placed, told-placed, Kept, setting, beyond, length-applied, applied-idle, applied-other, applied-kept, applied-turns}
-use Rattle.turn_bound.specs.TurnBound.{Step, after}
 use Rattle.turn_bound.specs.laws.Raising.{counted-mark}
 use Rattle.turn_bound.specs.laws.Sound.{sound-state}
 use Rattle.turn_bound.specs.laws.Turning.{turn-sound}
 use Rattle.held.specs.laws.Held.{COMMIT}
 use Rattle.held.specs.laws.Keeping.{kept-holding, held-back}
 use Rattle.held.specs.laws.Staying.{Stays, stays-kept}
-use Rattle.costliest.specs.Calls.{each, turns}
+use Rattle.costliest.specs.Calls.{Calls, each, turns}
+use Rattle.costliest.specs.laws.Words.{after, turn-after}
 use Rattle.costliest.specs.laws.Saying.{settings, Good, ruled}
 use Rattle.costliest.specs.laws.Hearing.{Prepared, heard-stable}
 
@@ -132,10 +132,10 @@ module _ (n : ℕ) (two : 2 ≤ n) (low : 1 ≤ n) (few : n ≤ 16) (begin : Lis
       at true d (inr e) = absurd (true≢false (sym d ∙ e))
       at false d e = record { ready = next-ready s (y .ready); acted = inr (rw (applied-idle s (due (settings n) s) d) d) }
 
-  pub turns-turning : (k : ℕ) (cs : List Step) → Prepared n low few begin (after begin cs) → Turning (word (after begin cs) turnsAt) k (after begin (turns k cs))
-  unfolding turns each after
+  pub turns-turning : (k : ℕ) (cs : Calls) → Prepared n low few begin (after begin cs) → Turning (word (after begin cs) turnsAt) k (after begin (turns k cs))
+  unfolding turns each
   turns-turning zero cs y = record { ready = y; acted = inl (omega arith) }
   turns-turning (suc k) cs y = of (turns-turning k cs y)
     where
-      of : Turning (word (after begin cs) turnsAt) k (after begin (turns k cs)) → Turning (word (after begin cs) turnsAt) (suc k) (turnWords (after begin (turns k cs)) (length (blank 140)))
-      of z = rw (turn-words n 1 low few (after begin (turns k cs)) (z .ready .good)) (next-turn (word (after begin cs) turnsAt) k (after begin (turns k cs)) z)
+      of : Turning (word (after begin cs) turnsAt) k (after begin (turns k cs)) → Turning (word (after begin cs) turnsAt) (suc k) (after begin (turns (suc k) cs))
+      of z = rw (turn-after begin (blank 140) (turns k cs), turn-words n 1 low few (after begin (turns k cs)) (z .ready .good)) (next-turn (word (after begin cs) turnsAt) k (after begin (turns k cs)) z)
