@@ -45,7 +45,9 @@ use Rattle.restore.specs.Complete.{linesOf, joined}
 use Rattle.restore.specs.Restoring.{Replay, wrong, right, replay, lengthAgain, replayAnswer, lentAnswer, restoreAnswer}
 use Rattle.restore.specs.declared.Restored.{Restored}
 use Rattle.restore.specs.declared.Restored.the-variants as restore
-use Rattle.cabi.specs.Answers.{entryNumber, outcomeNumber, figuresNumber, reportNumber, restoredNumber, bitValue, replyNumber}
+use Rattle.cabi.specs.Answers.{entryNumber, outcomeNumber, figuresNumber, reportNumber}
+use Rattle.cabi.specs.Restored.{restoredNumber}
+use Rattle.cabi.specs.Replies.{bitValue, replyNumber}
 
 -- the length of a line that is written, and of a message that is given again
 abbrev pub lineLength : Entry → ℕ

@@ -36,7 +36,9 @@ use Rattle.report.specs.declared.Admitted.the-variants as report-admitted
 use Rattle.restore.specs.Complete.{linesOf, joined}
 use Rattle.restore.specs.Restoring.{Replay, wrong, right, replay, replayAnswer, replayWords, replayBytes, lentAnswer, restoreAnswer, restoredWords, restoredBytes}
 use Rattle.restore.specs.declared.Restored.the-variants as restore
-use Rattle.cabi.specs.Answers.{entryNumber, outcomeNumber, reportNumber, restoredNumber, replyNumber}
+use Rattle.cabi.specs.Answers.{entryNumber, outcomeNumber, reportNumber}
+use Rattle.cabi.specs.Restored.{restoredNumber}
+use Rattle.cabi.specs.Replies.{replyNumber}
 use Rattle.call_laws.specs.Parts.{Refused}
 use Rattle.call_laws.specs.Keeping.{OpeningKeeps, DeliveryKeeps, RecordingKeeps, TurnKeeps, ReportKeeps, RestoreKeeps, BoxOpeningKeeps, RequestKeeps, RefusalsKeep}
 use Rattle.call_laws.specs.laws.Turns.{taken, act-taken}
