@@ -3,10 +3,10 @@
 use Prim.Native.Nat.{ℕ, _+_, _*_, _≤_, _<_}
 use mathlib.Core.Bool.{Bool, true}
 use mathlib.Core.Path.{_≡_}
+use Rattle.settings.specs.Settings.{weighed}
 use Rattle.settings.specs.Rules.{Ruled}
 use Rattle.settings.specs.declared.Settings.{Settings}
-use Rattle.quorum.specs.Total.{total, everyone}
-use Rattle.quorum.specs.Weights.{weightOf}
+use Rattle.quorum.specs.Total.{everyone}
 use Rattle.agreement.specs.Honest as honest
 
 -- the session's settings, who is honest, and the coin of a vote and a round
@@ -17,7 +17,7 @@ pub record World : Type 0 where
 
 -- what the members of a set count: the weights of the senders. Every count of senders goes through here.
 abbrev pub weigh : World → (ℕ → Bool) → ℕ
-weigh W M = total (weightOf (W .settings .weights)) M (W .settings .n)
+weigh W M = weighed (W .settings) M
 
 abbrev pub whole : World → ℕ
 whole W = weigh W everyone

@@ -10,7 +10,7 @@ use Rattle.acts.specs.declared.View.{View}
 use Rattle.acts.specs.declared.View.the-variants.{Only, Both}
 use Rattle.votes.specs.Votes.{estimate, coinValue}
 use Rattle.broadcasts.specs.declared.Output.the-variants.{Value}
-use Rattle.exits.specs.Exits.{Standing, exitAt}
+use Rattle.exits.specs.Standing.{Standing, exitAt}
 use Rattle.settings.specs.declared.Settings.{Settings}
 use Rattle.agreement.specs.Evidence.{World, whole, Honest, Backed}
 

@@ -2,8 +2,8 @@
 use Prim.Native.Nat.{ℕ, _≤_}
 use mathlib.Core.Bool.{Bool, true, not}
 use mathlib.Core.Path.{_≡_}
+use Rattle.settings.specs.Settings.{weighed}
 use Rattle.settings.specs.declared.Settings.{Settings}
-use Rattle.quorum.specs.Weights.{weigh}
 
 -- "Honest are any chosen numbers from 1 to n": those of H
 pub record Honest (g : Settings) (H : ℕ → Bool) (m : ℕ) : Type 0 where
@@ -13,4 +13,4 @@ pub record Honest (g : Settings) (H : ℕ → Bool) (m : ℕ) : Type 0 where
 
 -- what the liars count: "the others are the liars", by their weights
 abbrev pub liars : Settings → (ℕ → Bool) → ℕ
-liars g H = weigh (g .weights) (λ m. not (H m)) (g .n)
+liars g H = weighed g (λ m. not (H m))

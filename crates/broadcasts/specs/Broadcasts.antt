@@ -14,7 +14,7 @@ use Rattle.broadcasts.specs.declared.Output.the-variants.{Value, Nothing
 
 -- "A broadcast has output v when n−ts senders' READYs hold v."
 unfoldable pub output : Settings → List ℕ → ℕ → Output
-output g s i = leading (g .weights) (readyHeld s i) (readyValue s i) (g .n) (quorum g)
+output g s i = leading g (readyHeld s i) (readyValue s i) (quorum g)
 
 -- "ECHO of the value in the instance's SEND, once for each instance."
 unfoldable pub echoAct : List ℕ → ℕ → Act
@@ -23,7 +23,7 @@ echoAct s i = cond (echoSent s i) Idle (cond (sendHeld s i) (Echo i (sendValue s
 -- "a value with n−ts ECHOs, else one with ts+1 READYs (of several, the lowest sender's)"
 unfoldable pub readyDue : Settings → List ℕ → ℕ → Output
 readyDue g s i =
-    orOutput (leading (g .weights) (echoHeld s i) (echoValue s i) (g .n) (quorum g)) (leading (g .weights) (readyHeld s i) (readyValue s i) (g .n) (repeat g))
+    orOutput (leading g (echoHeld s i) (echoValue s i) (quorum g)) (leading g (readyHeld s i) (readyValue s i) (repeat g))
 
 abbrev pub readyOf : ℕ → Output → Act
 readyOf i (Value v) = Ready i v

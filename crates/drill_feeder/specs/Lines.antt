@@ -49,12 +49,12 @@ unfoldable pub more : ℕ → ℕ
 more sent = cond (ltb sent 1600) (sent + 1) sent
 
 -- a turn that answers sent has sent one message more
-unfoldable pub counted : Outcome → Counts → Counts
-counted (outcome.Refused k) c = c
-counted outcome.Idle c = c
-counted (outcome.Sent m) c = record { sent = more (c .sent); offered = c .offered }
-counted outcome.MovedOut c = c
-counted outcome.InForce c = c
+unfoldable pub messageCounted : Outcome → Counts → Counts
+messageCounted (outcome.Refused k) c = c
+messageCounted outcome.Idle c = c
+messageCounted (outcome.Sent m) c = record { sent = more (c .sent); offered = c .offered }
+messageCounted outcome.MovedOut c = c
+messageCounted outcome.InForce c = c
 
 -- the outcome of a turn of p
 unfoldable pub outcomeAt : ℕ → Memory → Outcome
@@ -66,7 +66,7 @@ turned p (memory w m c) =
     memory
     (withState w p (turnWords (stateOf w p) (length (roomFor m (c .sent)))))
     (withRoom m (c .sent) (turnBytes (stateOf w p) (roomFor m (c .sent))))
-    (counted (turnOutcome (stateOf w p) (length (roomFor m (c .sent)))) c)
+    (messageCounted (turnOutcome (stateOf w p) (length (roomFor m (c .sent)))) c)
 
 -- neither "idle or closed"
 unfoldable pub goesOn : Outcome → Bool

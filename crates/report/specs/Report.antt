@@ -21,7 +21,7 @@ use Rattle.report.specs.declared.Answer.the-variants.{Refused, Given}
 -- "n−ts senders' COMMITs hold the same set. The set is in force; the session is closed here." Read afresh from the COMMITs held;
 -- [] is none: before closing, and where a state closed by other means has no such set
 unfoldable pub inForceSet : Settings → List ℕ → List ℕ
-inForceSet g s = cond (closed s) (leadingSet (g .weights) s (g .n) (quorum g)) []
+inForceSet g s = cond (closed s) (leadingSet g s (quorum g)) []
 
 -- the exit, 0 for none; how many values it names and how many are in force; "The count stored and reported is the number of turns
 -- since opening that did not answer idle"
@@ -45,28 +45,20 @@ admits s namedWords inForceWords =
     (cond (ltb namedWords setWords || ltb inForceWords setWords) (admitted.Refused SHORT)
     (admitted.Open (settingsOf s)))
 
--- "A refusal yields its number and nothing else; state and buffers are untouched."
-unfoldable pub answerFor : Admitted → List ℕ → Answer
-answerFor (admitted.Refused k) s = Refused k
-answerFor (admitted.Open g) s = Given (figuresOf g s)
+-- what a refusal gives by its number, or the report under the settings
+unfoldable pub giving : {A : Type 0} → Admitted → (ℕ → A) → (Settings → A) → A
+giving (admitted.Refused k) refused given = refused k
+giving (admitted.Open g) refused given = given g
 
--- "a success writes .. a set's own words, and no others"
-unfoldable pub namedFor : Admitted → List ℕ → List ℕ → List ℕ
-namedFor (admitted.Refused k) s old = old
-namedFor (admitted.Open g) s old = atFront (exitNow g s .names) old
-
-unfoldable pub inForceFor : Admitted → List ℕ → List ℕ → List ℕ
-inForceFor (admitted.Refused k) s old = old
-inForceFor (admitted.Open g) s old = atFront (inForceSet g s) old
-
--- the answer of a report that is lent so many words for each set
+-- the answer of a report that is lent so many words for each set: "A refusal yields its number and nothing else; state and buffers are
+-- untouched."
 unfoldable pub reportAnswer : List ℕ → ℕ → ℕ → Answer
-reportAnswer s namedWords inForceWords = answerFor (admits s namedWords inForceWords) s
+reportAnswer s namedWords inForceWords = giving (admits s namedWords inForceWords) Refused (λ g. Given (figuresOf g s))
 
--- the words lent for the set that the exits name, after the call
+-- the words lent for the set that the exits name, after the call: "a success writes .. a set's own words, and no others"
 unfoldable pub reportNamed : List ℕ → List ℕ → ℕ → List ℕ
-reportNamed s named inForceWords = namedFor (admits s (length named) inForceWords) s named
+reportNamed s named inForceWords = giving (admits s (length named) inForceWords) (λ k. named) (λ g. atFront (exitNow g s .names) named)
 
 -- the words lent for the set in force, after the call
 unfoldable pub reportInForce : List ℕ → ℕ → List ℕ → List ℕ
-reportInForce s namedWords inForce = inForceFor (admits s namedWords (length inForce)) s inForce
+reportInForce s namedWords inForce = giving (admits s namedWords (length inForce)) (λ k. inForce) (λ g. atFront (inForceSet g s) inForce)

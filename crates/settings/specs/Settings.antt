@@ -3,6 +3,7 @@
 use Prim.Native.Nat.{ℕ, _+_, _*_, _-_, min}
 use mathlib.Core.Bool.{Bool, _&&_, cond}
 use lib.Dec.{eqb, ltb, leb}
+use Rattle.quorum.specs.Weights.{weigh}
 use Rattle.quorum.specs.Whole.{wholeOf, weightsRight}
 use Rattle.settings.specs.declared.Settings.{Settings}
 
@@ -34,6 +35,10 @@ settingsFrom n ta ts w = record { n = n; ta = ta; ts = ts; whole = wholeOf w n; 
 -- .. where ta is the one given
 abbrev pub settingsNamed : ℕ → ℕ → ℕ → ℕ → Settings
 settingsNamed n ta ts w = settingsFrom n (namedTa n ta ts w) ts w
+
+-- the weight of those of the concentrators 1 to n for which x holds (request N11)
+abbrev pub weighed : Settings → (ℕ → Bool) → ℕ
+weighed g x = weigh (g .weights) x (g .n)
 
 -- "n−ts senders' COMMITs", "n−ts ECHOs", "n−ts senders' READYs", "at least n−ts broadcasts"
 unfoldable pub quorum : Settings → ℕ

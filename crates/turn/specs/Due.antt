@@ -18,7 +18,7 @@ use Rattle.commits.specs.Commits.{setLeader, leadingSet}
 
 -- 1. "In force: n−ts senders' COMMITs hold the same set."
 unfoldable pub inForceRule : Settings → List ℕ → Act
-inForceRule g s = cond (eqb (setLeader (g .weights) s (g .n) (quorum g)) 0) Idle InForce
+inForceRule g s = cond (eqb (setLeader g s (quorum g)) 0) Idle InForce
 
 -- one set, or another where it is none
 unfoldable pub orSet : List ℕ → List ℕ → List ℕ
@@ -27,7 +27,7 @@ orSet (x ∷ xs) ys = x ∷ xs
 
 -- 2. "the set the exits name, else a set held from ts+1 senders (of several, the lowest sender's)"; none is []
 unfoldable pub commitDue : Settings → List ℕ → List ℕ
-commitDue g s = orSet (exitNow g s .names) (leadingSet (g .weights) s (g .n) (repeat g))
+commitDue g s = orSet (exitNow g s .names) (leadingSet g s (repeat g))
 
 unfoldable pub commitOf : List ℕ → Act
 commitOf [] = Idle

@@ -101,25 +101,18 @@ bytesAfter x s (outcome.Sent m) out = atFront (encode m (x .own) (x .number) (co
 bytesAfter x s outcome.MovedOut out = out
 bytesAfter x s outcome.InForce out = out
 
--- outcome, words and bytes of a turn that is admitted or refused
-unfoldable pub outcomeFor : Admitted → List ℕ → Outcome
-outcomeFor (admitted.Refused k) s = outcome.Refused k
-outcomeFor (admitted.Open x) s = outcomeOf (x .own) s (due (x .settings) s)
+-- what a refusal gives by its number, or the session's turn
+unfoldable pub taking : {A : Type 0} → Admitted → (ℕ → A) → (Session → A) → A
+taking (admitted.Refused k) refused taken = refused k
+taking (admitted.Open x) refused taken = taken x
 
-unfoldable pub wordsFor : Admitted → List ℕ → List ℕ
-wordsFor (admitted.Refused k) s = s
-wordsFor (admitted.Open x) s = applied s (due (x .settings) s)
-
-unfoldable pub bytesFor : Admitted → List ℕ → List ℕ → List ℕ
-bytesFor (admitted.Refused k) s out = out
-bytesFor (admitted.Open x) s out = bytesAfter x s (outcomeOf (x .own) s (due (x .settings) s)) out
-
--- the answer, the words and the bytes of a turn lent the bytes out
+-- The answer, the words and the bytes of a turn lent the bytes out. "A refusal yields its number and nothing else; state and buffers are
+-- untouched."
 unfoldable pub turnOutcome : List ℕ → ℕ → Outcome
-turnOutcome s room = outcomeFor (admits s room) s
+turnOutcome s room = taking (admits s room) outcome.Refused (λ x. outcomeOf (x .own) s (due (x .settings) s))
 
 unfoldable pub turnWords : List ℕ → ℕ → List ℕ
-turnWords s room = wordsFor (admits s room) s
+turnWords s room = taking (admits s room) (λ k. s) (λ x. applied s (due (x .settings) s))
 
 unfoldable pub turnBytes : List ℕ → List ℕ → List ℕ
-turnBytes s out = bytesFor (admits s (length out)) s out
+turnBytes s out = taking (admits s (length out)) (λ k. out) (λ x. bytesAfter x s (outcomeOf (x .own) s (due (x .settings) s)) out)

@@ -3,9 +3,8 @@ use Prim.Native.Nat.{ℕ, min}
 use mathlib.Core.Bool.{Bool, true, false, _&&_, _||_, cond}
 use mathlib.Core.List.{List}
 use lib.Dec.{eqb, leb, ltb}
-use Rattle.settings.specs.Settings.{voteQuorum, relay, accept, roundLimit}
+use Rattle.settings.specs.Settings.{weighed, voteQuorum, relay, accept, roundLimit}
 use Rattle.settings.specs.declared.Settings.{Settings}
-use Rattle.quorum.specs.Weights.{weigh}
 use Rattle.records.specs.Records.{estHeld, auxHeld, round, estSent, auxSent, decidedOne, coinKnown}
 use Rattle.acts.specs.Acts.{orAct, firstAct}
 use Rattle.acts.specs.declared.Act.{Act}
@@ -15,7 +14,7 @@ use Rattle.acts.specs.declared.View.the-variants.{Only, Both}
 
 -- the weight of the senders whose ESTs of b are held in round r of vote i
 unfoldable pub estCount : Settings → List ℕ → ℕ → ℕ → ℕ → ℕ
-estCount g s i r b = weigh (g .weights) (estHeld s i r b) (g .n)
+estCount g s i r b = weighed g (estHeld s i r b)
 
 -- "A value is accepted in a round when 2·ta+1 senders' ESTs hold it."
 unfoldable pub accepted : Settings → List ℕ → ℕ → ℕ → ℕ → Bool
@@ -23,7 +22,7 @@ accepted g s i r b = leb (accept g) (estCount g s i r b)
 
 -- "s counts votes decided 1", each by its weight
 unfoldable pub votesDecidedOne : Settings → List ℕ → ℕ
-votesDecidedOne g s = weigh (g .weights) (decidedOne s) (g .n)
+votesDecidedOne g s = weighed g (decidedOne s)
 
 -- "Vote i starts with 1 if broadcast i has output, else with 0 once s ≥ n−ta"; its round is 0 before
 unfoldable pub startAct : Settings → List ℕ → Bool → ℕ → ℕ → Act
@@ -62,11 +61,11 @@ carries g s i r p = (accepted g s i r 0 && auxHeld s i r 0 p) || (accepted g s i
 
 -- the weight of the senders whose held AUXs carry accepted values
 unfoldable pub carriers : Settings → List ℕ → ℕ → ℕ → ℕ
-carriers g s i r = weigh (g .weights) (carries g s i r) (g .n)
+carriers g s i r = weighed g (carries g s i r)
 
 -- the weight of the senders whose held AUXs carry b
 unfoldable pub auxCount : Settings → List ℕ → ℕ → ℕ → ℕ → ℕ
-auxCount g s i r b = weigh (g .weights) (auxHeld s i r b) (g .n)
+auxCount g s i r b = weighed g (auxHeld s i r b)
 
 -- b is carried: it is accepted, and an AUX of b is held
 unfoldable pub carried : Settings → List ℕ → ℕ → ℕ → ℕ → Bool

@@ -18,7 +18,7 @@ use Rattle.delivery.specs.declared.Verdict.the-variants.{Refused, Accepted}
 use Rattle.quorum.specs.Marks.{withMark}
 use Rattle.recording.specs.Recording.{bitMark, recordAnswer, withBit, recordedWords}
 use Rattle.turn.specs.Due.{due}
-use Rattle.turn.specs.Turn.{admits, wordsFor, turnWords}
+use Rattle.turn.specs.Turn.{admits, taking, turnWords}
 use Rattle.turn.specs.laws.Frame.{length-applied}
 use Rattle.turn.specs.declared.Admitted.{Admitted}
 use Rattle.turn.specs.declared.Admitted.the-variants as admitted
@@ -44,12 +44,12 @@ length-delivered s link b = go (verdict s link b)
     go (Accepted m) = length-recorded s (drop 12 b) link m
 
 length-turned : (s : List ℕ) (room : ℕ) → length (turnWords s room) ≡ length s
-unfolding turnWords wordsFor
-length-turned s room = go (admits s room)
+unfolding taking turnWords
+length-turned s room = go (admits s room) refl
   where
-    go : (x : Admitted) → length (wordsFor x s) ≡ length s
-    go (admitted.Refused k) = refl
-    go (admitted.Open x) = length-applied s (due (x .settings) s)
+    go : (x : Admitted) → admits s room ≡ x → length (turnWords s room) ≡ length s
+    go (admitted.Refused k) e = rw e
+    go (admitted.Open x) e = rw e (length-applied s (due (x .settings) s))
 
 length-recording : (s : List ℕ) (i r b : ℕ) → length (recordedWords s i r b) ≡ length s
 unfolding recordedWords withBit setMark

@@ -1,5 +1,5 @@
 -- Turns after all messages are held: each acts, until nothing is due.
-use Prim.Native.Nat.{ℕ, zero, suc, _+_, _-_, _^_, _≤_}
+use Prim.Native.Nat.{ℕ, zero, suc, _+_, _≤_}
 use mathlib.Core.Bool.{Bool, true, false, _&&_, true≢false}
 use mathlib.Core.List.{List}
 use mathlib.Core.Logic.{_⊎_, inl, inr}
@@ -27,7 +27,7 @@ use Rattle.session.specs.declared.Stored.the-variants.{Held}
 use Rattle.turn.specs.laws.Told.{ActTold}
 use Rattle.turn.specs.Due.{due}
 use Rattle.turn.specs.laws.Due.{due-told}
-use Rattle.turn.specs.Turn.{applied, admits, wordsFor, turnWords}
+use Rattle.turn.specs.Turn.{applied, admits, taking, turnWords}
 use Rattle.turn.specs.Turn as turn-specs
 use Rattle.turn.specs.laws.Frame.{Placed, told-placed, Kept, setting, beyond, length-applied, applied-idle, applied-other, applied-kept, applied-turns}
 use Rattle.turn_bound.specs.laws.Raising.{counted-mark}
@@ -58,7 +58,7 @@ module _ (n c : ℕ) (low : 1 ≤ n) (few : n ≤ 16) (s : List ℕ) (x : Good n
   is-stored = rw (sound-state (settings n) (ruled n c low few) s (x .sound))
 
   pub turn-words : turnWords s (length (blank 140)) ≡ applied s a
-  unfolding turnWords wordsFor admits sessionOf sessionWith
+  unfolding taking turnWords admits sessionOf sessionWith
   turn-words = rw (sound-state (settings n) (ruled n c low few) s (x .sound), x .unclosed, length-blank 140, x .sound .settings)
 
   same : (j : ℕ) → Kept j → word (applied s a) j ≡ word s j
@@ -87,8 +87,8 @@ module _ (n : ℕ) (two : 2 ≤ n) (low : 1 ≤ n) (few : n ≤ 16) (s : List �
   unfolding setHolders quorum
   not-in-force h =
       let p = h .sender in
-      let same : setHolders (2 ^ n - 1) s n p ≡ count (λ q. commitHeld s q && sameSet s p q) n = ones-count n (λ q. commitHeld s q && sameSet s p q) few in
-      let all : setHolders (2 ^ n - 1) s n p ≡ n = omega (arith, h .holds .enough, count-le (λ q. commitHeld s q && sameSet s p q) n, ones-whole n few) in
+      let same : setHolders (settings n) s p ≡ count (λ q. commitHeld s q && sameSet s p q) n = ones-count n (λ q. commitHeld s q && sameSet s p q) few in
+      let all : setHolders (settings n) s p ≡ n = omega (arith, h .holds .enough, count-le (λ q. commitHeld s q && sameSet s p q) n, ones-whole n few) in
       let there : commitHeld s 2 ≡ true = and-left (commitHeld s 2) (sameSet s p 2) (count-all (λ q. commitHeld s q && sameSet s p q) n 2 (sym same ∙ all) (omega arith) two) in
       let one = x .allowed 2 (COMMIT (commitSet s 2)) (record { low = omega arith; high = omega arith }) (record { there = there; same = refl }) in
       omega (arith, one .1)

@@ -161,11 +161,11 @@ module _ (n : ℕ) (two : 2 ≤ n) (low : 1 ≤ n) (few : n ≤ 16) (s : List �
   set-of p lo hi =
       good .allowed p (COMMIT (commitSet (after first last) p)) (record { low = lo; high = omega arith }) (record { there = all-committed p lo hi; same = refl }) .0
 
-  leads : setLeads (2 ^ n - 1) (after first last) n n 1 ≡ true
+  leads : setLeads (settings n) (after first last) n 1 ≡ true
   unfolding setLeads setHolders
   leads =
       and-both (commitHeld (after first last) 1) _ (all-committed 1 (omega arith) low)
-      (le-leb n (setHolders (2 ^ n - 1) (after first last) n 1) (omega (
+      (le-leb n (setHolders (settings n) (after first last) 1) (omega (
         arith,
         ones-count n (λ q. commitHeld (after first last) q && sameSet (after first last) 1 q) few ∙ all-count (λ q. commitHeld (after first last) q && sameSet (after first last) 1 q) n
             (λ q lo hi. and-both (commitHeld (after first last) q) (sameSet (after first last) 1 q) (all-committed q lo hi)
@@ -176,13 +176,13 @@ module _ (n : ℕ) (two : 2 ≤ n) (low : 1 ≤ n) (few : n ≤ 16) (s : List �
   unfolding quorum
   quorum-all = omega (arith, ones-whole n few)
 
-  leader : setLeader (2 ^ n - 1) (after first last) n n ≢ 0
+  leader : setLeader (settings n) (after first last) n ≢ 0
   unfolding setLeader
-  leader z = true≢false (sym leads ∙ lowest-none (setLeads (2 ^ n - 1) (after first last) n n) n z 1 (omega arith) low)
+  leader z = true≢false (sym leads ∙ lowest-none (setLeads (settings n) (after first last) n) n z 1 (omega arith) low)
 
   rule : inForceRule (settings n) (after first last) ≡ InForce
   unfolding inForceRule
-  rule = rw (quorum-all, ne-eqb (setLeader (2 ^ n - 1) (after first last) n n) 0 leader)
+  rule = rw (quorum-all, ne-eqb (setLeader (settings n) (after first last) n) 0 leader)
 
   in-force : isDue (due (settings n) (after first last)) ≡ true
   unfolding due orAct

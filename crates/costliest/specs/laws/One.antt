@@ -115,7 +115,7 @@ module _ (s : List ℕ) (q : Quiet s) where
   due-no-vote : NoVote (due alone s)
   unfolding due inForceRule commitRule commitOf sendRule
   due-no-vote =
-      all-or NoVote (inForceRule alone s) _ (all-cond NoVote (eqb (setLeader 1 s 1 (quorum alone)) 0) Idle InForce (λ e. tt) (λ e. tt))
+      all-or NoVote (inForceRule alone s) _ (all-cond NoVote (eqb (setLeader alone s (quorum alone)) 0) Idle InForce (λ e. tt) (λ e. tt))
       (all-or NoVote (commitRule alone s) _ (all-cond NoVote (commitSent s) Idle (commitOf (commitDue alone s)) (λ e. tt) (λ e. set (commitDue alone s)))
       (all-or NoVote (sendRule s) _ (all-cond NoVote (sendSent s) Idle (Send (word s 5)) (λ e. tt) (λ e. tt))
       (all-or NoVote (echoRule alone s) _ (echo-rule-holds NoVote alone s tt (λ i a b e f. tt))

@@ -1,8 +1,8 @@
 -- By outcome.
 use Rattle.drill_feeder.specs.laws.RunCases.{counted-cases}
 use borrow.Author.Needs.{needs}
-use Rattle.drill_feeder.proofs.turns.counted.Statement.{statement}
-use Rattle.drill_feeder.proofs.turns.counted.Tie as tie
+use Rattle.drill_feeder.proofs.turns.message_counted.Statement.{statement}
+use Rattle.drill_feeder.proofs.turns.message_counted.Tie as tie
 
 enum-told : tie.Need-enum-told
 enum-told c = search needs
@@ -37,8 +37,8 @@ returns-4 c = search counted-cases
 returns-5 : tie.Need-returns-5
 returns-5 c = search counted-cases
 
-pub counted-spec : {M : Type 1} → statement M
-counted-spec =
+pub message-counted-spec : {M : Type 1} → statement M
+message-counted-spec =
     tie.close
     (tie.spec
     enum-told
