@@ -1,5 +1,5 @@
--- Demand 3 as claims about a whole list of calls at the honest concentrators: "The list behind demand 3", with journals and restores (request
--- N10) and recorded coins (N12). The claims are made of any machine, and of the engine.
+-- Agreement as claims about a whole list of calls at the honest concentrators, restores and recordings among them (PROTOCOL 16.3 to 16.10). The
+-- claims are made of any machine, and of the engine.
 use Prim.Native.Nat.{ℕ, _≤_}
 use mathlib.Core.Bool.{Bool, true, false}
 use mathlib.Core.List.{List, [], _∷_}
@@ -18,7 +18,7 @@ Shows M w X = M .Names w X ⊎ M .InForce w X
 
 -- of the calls on the buffers `start`
 module _ (M : Machine) (start : ℕ → M .Words) where
-  -- "Opened: its opening, under its own number, was accepted."
+  -- opened: it accepted an opening with its own number (PROTOCOL 16.5)
   pub record Opened (cs : List (Call M)) (p : ℕ) : Type 0 where
     pub given : M .Opening
     pub past : List (Call M)
@@ -26,8 +26,8 @@ module _ (M : Machine) (start : ℕ → M .Words) where
     pub numbered : M .own given ≡ p
     pub accepted : M .opens (words M start past p) given ≡ true
 
-  -- "a message that an earlier turn of the link's concentrator, after its opening, answered as sent", whose line stands in its journal: one whose
-  -- line was lost must be sent again before it leaves
+  -- what a turn of m, once opened, had sent before, and the turn's line stands in its journal (PROTOCOL 16.6): a message whose line was lost must
+  -- be sent again before it leaves
   pub record Sent (cs : List (Call M)) (m : ℕ) (b : M .Bytes) : Type 0 where
     pub lent : M .Lent
     pub past : List (Call M)
@@ -36,7 +36,7 @@ module _ (M : Machine) (start : ℕ → M .Words) where
     pub sends : M .Sends (words M start past m) lent b
 
   -- a message has left once it was delivered, also to its own sender: an opened honest one accepted it from the link of m. Of what liars got
-  -- nothing is asked.
+  -- nothing is asked (PROTOCOL 11.15).
   pub record Departed (cs : List (Call M)) (m : ℕ) (b : M .Bytes) : Type 0 where
     pub who : ℕ
     pub past : List (Call M)
@@ -44,7 +44,7 @@ module _ (M : Machine) (start : ℕ → M .Words) where
     pub opened : Opened past who
     pub accepted : M .accepts (words M start past who) m b ≡ true
 
-  -- who is restored like this stays honest
+  -- who is restored like this stays honest (PROTOCOL 16.7)
   pub record FallsBack (cs : List (Call M)) (p : ℕ) (v : M .Words) (r : M .Restore) : Type 0 where
     -- the bytes read are a front part of its own journal, cut anywhere ..
     pub cut : M .text r ≡ take (length (M .text r)) (bytes M (journal M start cs p))
@@ -61,26 +61,25 @@ module _ (M : Machine) (start : ℕ → M .Words) where
     pub opened : Opened past p
     pub accepted : M .records (words M start past p) x ≡ true
 
-  -- the conditions of demand 3 on a list of calls, beside the number of liars
+  -- the conditions on a list of calls, beside what the liars weigh (PROTOCOL 16.4 to 16.7)
   pub record Conditions (S : M .Session) (H : ℕ → Bool) (cs : List (Call M)) : Type 0 where
-    -- "Honest are any chosen numbers from 1 to n; the others are the liars, and their own calls are not listed."
+    -- all calls of the list are at honest ones, chosen freely among 1 to n; the others are liars (PROTOCOL 16.4)
     pub honest : (c : Call M) (ds : List (Call M)) → Within (c ∷ ds) cs → Honest (M .settings S) H (place M c)
-    -- "All these openings agree in n, ts, session number, coin words, and ta once 255 is read."
+    -- the openings agree in all that a session shares (PROTOCOL 16.5)
     pub agree : (p : ℕ) (o : M .Opening) (ds : List (Call M)) → Within (opening p o ∷ ds) cs → M .own o ≡ p → M .opens (words M start ds p) o ≡ true → M .session o ≡ S
-    -- "the honest ones were each opened at most once": none is accepted at an opened one, under whatever number
+    -- no opening is accepted at an opened one, under whatever number (PROTOCOL 16.5)
     pub once : (p : ℕ) (o : M .Opening) (ds : List (Call M)) → Within (opening p o ∷ ds) cs → Opened ds p → M .opens (words M start ds p) o ≡ false
-    -- "Credited: where an opened honest one accepts a delivery whose link's concentrator is honest, the bytes are exactly those of a message
-    -- that an earlier turn of the link's concentrator, after its opening, answered as sent."
+    -- what an opened honest one accepts over an honest one's link was sent there before, byte for byte (PROTOCOL 16.6)
     pub credited : (p m : ℕ) (b : M .Bytes) (ds : List (Call M)) → Within (delivery p m b ∷ ds) cs → Opened ds p → M .accepts (words M start ds p) m b ≡ true → Honest (M .settings S) H m → Sent ds m b
-    -- any other restored one is a liar: an opened honest one, restored onto whatever its buffer holds, falls back ..
+    -- any other restored one is a liar (PROTOCOL 16.7): an opened honest one, restored onto whatever its buffer holds, falls back ..
     pub falls-back : (p : ℕ) (v : M .Words) (r : M .Restore) (ds : List (Call M)) → Within (restore p v r ∷ ds) cs → Opened ds p → M .restores v r ≡ true → FallsBack ds p v r
     -- .. or, where the restore is refused and so leaves the buffer, it had lost nothing. One that lost its words has no state until a restore is
     -- accepted, and what is refused on the way changes nothing: it is not listed.
     pub not-lost : (p : ℕ) (v : M .Words) (r : M .Restore) (ds : List (Call M)) → Within (restore p v r ∷ ds) cs → Opened ds p → M .restores v r ≡ false → v ≡ words M start ds p
-    -- "the honest ones' recorded bits must agree": in a boxed session any two of one vote and round are one bit
+    -- in a boxed session honest ones record equal bits for one vote and round (PROTOCOL 16.7)
     pub coins : M .boxed S ≡ true → (p q : ℕ) (x y : M .Recording) → Recorded cs p x → Recorded cs q y → M .vote x ≡ M .vote y → M .round x ≡ M .round y → M .bit x ≡ M .bit y
 
-  -- "Put in: the own input given at that opening."
+  -- what one put in is the input of its opening (PROTOCOL 16.10)
   abbrev pub PutIn : ℕ → List (Call M) → Type 0
   PutIn v cs = (p : ℕ) (o : M .Opening) (ds : List (Call M)) → Within (opening p o ∷ ds) cs → M .own o ≡ p → M .opens (words M start ds p) o ≡ true → M .input o ≡ v
 
@@ -95,7 +94,7 @@ module _ (M : Machine) (start : ℕ → M .Words) where
 
 -- ---- the claims
 
--- "all sets that the exits name or that are in force, at whichever honest ones and after whichever calls of the list, are one and the same set"
+-- with liars of weight up to ta, any two sets named or in force, at any honest ones and after any calls of the list, are equal (PROTOCOL 16.8)
 unfoldable pub OneSet : Machine → Type 0
 OneSet M =
     (S : M .Session) (H : ℕ → Bool) → liars (M .settings S) H ≤ M .settings S .ta →
@@ -104,7 +103,7 @@ OneSet M =
     (p q : ℕ) → Opened M start ds p → Opened M start es q →
     (X Y : List ℕ) → Shows M (words M start ds p) X → Shows M (words M start es q) Y → X ≡ Y
 
--- "and none is in force that an honest one's exits had not named before"; this holds with up to ts liars
+-- with liars of weight up to ts, a set in force was named earlier by an honest one's exits (PROTOCOL 16.9)
 unfoldable pub NamedFirst : Machine → Type 0
 NamedFirst M =
     (S : M .Session) (H : ℕ → Bool) → liars (M .settings S) H ≤ M .settings S .ts →
@@ -113,8 +112,7 @@ NamedFirst M =
     (p : ℕ) → Opened M start ds p →
     (X : List ℕ) → M .InForce (words M start ds p) X → Earlier M start S H ds X
 
--- "Suppose instead .. that up to ts lie and every honest one that is opened put in the same pack: after every call of every such list no
--- honest one has a set in force other than the one holding that pack alone."; nor one that its exits name
+-- with liars of weight up to ts and one pack put in by all who are opened, only the set of that pack is in force or named (PROTOCOL 16.10)
 unfoldable pub OnlyInput : Machine → Type 0
 OnlyInput M =
     (S : M .Session) (H : ℕ → Bool) → liars (M .settings S) H ≤ M .settings S .ts →
@@ -124,12 +122,12 @@ OnlyInput M =
     (p : ℕ) → Opened M start ds p →
     (X : List ℕ) → Shows M (words M start ds p) X → X ≡ v ∷ []
 
--- demand 3, all of it
+-- agreement, all of it
 pub record DemandThree (M : Machine) : Type 0 where
   pub one-set : OneSet M
   pub named-first : NamedFirst M
   pub only-input : OnlyInput M
 
--- demand 3 of the engine
+-- agreement of the engine
 abbrev pub EngineAgrees : Type 0
 EngineAgrees = DemandThree engine

@@ -1,6 +1,6 @@
 -- For the author of a firmware: after every list of calls that meets the conditions, an opened honest one's journal, cut at any byte behind its
 -- first line, is taken, whatever the 2,048 words of the buffer are, and gives back the state after its last complete line and the message of
--- that line.
+-- that line (PROTOCOL 16.12).
 use Prim.Native.Nat.{ℕ, _≤_}
 use mathlib.Core.Bool.{Bool}
 use mathlib.Core.List.{List, [], _∷_}

@@ -1,5 +1,5 @@
 -- The world of a session, and evidence: sets of senders that are heavy enough to have honest members.
--- Thresholds stand as sums: "n−ts senders" is whole ≤ weight + ts.
+-- Thresholds stand as sums: a quorum of senders is whole ≤ weight + ts (PROTOCOL 1.14).
 use Prim.Native.Nat.{ℕ, _+_, _*_, _≤_, _<_}
 use mathlib.Core.Bool.{Bool, true}
 use mathlib.Core.Path.{_≡_}

@@ -1,4 +1,4 @@
--- Journals over a list of calls: the lines that the calls at each concentrator wrote, and what a cut leaves of them (request N10).
+-- Journals over a list of calls: the lines that the calls at each concentrator wrote, and what a cut leaves of them (PROTOCOL 11.1, 11.16).
 use Prim.Native.Nat.{ℕ}
 use mathlib.Core.Bool.{cond}
 use mathlib.Core.List.{List, [], _∷_, _++_}
@@ -49,7 +49,7 @@ module _ (M : Machine) where
   wrote (report p r) w here js = js
   -- .. after a restore the complete lines that it read: what comes next is written behind them ..
   wrote (restore p v r) w here js = cond (M .restores v r) (complete (length (M .text r)) js) js
-  -- .. and "each accepted recording, a repeat too, becomes a `K` line of the journal"
+  -- .. and one line for each accepted recording, repeats included (PROTOCOL 9.23)
   wrote (recording p x) w here js = cond (M .records w x) (here ∷ js) js
 
 module _ (M : Machine) (start : ℕ → M .Words) where

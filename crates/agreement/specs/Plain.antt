@@ -1,5 +1,5 @@
--- Sessions with printed coins: there nothing is asked of recordings, which are refused, and in lists without restores the conditions are those
--- of 01. They give those of specs/DemandThree.antt: nothing that demand 3 says of such lists is lost.
+-- Sessions with printed coins: there nothing is asked of recordings, which are refused, and in lists without restores nothing of journals. What
+-- is asked gives the conditions of specs/DemandThree.antt, so agreement holds of such lists.
 use Prim.Native.Nat.{ℕ}
 use mathlib.Core.Bool.{Bool, true, false}
 use mathlib.Core.List.{List, _∷_}
@@ -23,7 +23,7 @@ module _ (M : Machine) where
   Plain cs = (c : Call M) (ds : List (Call M)) → Within (c ∷ ds) cs → NoRestore c
 
 module _ (M : Machine) (start : ℕ → M .Words) where
-  -- "a message that an earlier turn of the link's concentrator, after its opening, answered as sent"
+  -- what a turn of m, once opened, had sent before (PROTOCOL 16.6)
   pub record Answered (cs : List (Call M)) (m : ℕ) (b : M .Bytes) : Type 0 where
     pub lent : M .Lent
     pub past : List (Call M)
@@ -44,7 +44,7 @@ module _ (M : Machine) (start : ℕ → M .Words) where
     pub falls-back : (p : ℕ) (v : M .Words) (r : M .Restore) (ds : List (Call M)) → Within (restore p v r ∷ ds) cs → Opened M start ds p → M .restores v r ≡ true → FallsBack M start ds p v r
     pub not-lost : (p : ℕ) (v : M .Words) (r : M .Restore) (ds : List (Call M)) → Within (restore p v r ∷ ds) cs → Opened M start ds p → M .restores v r ≡ false → v ≡ words M start ds p
 
-  -- the conditions of 01
+  -- the conditions where coins are printed and nobody is restored
   pub record PlainConditions (S : M .Session) (H : ℕ → Bool) (cs : List (Call M)) : Type 0 where
     pub honest : (c : Call M) (ds : List (Call M)) → Within (c ∷ ds) cs → Honest (M .settings S) H (place M c)
     pub agree : (p : ℕ) (o : M .Opening) (ds : List (Call M)) → Within (opening p o ∷ ds) cs → M .own o ≡ p → M .opens (words M start ds p) o ≡ true → M .session o ≡ S

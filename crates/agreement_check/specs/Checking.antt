@@ -1,6 +1,6 @@
--- A list of calls checked by computing it: whether each call meets the conditions of demand 3 after the calls before it. The check is
--- sound (specs/laws/Tracking.antt); it may reject a list that meets them. A restore is taken only at an opened one whose journal allows it; whether
--- it is accepted need not be computed (agreement, EngineRestores).
+-- A list of calls checked by computing it: whether each call meets the conditions of agreement (PROTOCOL 16.4 to 16.7) after the calls before it.
+-- The check is sound (specs/laws/Tracking.antt); it may reject a list that meets them. A restore is taken only at an opened one whose journal
+-- allows it; whether it is accepted need not be computed (agreement, EngineRestores).
 use Prim.Native.Nat.{ℕ}
 use mathlib.Core.Bool.{Bool, true, false, _&&_, _||_, not, cond}
 use mathlib.Core.List.{List, [], _∷_, _++_}
@@ -164,7 +164,7 @@ restoreRight r ls =
 
 -- in the session S, where H tells who is honest, and v what each puts in
 module _ (S : Agreed) (H : ℕ → Bool) (v : ℕ → ℕ) where
-  -- "Honest are any chosen numbers from 1 to n"
+  -- the honest ones are chosen freely among the numbers from 1 to n (PROTOCOL 16.4)
   unfoldable pub listed : ℕ → Bool
   listed p = leb 1 p && (leb p (S .settings .n) && H p)
 

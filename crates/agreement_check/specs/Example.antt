@@ -1,5 +1,5 @@
--- An example for demand 3: a list of calls that meets all that the demand supposes, after which every honest concentrator names a set and
--- has it in force.
+-- An example for agreement: a list of calls that meets all its conditions, after which every honest concentrator names a set and has it in
+-- force.
 use Prim.Native.Nat.{ℕ, _≤_}
 use mathlib.Core.Bool.{Bool, true}
 use mathlib.Core.List.{List, _∷_}

@@ -1,6 +1,6 @@
 -- Who is restored without the line of a message that left counts as a liar: here the SEND was delivered, and the restore reads the line of the
--- opening alone. Whichever session and whichever honest ones are chosen, the list does not meet the conditions of demand 3, so the calls of this
--- concentrator are in no list that does.
+-- opening alone. Whichever session and whichever honest ones are chosen, the list does not meet the conditions of agreement, so the calls of
+-- this concentrator are in no list that does (PROTOCOL 11.18).
 use Prim.Native.Nat.{ℕ}
 use mathlib.Core.Bool.{Bool}
 use mathlib.Core.List.{List, [], _∷_}

@@ -1,5 +1,5 @@
 -- A value that enough senders hold. The senders are 1 to n of the settings g; `held p` tells whether one is held from sender p, `value p`
--- which. Senders count by their weights (request N11).
+-- which. Senders count by their weights (PROTOCOL 3.10).
 use Prim.Native.Nat.{ℕ}
 use mathlib.Core.Bool.{Bool, true, false, _&&_, cond}
 use lib.Dec.{eqb, leb}
@@ -21,7 +21,7 @@ leads g held value q p = held p && leb q (holders g held value (value p))
 unfoldable pub valueOf : (ℕ → ℕ) → ℕ → Output
 valueOf value p = cond (eqb p 0) Nothing (Value (value p))
 
--- a value that senders of weight q hold: "of several, the lowest sender's"
+-- a value that senders of weight q hold; among several that of the lowest-numbered sender (PROTOCOL 4.1)
 unfoldable pub leading : Settings → (ℕ → Bool) → (ℕ → ℕ) → ℕ → Output
 leading g held value q = valueOf value (lowest (leads g held value q) (g .n))
 

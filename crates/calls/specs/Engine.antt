@@ -31,8 +31,7 @@ pub record OpeningGiven : Type 0 where
   pub input-fits : given .input < 2 ^ 64
   pub coins-fit : (i : ℕ) → word (given .coins) i < 2 ^ 32
 
--- "All these openings agree in n, ts, session number, coin words, and ta once 255 is read"; the weights are "compared like them" (N11), and so
--- is "whether coins are printed or boxed" (N12)
+-- what the openings of a session agree in: all that it shares (PROTOCOL 1.11)
 pub record Agreed : Type 0 where
   pub settings : Settings
   pub number : ℕ
@@ -77,7 +76,7 @@ pub record RestoreLent : Type 0 where
   pub journal : List ℕ
   pub message : List ℕ
 
--- "a report lent 16 words for each set would give the set as the exits'"
+-- the set that a report, lent 16 words for each set, gives as named (PROTOCOL 9.25)
 pub record ReportNames (w X : List ℕ) : Type 0 where
   pub lent : List ℕ
   pub room : length lent ≡ 16
@@ -86,7 +85,7 @@ pub record ReportNames (w X : List ℕ) : Type 0 where
   pub exit : figures .exit ≢ 0
   pub set : X ≡ take (figures .named) (reportNamed w lent 16)
 
--- ".. or as in force"
+-- .. and the one that it gives as in force
 pub record ReportEnforces (w X : List ℕ) : Type 0 where
   pub lent : List ℕ
   pub room : length lent ≡ 16

@@ -1,5 +1,5 @@
 -- One model of calls: what a machine takes, answers and leaves, a list of its calls at all concentrators, and the words that they leave at each.
--- The count of turns and demand 3 are claims about such lists.
+-- The count of turns (PROTOCOL 16.11) and agreement (16.8 to 16.10) are claims about such lists.
 use Prim.Native.Nat.{ℕ}
 use mathlib.Core.Bool.{Bool, cond}
 use mathlib.Core.List.{List, [], _∷_}
@@ -10,15 +10,15 @@ use Rattle.settings.specs.declared.Settings.{Settings}
 pub record Machine : Type 1 where
   -- what a state buffer holds
   pub Words : Type 0
-  -- the arguments of an opening: the own number, the own input, and what the openings of a session agree in, which is "n, ts, session
-  -- number, coin words, and ta once 255 is read", and with them the weights and "whether coins are printed or boxed"
+  -- the arguments of an opening: the own number, the own input, and what the openings of a session agree in: n, ta as it is read, ts, weights,
+  -- session number, coin words and kind of coins (PROTOCOL 1.11)
   pub Opening : Type 0
   pub own : Opening → ℕ
   pub input : Opening → ℕ
   pub Session : Type 0
   pub session : Opening → Session
   pub settings : Session → Settings
-  -- "whether coins are printed or boxed, a session setting compared like the others", and the printed coin of a vote and a round
+  -- the kind of coins, which a session shares (PROTOCOL 1.10, 1.11), and the printed coin of a vote and a round
   pub boxed : Session → Bool
   pub coin : Session → ℕ → ℕ → Bool
   -- whether an opening is accepted, and the words after it
@@ -52,12 +52,12 @@ pub record Machine : Type 1 where
   pub restored : Words → Restore → Words
   -- what a report is lent; it changes no words of the state
   pub LentSets : Type 0
-  -- "a report lent 16 words for each set would give the set as the exits', or as in force"
+  -- the set that a report, lent 16 words for each set, gives as named, and the one as in force (PROTOCOL 9.25)
   pub Names : Words → List ℕ → Type 0
   pub InForce : Words → List ℕ → Type 0
 
--- "openings, deliveries, turns and reports at the honest concentrators .. and any call on a state that a later request adds": the first
--- number is the concentrator's, that of a delivery's link follows. A restore finds any words in the buffer, since power may have been lost.
+-- the calls of all six kinds (PROTOCOL 16.4): the first number is the concentrator's, that of a delivery's link follows. A restore finds any
+-- words in the buffer, since power may have been lost.
 pub data Call (M : Machine) : Type 0 where
   opening : ℕ → M .Opening → Call M
   delivery : ℕ → ℕ → M .Bytes → Call M
@@ -85,10 +85,10 @@ module _ (M : Machine) where
   left (restore p v r) w = M .restored v r
   left (recording p x) w = M .recorded w x
 
--- "Each honest one has a state buffer of its own, holding anything at the start."
+-- every concentrator has its own buffer, whatever it first holds (PROTOCOL 16.4)
 module _ (M : Machine) (start : ℕ → M .Words) where
-  -- the words of q after the calls, newest first: "Each call there gets the words that the last one there left; nothing else writes them." Only
-  -- a restore gets whatever the buffer then holds: who lost power makes no other call before it.
+  -- the words of q after the calls, newest first: a call finds what the last call there left (PROTOCOL 16.4). Only a restore gets whatever the
+  -- buffer then holds: who lost power makes no other call before it.
   unfoldable pub words : List (Call M) → ℕ → M .Words
   words [] q = start q
   words (c ∷ cs) q = cond (eqb q (place M c)) (left M c (words cs q)) (words cs q)

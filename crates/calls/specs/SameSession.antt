@@ -3,7 +3,7 @@ use mathlib.Core.Path.{_≡_}
 use Rattle.opening.specs.Arguments.{Arguments, weightsBy, taBy}
 use Rattle.calls.specs.Engine.{agreed}
 
--- "n, ts, session number, coin words, and ta once 255 is read", the weights, and whether coins are printed or boxed
+-- n, ta as it is read, ts, weights, session number, coin words and kind of coins (PROTOCOL 1.11)
 pub record Alike (o p : Arguments) : Type 0 where
   pub n : o .n ≡ p .n
   pub ta : taBy o ≡ taBy p

@@ -1,5 +1,5 @@
--- The sets that COMMITs hold: rules 1 and 2 of the turn order. The senders are 1 to n of the settings g and count by their weights (request
--- N11).
+-- The sets that COMMITs hold, for rules 1 and 2 of the turn order: PROTOCOL, section 7. The senders are 1 to n of the settings g and count by
+-- their weights.
 use Prim.Native.Nat.{ℕ}
 use mathlib.Core.Bool.{Bool, _&&_, cond}
 use mathlib.Core.List.{List, []}
@@ -36,6 +36,6 @@ setLeader g s k = lowest (setLeads g s k) (g .n)
 unfoldable pub setOf : List ℕ → ℕ → List ℕ
 setOf s p = cond (eqb p 0) [] (commitSet s p)
 
--- "a set held from .. senders (of several, the lowest sender's)"
+-- a set that senders of weight k hold; among several that of the lowest-numbered sender (PROTOCOL 7.2)
 unfoldable pub leadingSet : Settings → List ℕ → ℕ → List ℕ
 leadingSet g s k = setOf s (setLeader g s k)

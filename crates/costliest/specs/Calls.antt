@@ -1,4 +1,4 @@
--- The settings and calls of the costliest session of n concentrators (request N13), all at concentrator 1. The newest call stands first.
+-- The settings and calls of the costliest session of n concentrators, all at concentrator 1: PROTOCOL, section 14. The newest call stands first.
 use Prim.Native.Nat.{ℕ, zero, suc, _+_, _*_, _-_}
 use mathlib.Core.Bool.{cond}
 use mathlib.Core.List.{List, [], _∷_}
@@ -18,7 +18,7 @@ unfoldable pub coinWords : ℕ → List ℕ
 coinWords zero = []
 coinWords (suc n) = 0 ∷ coinWords n
 
--- the opening, "For version 1, weights all 1, printed coins": ta = ts = 0, own number 1
+-- the opening: weights of 1, printed coins, ta = ts = 0, own number 1 (PROTOCOL 14.1)
 unfoldable pub opens : ℕ → Arguments
 opens n = arguments n 0 0 1 7 5 (coinWords n) (onesGiven n) 0
 

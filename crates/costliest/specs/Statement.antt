@@ -1,4 +1,4 @@
--- Request N13, the costliest session, as claims about lists of calls.
+-- The costliest session, as claims about lists of calls: PROTOCOL, section 14.
 use Prim.Native.Nat.{ℕ, _+_, _*_, _≤_}
 use mathlib.Core.Bool.{true, cond}
 use mathlib.Core.List.{List, [], _∷_, _++_}
@@ -39,7 +39,7 @@ unfoldable pub AtMostFive : Type 0
 AtMostFive =
     (start : ℕ → List ℕ) (cs : Calls) (q : ℕ) (x : Begun) → sessionAt start cs q ≡ some x → x .settings .n ≡ 1 → x .settings .weights ≡ 1 → x .turns ≤ 5
 
--- a turn that answers "sent"
+-- a turn whose outcome is sent (PROTOCOL 8.9)
 abbrev pub sentOne : Outcome → ℕ
 sentOne (Refused k) = 0
 sentOne Idle = 0

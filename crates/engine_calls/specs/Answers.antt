@@ -1,4 +1,4 @@
--- What the code's six calls answer and leave, beside the machine `engine` of demand 3.
+-- What the code's six calls answer and leave, beside the machine `engine` of which agreement is proved.
 use Prim.Native.Nat.{ℕ}
 use mathlib.Core.Bool.{Bool, true, false}
 use mathlib.Core.List.{List, []}

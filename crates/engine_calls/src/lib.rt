@@ -1,4 +1,4 @@
-// The six calls of the code are those of the machine `engine`, of which demand 3 is proved. Each function only makes one of them; its contract
+// The six calls of the code are those of the machine `engine`, of which agreement is proved. Each function only makes one of them; its contract
 // says what came of it by the machine, and, where the machine bounds what it takes, that every call of the code is within that.
 use journal::Entry;
 use report::Answer;

@@ -1,5 +1,5 @@
--- The count of turns and its bound, as a claim about a whole list of calls (calls/Machine), at every concentrator; restores (request N10) and
--- recordings (request N12) are among the calls.
+-- The count of turns and its bound, as a claim about a whole list of calls (calls/Machine), at every concentrator; restores and recordings are
+-- among the calls (PROTOCOL 16.11).
 use Prim.Native.Nat.{ℕ, _+_, _≤_}
 use mathlib.Core.Bool.{Bool, true, false, cond, _&&_}
 use mathlib.Core.List.{List, [], _∷_}
@@ -70,11 +70,11 @@ pub record Reports (w : List ℕ) (k : ℕ) : Type 0 where
 
 -- what holds of the words w of the session x
 pub record Counted (w : List ℕ) (x : Begun) : Type 0 where
-  -- "The count stored and reported is the number of turns since opening that did not answer idle", with restores that of the lines kept
-  -- and of the turns since
+  -- the count has every turn since the opening that was neither idle nor refused; after a restore, the turns of the lines kept and those since
+  -- (PROTOCOL 8.19)
   pub stored : word w turnsAt ≡ x .turns
   pub reported : Reports w (x .turns)
-  -- "Apart from idle, a session takes at most 99·n+3 turns, whatever was delivered."
+  -- counted turns stay within the turn bound, whatever is delivered (PROTOCOL 8.20)
   pub bounded : x .turns ≤ turnBound (x .settings)
   -- the words stay a state
   pub state : isState w ≡ true

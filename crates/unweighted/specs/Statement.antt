@@ -1,4 +1,4 @@
--- Request N11: "With all weights 1 every answer equals the unweighted one.", as a claim about the calls.
+-- With weights of 1 all is as without weights (PROTOCOL 13.4), as a claim about the calls.
 -- The unweighted rules are those of this crate's files Settings to Report: they count, and no weight is among what they read.
 -- Answers stand without their lines of the journal: the bytes for a line are asked for after all else, and with enough of them a call is
 -- the one without (journal/Journal).

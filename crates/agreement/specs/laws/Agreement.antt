@@ -1,4 +1,4 @@
--- Demand 3 over lawful histories, proved: what exits name stays named, a set in force was named before, and two named sets are the same.
+-- Agreement over lawful histories, proved: what exits name stays named, a set in force was named before, and two named sets are the same.
 use Prim.Native.Nat.{ℕ}
 use mathlib.Core.List.{List, [], _∷_}
 use mathlib.Core.Logic.{inl, inr}

@@ -1,4 +1,4 @@
--- Every machine that keeps the laws meets demand 3: the claims of specs/DemandThree.antt.
+-- Every machine that keeps the laws meets the claims of specs/DemandThree.antt.
 use Prim.Native.Nat.{ℕ, _≤_}
 use mathlib.Core.Bool.{Bool}
 use mathlib.Core.List.{List, [], _∷_}

@@ -1,4 +1,4 @@
--- The engine keeps the laws, so demand 3 holds of it.
+-- The engine keeps the laws, so agreement holds of it.
 use Prim.Native.Nat.{ℕ}
 use mathlib.Core.Bool.{Bool}
 use Rattle.calls.specs.Engine.{engine}

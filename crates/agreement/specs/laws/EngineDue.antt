@@ -149,7 +149,7 @@ module _ (s : List ℕ) (ruled : Ruled (settingsOf s)) (size : length s ≡ 2048
   unfolding setHolders
   copies-due p x = by-repeat W ruled (holding p) (λ m lo hi t. commit-held p m (x .high) hi t) (x .enough)
 
-  -- n−ts senders hold the set of p
+  -- a quorum of senders holds the set of p
   pub force-due : (p : ℕ) → SetHeld g s (quorum g) p → HeldFrom W engineSeen s (whole W) (g .ts) (COMMIT (commitSet s p))
   unfolding setHolders
   force-due p x = by-quorum W ruled (holding p) (λ m lo hi t. commit-held p m (x .high) hi t) (x .enough)

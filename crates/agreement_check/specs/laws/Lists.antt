@@ -1,4 +1,4 @@
--- The conditions of demand 3, call by call: a list meets them if each call of it does after the calls before it.
+-- The conditions of agreement, call by call: a list meets them if each call of it does after the calls before it.
 use Prim.Native.Nat.{ℕ}
 use mathlib.Core.Bool.{Bool, true, false}
 use mathlib.Core.List.{List, [], _∷_}

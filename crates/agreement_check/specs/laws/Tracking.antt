@@ -1,4 +1,4 @@
--- The check of specs/Checking.antt is sound: a list that passes it meets the conditions of demand 3, and the words that it computes are
+-- The check of specs/Checking.antt is sound: a list that passes it meets the conditions of agreement, and the words that it computes are
 -- those of the concentrators, whatever 2,048 words each buffer held at the start, and whatever 2,048 words a restore finds.
 use Prim.Native.Nat.{ℕ}
 use mathlib.Core.Bool.{Bool, true, false, _&&_, _||_, not, cond, false≢true}

@@ -137,17 +137,17 @@ module _ (g : Settings) (held : ℕ → Bool) (value : ℕ → ℕ) where
         go Nothing e = absurd (leading-some v (omega arith) h e)
 
 module _ (g : Settings) (s : List ℕ) (i : ℕ) where
-  -- n − ts senders' READYs hold the output
+  -- READYs of weight W − ts hold the output
   pub output-holders : (v : ℕ) → output g s i ≡ Value v → Led g (readyHeld s i) (readyValue s i) (quorum g) v
   unfolding output
   output-holders v e = leading-value g (readyHeld s i) (readyValue s i) (quorum g) v e
 
-  -- a value that n − ts senders' READYs hold is the output: within the rules there is no other
+  -- a value that READYs of weight W − ts hold is the output: within the rules there is no other (PROTOCOL 4.3)
   pub output-unique : (v : ℕ) → Ruled g → quorum g ≤ holders g (readyHeld s i) (readyValue s i) v → output g s i ≡ Value v
   unfolding output
   output-unique v r h = leading-unique g (readyHeld s i) (readyValue s i) (quorum g) v (omega (arith, quorum-sum g r, r .sum)) h
 
-  -- a READY rests on n − ts ECHOs or on ts + 1 READYs
+  -- a READY rests on ECHOs of weight W − ts or on READYs of weight ts + 1 (PROTOCOL 4.5)
   pub ready-rests : (v : ℕ) → readyDue g s i ≡ Value v → (quorum g ≤ holders g (echoHeld s i) (echoValue s i) v) ⊎ (repeat g ≤ holders g (readyHeld s i) (readyValue s i) v)
   unfolding readyDue
   ready-rests v e = go (leading g (echoHeld s i) (echoValue s i) (quorum g)) refl e

@@ -282,6 +282,6 @@ module _ (n : ℕ) (two : 2 ≤ n) (few : n ≤ 16) (low : 1 ≤ n) (begin : Lis
     unfolding potential
     nearly-full = omega (arith, flags-two, parts-full n (omega arith))
 
-  -- "99·n+3" but one
+  -- the turn bound but one (PROTOCOL 8.20)
   pub idle-count : isDue (due g s) ≡ false → 99 * n + 2 ≤ word s 6
   idle-count e = omega (arith, x .sound .turns, nearly-full (idle-done e))

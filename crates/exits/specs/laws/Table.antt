@@ -1,4 +1,4 @@
--- The table of exits by one computed check: "With n=4, ta=1, ts=1; "-" is no output, "?" undecided."
+-- The table of exits by one computed check: four concentrators, ta = ts = 1, outputs and decisions that may be missing (PROTOCOL 6.3 to 6.6).
 use Prim.Native.Nat.{ℕ, zero, suc, _+_, _^_}
 use mathlib.Core.Bool.{Bool, true, false}
 use mathlib.Core.List.{List, [], _∷_}
@@ -105,7 +105,7 @@ unequal-holds :
 unfolding answers row unequal v no exit at is0 is1 exitOf withOutput sizeS exit1At votesDone exit2At exit3Full insert insertOutput outputsOfS noExit exit3 naming lowest every total weightOf mark quorum voteQuorum
 unequal-holds = refl
 
--- ---- with weights (request N11)
+-- ---- with weights
 
 -- weights 4, 1, 1, 1: 7 in all, so Exit 1 needs 6, and s 6. The pack of the heavy one is the majority of S, where heads would name the
 -- other's or Exit 1; without it s is too small.

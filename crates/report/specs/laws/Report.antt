@@ -71,7 +71,7 @@ reported s a b f e = of (admits s a b) refl e
         let q : figuresOf g s ≡ f = cc in
         record { state = x .state; same = sym q ∙ ap (λ (y : Settings). figuresOf y s) (x .same) }
 
--- "at most 99·n+3 turns"
+-- the turn bound of 16 concentrators (PROTOCOL 8.20)
 pub turns-few : (s : List ℕ) (f : Figures) → Reported s f → f .turns ≤ 1587
 unfolding figuresOf
 turns-few s f r = rw (r .same) (omega (arith, r .state .turns, ruled-bounds (settingsOf s) (r .state .ruled) .bound-few))

@@ -21,7 +21,7 @@ pub record Taken (s out : List ℕ) (x : Session) : Type 0 where
   pub words : turnWords s (length out) ≡ applied s (due (x .settings) s)
   pub bytes : turnBytes s out ≡ bytesAfter x s (outcomeOf (x .own) s (due (x .settings) s)) out
 
--- "A refusal yields its number and nothing else; state and buffers are untouched."
+-- a refusal changes no word and no lent byte (PROTOCOL 9.3)
 pub record Refused (s out : List ℕ) (k : ℕ) : Type 0 where
   pub answer : turnOutcome s (length out) ≡ outcome.Refused k
   pub words : turnWords s (length out) ≡ s

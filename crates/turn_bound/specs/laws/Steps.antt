@@ -39,7 +39,7 @@ current g s (turn out ∷ cs) = current g s cs
 current g s (report ∷ cs) = current g s cs
 current g s (recording i r b ∷ cs) = current g s cs
 
--- "the number of turns since opening that did not answer idle": an accepted opening starts anew, a recording is no turn
+-- the turns since the opening that were neither idle nor refused (PROTOCOL 8.19): an accepted opening starts anew, a recording is no turn
 unfoldable pub acting : List ℕ → List Step → ℕ
 acting s [] = 0
 acting s (opening o ∷ cs) = cond (eqb (openAnswer (length (after s cs)) o) 0) 0 (acting s cs)

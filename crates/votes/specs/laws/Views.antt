@@ -1,4 +1,4 @@
--- What the view of a move shows: its values are accepted, and where it is one value, n − ta AUXs carry that.
+-- What the view of a move shows: its values are accepted, and where it is one value, AUXs of weight W − ta carry that.
 use Prim.Native.Nat.{ℕ, _≤_}
 use mathlib.Core.Bool.{Bool, true, false, _&&_, _||_, false≢true}
 use mathlib.Core.List.{List}
