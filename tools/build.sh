@@ -1,6 +1,6 @@
+# shellcheck shell=bash
 # What the scripts that build and run something share: which tool is missing, whether the toolchain is the pinned one, builds
-# that say how far they are, and what the columns of a result are. For bash; functions that
-# build run in the repository's root.
+# that say how far they are, and what the columns of a result are. For bash; functions that build run in the repository's root.
 set -o pipefail
 
 # need TOOL ..: ends the script where one is missing

@@ -30,7 +30,9 @@ public:
             const auto length = pack_length_of(turn);
             if (length == 0)
                 return true;
-            if (pack_refusal_of(pack_deliver(state_.data(), state_.size(), 1, message_.data(), length, line_.data(), line_.size())) != PACK_ACCEPTED)
+            const auto delivery =
+                pack_deliver(state_.data(), state_.size(), 1, message_.data(), length, line_.data(), line_.size());
+            if (pack_refusal_of(delivery) != PACK_ACCEPTED)
                 return false;
         }
     }
