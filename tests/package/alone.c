@@ -16,7 +16,9 @@ static int run(void)
             return 0;
         if (pack_length_of(turn) == 0)
             return 1;
-        if (pack_refusal_of(pack_deliver(state, PACK_STATE_WORDS, 1, message, pack_length_of(turn), line, sizeof line)) != PACK_ACCEPTED)
+        pack_answer delivery =
+            pack_deliver(state, PACK_STATE_WORDS, 1, message, pack_length_of(turn), line, sizeof line);
+        if (pack_refusal_of(delivery) != PACK_ACCEPTED)
             return 0;
     }
 }
