@@ -12,7 +12,7 @@ ghost use Rattle.turn.specs.Due.{inForceRule, commitDue, commitOf, commi
 ghost use Rattle.exits.specs.Exits.{exitNow};
 ghost use Rattle.turn.specs.laws.Choosing.{Readable, Chosen, lastRules, laterRules};
 
-// Rule 1: the COMMITs of senders of weight n − ts hold the same set.
+// Rule 1: the COMMITs of senders of weight W − ts hold the same set.
 fn in_force_rule(s: &[u64], g: Settings) -> Act
     ensures { λ r. ⌜ r ≡ inForceRule g (now (s .entry)) ⌝ }
 {
