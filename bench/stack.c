@@ -45,7 +45,8 @@ static uint8_t weights[N];
 
 /* The call, its arguments and its answer: the painted stack holds none of them. */
 static enum call call;
-static uint64_t *state, answer;
+static uint64_t *state;
+static pack_answer answer;
 static uint64_t own, named[PACK_SET_WORDS], in_force[PACK_SET_WORDS];
 static uint8_t bytes[PACK_MESSAGE_BYTES], line[PACK_LINE_BYTES];
 static const struct message *delivered;
@@ -60,12 +61,12 @@ static void run(void)
 {
     switch (call) {
     case CALL_OPEN:
-        answer = pack_open(state, PACK_STATE_WORDS, N, 5, 5, own, 7, own, coins, N, weights, N, PACK_PRINTED, line,
-                           sizeof line);
+        answer = pack_open(state, PACK_STATE_WORDS, N, 5, 5, own, 7, own, coins, N, weights, N, PACK_COINS_PRINTED,
+                           line, sizeof line);
         break;
     case CALL_DELIVER:
-        answer = pack_deliver(state, PACK_STATE_WORDS, delivered->bytes[2], delivered->bytes, delivered->length, line,
-                              sizeof line);
+        answer = pack_deliver(state, PACK_STATE_WORDS, pack_message_sender(delivered->bytes), delivered->bytes,
+                              delivered->length, line, sizeof line);
         break;
     case CALL_TURN:
         answer = pack_turn(state, PACK_STATE_WORDS, bytes, sizeof bytes, line, sizeof line);
@@ -123,16 +124,16 @@ static void act(unsigned p)
     state = states[p];
     do {
         measure(CALL_TURN);
-        uint64_t turn = answer;
-        if (pack_refusal_of(turn) == PACK_ACCEPTED && pack_outcome_of(turn) != PACK_IDLE)
+        pack_answer turn = answer;
+        if (pack_refusal_of(turn) == PACK_ACCEPTED && pack_outcome_of(turn) != PACK_OUTCOME_IDLE)
             keep(PACK_TURN_LINE);
-        if (pack_outcome_of(turn) == PACK_SENT && sent_count < MESSAGES) {
+        if (pack_outcome_of(turn) == PACK_OUTCOME_SENT && sent_count < MESSAGES) {
             memcpy(sent[sent_count].bytes, bytes, sizeof bytes);
             sent[sent_count++].length = pack_length_of(turn);
         }
         measure(CALL_REPORT);
         answer = turn;
-    } while (pack_refusal_of(answer) == PACK_ACCEPTED && pack_outcome_of(answer) != PACK_IDLE);
+    } while (pack_refusal_of(answer) == PACK_ACCEPTED && pack_outcome_of(answer) != PACK_OUTCOME_IDLE);
 }
 
 /* Opens a box, has all ask for all its coins, and records a bit for each of them. */
@@ -141,8 +142,10 @@ static bool measure_box(void)
     static const uint32_t none[N];
     bool good = true;
     measure(CALL_BOX_OPEN);
-    good = good && answer == 0;
-    pack_open(boxed, PACK_STATE_WORDS, N, 5, 5, 1, 7, 1, none, N, weights, N, PACK_BOXED, line, sizeof line);
+    good = good && pack_refusal_of(answer) == PACK_ACCEPTED;
+    pack_answer opened =
+        pack_open(boxed, PACK_STATE_WORDS, N, 5, 5, 1, 7, 1, none, N, weights, N, PACK_COINS_BOXED, line, sizeof line);
+    good = good && pack_refusal_of(opened) == PACK_ACCEPTED;
     for (vote = 1; vote <= N; vote++)
         for (round_asked = 1; round_asked <= PACK_ROUNDS; round_asked++) {
             for (own = 1; own <= N; own++)

@@ -2,15 +2,12 @@
 
 #include <stdlib.h>
 
-/* Bytes of a message: its kind, the vote and the round. */
-enum { KIND = 1, VOTE = 3, ROUND = 4, EST = 4 };
-
 uint64_t coins_note_sent(struct coins *c, const uint8_t *message)
 {
-    uint64_t vote = message[VOTE];
-    if (message[KIND] != EST || message[ROUND] <= c->round[vote - 1])
+    uint64_t vote = pack_message_instance(message), round = pack_message_round(message);
+    if (pack_message_kind(message) != PACK_KIND_EST || round <= c->round[vote - 1])
         return 0;
-    c->round[vote - 1] = message[ROUND];
+    c->round[vote - 1] = round;
     c->recorded[vote - 1] = false;
     return vote;
 }

@@ -13,7 +13,7 @@
 #include "pack_agreement.h"
 #include "pack_costliest.h"
 
-enum { KINDS = 6 };
+enum { KINDS = PACK_KIND_COMMIT, OUTCOMES = PACK_OUTCOME_IN_FORCE - PACK_OUTCOME_IDLE + 1 };
 
 static const char *const kind_names[KINDS] = {"SEND", "ECHO", "READY", "EST", "AUX", "COMMIT"};
 
@@ -37,8 +37,8 @@ struct session {
     /* Where the calls are written, or NULL. */
     FILE *calls;
     uint64_t deliveries;
-    /* Turns by their outcome. */
-    uint64_t outcomes[PACK_IN_FORCE + 1];
+    /* Turns by their outcome, the idle ones first. */
+    uint64_t outcomes[OUTCOMES];
     uint64_t messages[KINDS], bytes[KINDS];
 };
 
@@ -49,9 +49,9 @@ static bool fail(const char *what, const char *about)
 }
 
 /* A call that the engine does not take as the costliest session has it. */
-static bool unexpected(uint64_t k, const char *call, uint64_t answer)
+static bool unexpected(uint64_t k, const char *call, pack_answer answer)
 {
-    fprintf(stderr, "costliest: call %" PRIu64 ": %s answered %#" PRIx64 "\n", k, call, answer);
+    fprintf(stderr, "costliest: call %" PRIu64 ": %s answered %#" PRIx64 "\n", k, call, answer.number);
     return false;
 }
 
@@ -61,7 +61,7 @@ static void print_bytes(FILE *out, const uint8_t *bytes, size_t length)
         fprintf(out, "%02x", bytes[i]);
 }
 
-static void write_opening(FILE *out, const uint64_t *settings, const uint32_t *coins, uint64_t n, uint64_t answer)
+static void write_opening(FILE *out, const uint64_t *settings, const uint32_t *coins, uint64_t n, pack_answer answer)
 {
     fprintf(out, "O\t%" PRIu64 "\t%" PRIu64 "\t%" PRIu64 "\t%" PRIu64 "\t%" PRIu64 "\t%016" PRIx64 "\t", settings[0],
             settings[1], settings[2], settings[3], settings[4], settings[5]);
@@ -84,58 +84,59 @@ static bool open_session(struct session *s)
     /* Opening sets all words, whatever they hold. */
     memset(s->state, 0xa5, sizeof s->state);
     uint8_t line[PACK_LINE_BYTES];
-    uint64_t answer = pack_open(s->state, PACK_STATE_WORDS, settings[0], settings[1], settings[2], settings[3],
-                                (uint32_t)settings[4], settings[5], coins, s->n, weights, s->n, PACK_PRINTED, line,
-                                sizeof line);
+    pack_answer answer =
+        pack_open(s->state, PACK_STATE_WORDS, settings[0], settings[1], settings[2], settings[3], (uint32_t)settings[4],
+                  settings[5], coins, s->n, weights, s->n, PACK_COINS_PRINTED, line, sizeof line);
     if (s->calls)
         write_opening(s->calls, settings, coins, s->n, answer);
-    return pack_refusal_of(answer) == 0 || unexpected(0, "opening", answer);
+    return pack_refusal_of(answer) == PACK_ACCEPTED || unexpected(0, "opening", answer);
 }
 
-static bool deliver(struct session *s, uint64_t k, uint64_t call, const uint8_t *message)
+static bool deliver(struct session *s, uint64_t k, pack_answer call, const uint8_t *message)
 {
     uint64_t link = pack_costliest_link_of(call);
     size_t length = pack_costliest_length_of(call);
     uint8_t line[PACK_LINE_BYTES];
-    uint64_t answer = pack_deliver(s->state, PACK_STATE_WORDS, link, message, length, line, sizeof line);
+    pack_answer answer = pack_deliver(s->state, PACK_STATE_WORDS, link, message, length, line, sizeof line);
     s->deliveries++;
     if (s->calls) {
         fprintf(s->calls, "D\t%" PRIu64 "\t", link);
         print_bytes(s->calls, message, length);
         fprintf(s->calls, "\t%u\n", pack_refusal_of(answer));
     }
-    return pack_refusal_of(answer) == 0 || unexpected(k, "delivery", answer);
+    return pack_refusal_of(answer) == PACK_ACCEPTED || unexpected(k, "delivery", answer);
 }
 
-/* Counts a message that was sent; byte 1 is its kind. */
-static bool count_message(struct session *s, uint64_t k, const uint8_t *message, size_t length)
+/* Counts a message that was sent. */
+static bool count_message(struct session *s, pack_answer answer, uint64_t k, const uint8_t *message)
 {
-    unsigned kind = message[1];
-    if (kind < 1 || kind > KINDS)
-        return unexpected(k, "turn sent a message of kind", kind);
-    s->messages[kind - 1]++;
-    s->bytes[kind - 1] += length;
+    enum pack_kind kind = pack_message_kind(message);
+    if (kind < PACK_KIND_SEND || kind > PACK_KIND_COMMIT)
+        return unexpected(k, "turn that sent no known kind", answer);
+    s->messages[kind - PACK_KIND_SEND]++;
+    s->bytes[kind - PACK_KIND_SEND] += pack_length_of(answer);
     return true;
 }
 
-static bool take_turn(struct session *s, uint64_t k, uint64_t call)
+static bool take_turn(struct session *s, uint64_t k, pack_answer call)
 {
     uint8_t message[PACK_MESSAGE_BYTES], line[PACK_LINE_BYTES];
     size_t lent = pack_costliest_length_of(call);
     if (lent > sizeof message)
-        return unexpected(k, "turn is lent", lent);
-    uint64_t answer = pack_turn(s->state, PACK_STATE_WORDS, message, lent, line, sizeof line);
-    unsigned outcome = pack_outcome_of(answer);
+        return unexpected(k, "the session, for a turn lent too much,", call);
+    pack_answer answer = pack_turn(s->state, PACK_STATE_WORDS, message, lent, line, sizeof line);
+    enum pack_outcome outcome = pack_outcome_of(answer);
+    unsigned number = outcome - PACK_OUTCOME_IDLE;
     size_t length = pack_length_of(answer);
     if (s->calls) {
-        fprintf(s->calls, "T\t%zu\t%u\t%u\t", lent, pack_refusal_of(answer), outcome);
+        fprintf(s->calls, "T\t%zu\t%u\t%u\t", lent, pack_refusal_of(answer), number);
         print_bytes(s->calls, message, length);
         fprintf(s->calls, length == 0 ? "-\n" : "\n");
     }
-    if (pack_refusal_of(answer) != 0 || outcome == PACK_IDLE || outcome > PACK_IN_FORCE)
+    if (pack_refusal_of(answer) != PACK_ACCEPTED || outcome == PACK_OUTCOME_IDLE || number >= OUTCOMES)
         return unexpected(k, "turn", answer);
-    s->outcomes[outcome]++;
-    return outcome != PACK_SENT || count_message(s, k, message, length);
+    s->outcomes[number]++;
+    return outcome != PACK_OUTCOME_SENT || count_message(s, answer, k, message);
 }
 
 /* The calls one after another, to the last. */
@@ -143,8 +144,8 @@ static bool run_calls(struct session *s)
 {
     for (uint64_t k = 1;; k++) {
         uint8_t message[PACK_MESSAGE_BYTES];
-        uint64_t call = pack_costliest_call(s->n, k, message, sizeof message);
-        if (pack_refusal_of(call) != 0)
+        pack_answer call = pack_costliest_call(s->n, k, message, sizeof message);
+        if (pack_refusal_of(call) != PACK_ACCEPTED)
             return unexpected(k, "the session", call);
         switch (pack_costliest_kind_of(call)) {
         case PACK_COSTLIEST_NONE:
@@ -164,9 +165,9 @@ static bool run_calls(struct session *s)
 static bool reported_turns(const struct session *s, uint64_t *turns)
 {
     uint64_t named[PACK_SET_WORDS], in_force[PACK_SET_WORDS];
-    uint64_t answer = pack_report(s->state, PACK_STATE_WORDS, named, PACK_SET_WORDS, in_force, PACK_SET_WORDS);
+    pack_answer answer = pack_report(s->state, PACK_STATE_WORDS, named, PACK_SET_WORDS, in_force, PACK_SET_WORDS);
     *turns = pack_turns_of(answer);
-    return pack_refusal_of(answer) == 0 || unexpected(0, "report", answer);
+    return pack_refusal_of(answer) == PACK_ACCEPTED || unexpected(0, "report", answer);
 }
 
 static bool print_summary(const struct session *s)
@@ -177,9 +178,8 @@ static bool print_summary(const struct session *s)
     printf("concentrators\t%" PRIu64 "\n", s->n);
     printf("deliveries\t%" PRIu64 "\n", s->deliveries);
     printf("turns\t%" PRIu64 "\n", turns);
-    printf("sent\t%" PRIu64 "\n", s->outcomes[PACK_SENT]);
-    printf("moved out of round 32\t%" PRIu64 "\n", s->outcomes[PACK_MOVED_OUT]);
-    printf("in force\t%" PRIu64 "\n", s->outcomes[PACK_IN_FORCE]);
+    for (unsigned i = 1; i < OUTCOMES; i++)
+        printf("%s\t%" PRIu64 "\n", pack_outcome_name((enum pack_outcome)(PACK_OUTCOME_IDLE + i)), s->outcomes[i]);
     printf("kind\tmessages\tbytes\n");
     for (unsigned i = 0; i < KINDS; i++) {
         printf("%s\t%" PRIu64 "\t%" PRIu64 "\n", kind_names[i], s->messages[i], s->bytes[i]);

@@ -46,20 +46,15 @@ struct session {
     uint64_t coin_box[PACK_BOX_WORDS];
 };
 
-static const char *const refusal_names[] = {"ACCEPTED", "SETTINGS", "LENGTH", "KIND",     "SESSION", "SENDER",
-                                            "FIELD",    "VALUE",    "SHORT",  "NO STATE", "CLOSED",  "HELD",
-                                            [PACK_JOURNAL] = "JOURNAL", [PACK_COIN] = "COIN"};
-
 /* Tells of a refusal at a concentrator, or at none, with number 0. */
-static bool refused(const char *call, uint64_t number, uint64_t answer)
+static bool refused(const char *call, uint64_t number, pack_answer answer)
 {
-    unsigned k = pack_refusal_of(answer);
-    const char *name = k < sizeof refusal_names / sizeof *refusal_names ? refusal_names[k] : NULL;
+    enum pack_refusal refusal = pack_refusal_of(answer);
     fputs("pack_host: ", stderr);
     if (number != 0)
         fprintf(stderr, "concentrator %" PRIu64 ": ", number);
-    fprintf(stderr, "%s refused: %u %s", call, k, name ? name : "unknown");
-    if (k == PACK_JOURNAL)
+    fprintf(stderr, "%s refused: %u %s", call, (unsigned)refusal, pack_refusal_name(refusal));
+    if (refusal == PACK_REFUSED_JOURNAL)
         fprintf(stderr, ", line %" PRIu64, pack_line_of(answer));
     fputc('\n', stderr);
     return false;
@@ -98,7 +93,7 @@ static void put(struct queue *q, uint64_t sender, size_t length, size_t taken)
 static bool request(struct session *x, uint64_t p, uint64_t vote, bool *told, uint64_t *bit)
 {
     uint64_t round = coins_round(&x->all[p - 1].coins, vote);
-    uint64_t answer = pack_box_request(x->coin_box, PACK_BOX_WORDS, p, vote, round);
+    pack_answer answer = pack_box_request(x->coin_box, PACK_BOX_WORDS, p, vote, round);
     *told = pack_told_of(answer);
     *bit = pack_bit_of(answer);
     return pack_refusal_of(answer) == PACK_ACCEPTED || refused("request", p, answer);
@@ -128,7 +123,7 @@ static bool send_again(struct session *x, uint64_t p, const uint8_t *lines, size
         struct message *m = next_place(&x->queue);
         if (m == NULL)
             return false;
-        uint64_t answer = pack_restore(state, PACK_STATE_WORDS, lines, end, m->bytes, sizeof m->bytes);
+        pack_answer answer = pack_restore(state, PACK_STATE_WORDS, lines, end, m->bytes, sizeof m->bytes);
         if (pack_refusal_of(answer) != PACK_ACCEPTED)
             return refused("restore", p, answer);
         if (pack_length_of(answer) == 0)
@@ -170,7 +165,7 @@ static bool resume(struct session *x, uint64_t p, const uint8_t *opening, size_t
     uint64_t set[2][PACK_SET_WORDS];
     if (j->length < length || memcmp(j->lines, opening, length) != 0)
         return fail("the journal of another session", j->path);
-    uint64_t answer = pack_restore(c->state, PACK_STATE_WORDS, j->lines, j->length, message, sizeof message);
+    pack_answer answer = pack_restore(c->state, PACK_STATE_WORDS, j->lines, j->length, message, sizeof message);
     if (pack_refusal_of(answer) != PACK_ACCEPTED)
         return refused("restore", p, answer);
     size_t complete = pack_complete_of(answer);
@@ -187,8 +182,9 @@ static bool open_one(struct session *x, uint64_t p, const uint32_t *coins)
     const struct options *o = &x->options;
     struct concentrator *c = &x->all[p - 1];
     uint8_t line[PACK_LINE_BYTES];
-    uint64_t answer = pack_open(c->state, PACK_STATE_WORDS, o->n, o->ta, o->ts, p, o->session, o->inputs[p - 1], coins,
-                                o->n, o->weights, o->n, o->boxed ? PACK_BOXED : PACK_PRINTED, line, sizeof line);
+    enum pack_coins where = o->boxed ? PACK_COINS_BOXED : PACK_COINS_PRINTED;
+    pack_answer answer = pack_open(c->state, PACK_STATE_WORDS, o->n, o->ta, o->ts, p, o->session, o->inputs[p - 1],
+                                   coins, o->n, o->weights, o->n, where, line, sizeof line);
     size_t length = pack_length_of(answer);
     if (pack_refusal_of(answer) != PACK_ACCEPTED)
         return refused("opening", p, answer);
@@ -211,7 +207,8 @@ static bool open_all(struct session *x)
     for (size_t i = 0; i < o->n; i++)
         coins[i] = o->coin;
     if (o->boxed) {
-        uint64_t answer = pack_box_open(x->coin_box, PACK_BOX_WORDS, o->n, o->ta, o->ts, coins, o->n, o->weights, o->n);
+        pack_answer answer =
+            pack_box_open(x->coin_box, PACK_BOX_WORDS, o->n, o->ta, o->ts, coins, o->n, o->weights, o->n);
         if (pack_refusal_of(answer) != PACK_ACCEPTED)
             return refused("opening of the box", 0, answer);
     }
@@ -231,16 +228,16 @@ static bool take_turns(struct session *x, uint64_t p)
         struct message *m = next_place(&x->queue);
         if (m == NULL)
             return false;
-        uint64_t answer = pack_turn(c->state, PACK_STATE_WORDS, m->bytes, sizeof m->bytes, line, sizeof line);
+        pack_answer answer = pack_turn(c->state, PACK_STATE_WORDS, m->bytes, sizeof m->bytes, line, sizeof line);
         if (pack_refusal_of(answer) != PACK_ACCEPTED)
             return refused("turn", p, answer);
-        if (pack_outcome_of(answer) == PACK_IDLE)
+        if (pack_outcome_of(answer) == PACK_OUTCOME_IDLE)
             return true;
         if (!journal_add(&c->journal, line, PACK_TURN_LINE))
             return false;
-        if (pack_outcome_of(answer) == PACK_IN_FORCE)
+        if (pack_outcome_of(answer) == PACK_OUTCOME_IN_FORCE)
             c->closed = true;
-        if (pack_outcome_of(answer) != PACK_SENT)
+        if (pack_outcome_of(answer) != PACK_OUTCOME_SENT)
             continue;
         put(&x->queue, p, pack_length_of(answer), c->taken);
         if (!note_sent(x, p, m->bytes))
@@ -255,7 +252,7 @@ static bool record(struct session *x, uint64_t p, uint64_t vote, uint64_t bit)
     struct concentrator *c = &x->all[p - 1];
     uint8_t line[PACK_LINE_BYTES];
     uint64_t round = coins_round(&c->coins, vote);
-    uint64_t answer = pack_record(c->state, PACK_STATE_WORDS, vote, round, bit, line, sizeof line);
+    pack_answer answer = pack_record(c->state, PACK_STATE_WORDS, vote, round, bit, line, sizeof line);
     if (pack_refusal_of(answer) != PACK_ACCEPTED)
         return refused("recording", p, answer);
     coins_note_line(&c->coins, line);
@@ -305,7 +302,8 @@ static bool deliver_next(struct session *x)
         struct concentrator *c = &x->all[p - 1];
         if (c->closed || c->taken >= x->queue.next)
             continue;
-        uint64_t answer = pack_deliver(c->state, PACK_STATE_WORDS, m->sender, m->bytes, m->length, line, sizeof line);
+        pack_answer answer =
+            pack_deliver(c->state, PACK_STATE_WORDS, m->sender, m->bytes, m->length, line, sizeof line);
         if (pack_refusal_of(answer) != PACK_ACCEPTED)
             return refused("delivery", p, answer);
         if (!journal_add(&c->journal, line, pack_length_of(answer)))
@@ -351,7 +349,7 @@ static bool print_report(const struct session *x, uint64_t p)
 {
     const struct concentrator *c = &x->all[p - 1];
     uint64_t named[PACK_SET_WORDS], in_force[PACK_SET_WORDS];
-    uint64_t answer = pack_report(c->state, PACK_STATE_WORDS, named, PACK_SET_WORDS, in_force, PACK_SET_WORDS);
+    pack_answer answer = pack_report(c->state, PACK_STATE_WORDS, named, PACK_SET_WORDS, in_force, PACK_SET_WORDS);
     if (pack_refusal_of(answer) != PACK_ACCEPTED)
         return refused("report", p, answer);
     printf("%" PRIu64 "\t%u\t%d\t%" PRIu64 "\t", p, pack_exit_of(answer), c->closed, pack_turns_of(answer));

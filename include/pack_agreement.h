@@ -7,12 +7,42 @@
  * A delivery records one message and does nothing else; a turn does the one thing that is due and answers it. So after
  * opening, and after each delivery, call pack_turn until it answers idle. A message that a turn answers as sent goes to
  * all n concentrators, the sender included, by pack_deliver. The turn that answers "in force" closes the session: from
- * then on pack_deliver and pack_turn are refused with PACK_CLOSED, and pack_report gives the set in force.
+ * then on pack_deliver and pack_turn are refused with PACK_REFUSED_CLOSED, and pack_report gives the set in force.
  *
- * A concentrator that may lose its memory, or fall back to an older image of it, keeps a journal. Every opening, delivery
+ * Every concentrator has a weight. Where a rule wants enough senders, or enough instances, it is their weights that are
+ * summed, and ta and ts limit the weight of those that lie; W is the sum of all n weights.
+ *
+ * MEMORY. Every value of every argument has its answer, in every order of calls. The caller owes that each pointer has as
+ * many elements behind it as its count says, that buffers do not overlap, and that nothing else uses them while the call
+ * runs; calls on different states may run at the same time. A count is a number of elements: 64-bit words, 32-bit coin
+ * words or bytes. A null pointer with count 0 is an empty buffer. No call keeps a pointer or allocates; of the C library
+ * only memcpy and memset are used. pack_restore has a second state on the stack, 16,384 bytes, and takes some 18,400 bytes
+ * of it in all; the other calls take up to 1,300.
+ *
+ * AGREEMENT rests on more than memory. The engine cannot see whether the following is kept, and takes calls that break it.
+ * A concentrator whose host does not keep it counts among those that lie, with its weight:
+ *   - It opens a session once, under its own number, with the settings and coins that all have: n, ta, ts, session, coins,
+ *     weights, boxed. One that lost its state is restored from its journal. To open the session again is to speak with
+ *     a second voice under one number.
+ *   - A session number is not used again while messages of the session that had it may still come.
+ *   - Nothing but these calls writes its state.
+ *   - The link vouches for its sender: what is delivered as from a concentrator is what a turn there sent in this session,
+ *     byte for byte.
+ *   - The line of a turn is stored for good before the message leaves; one that lost lines of messages that left does not
+ *     rejoin that session. More at the journal, below.
+ *   - With boxed coins it records the bits that the session's one box told.
+ * What a turn sent goes to all n, later where a radio was down. No set rests on that, but a session may stay open for want
+ * of it.
+ * Promised of the concentrators that keep this, whatever the others send:
+ *   - Where the others weigh ta at most, all sets that exits name or that are in force are one and the same set.
+ *   - Where they weigh ts at most and all that keep it put in the same pack, no other set is named or comes into force.
+ *   - Where they weigh ts at most, no set comes into force that the exits of one that keeps it had not named before.
+ * Where they weigh more than ts nothing is promised of sets. Never promised is that a session closes, or when.
+ *
+ * THE JOURNAL is for a concentrator that may lose its memory, or fall back to an older image of it. Every opening, delivery
  * and recording that is accepted, and every turn that is neither idle nor refused, writes one line of text into bytes that
  * the caller lends; the lines of a session, one behind the other, are its journal, and each opening starts a new one.
- * pack_restore rebuilds the state from it, also where it was cut at any byte behind its first line. What the caller owes:
+ * pack_restore rebuilds the state from it, also where it was cut at any byte behind its first line. What the host owes:
  *   - Store the lines in the order of the calls, none left out, and the line of a turn for good before its message leaves.
  *     A message has left once it was delivered anywhere, to the concentrator itself too.
  *   - After a restore, write new lines behind the last complete line: cut the journal there. Turns of lost lines never
@@ -22,10 +52,7 @@
  * A journal is believed: a line that was changed and is still one that the calls could have written is applied as it
  * stands. Whoever can write the journal can say anything in the concentrator's name.
  *
- * Every concentrator has a weight. Where a rule wants enough senders, or enough instances, it is their weights that are
- * summed, and ta and ts limit the weight of those that lie; W is the sum of all n weights.
- *
- * The coins of the votes are printed, given to every concentrator at its opening, or boxed: then one coin box for the
+ * COINS of the votes are printed, given to every concentrator at its opening, or boxed: then one coin box for the
  * session holds them. The box runs on a device of its own that no concentrator can read. It is trusted to keep its buffer to
  * itself and to tell all the same; its two calls, pack_box_open and pack_box_request, are made there. It tells a coin only
  * once concentrators of weight ta + 1 have asked for it, so that those that lie, of weight ta at most, cannot read coins
@@ -33,21 +60,13 @@
  * What the host of a boxed session owes:
  *   - Ask for the coin of round r of a vote when that vote is in round r. Asking earlier lets liars see coins sooner.
  *     The round of a vote is the highest round of the ESTs that the concentrator's own turns have sent for it: its start
- *     sends an EST of round 1, a move out of round r one of round r + 1, and a relay never one of a higher round. In a
- *     message byte 1 is 4 for an EST, byte 3 is the vote and byte 4 the round.
+ *     sends an EST of round 1, a move out of round r one of round r + 1, and a relay never one of a higher round. The
+ *     vote of an EST is its instance.
  *   - Ask again later where the answer is sealed.
  *   - Record the bit by pack_record before the next turn: the move out of that round waits for it. Its line is stored as the
  *     others are. After a restore, ask for the coins of the rounds whose lines were lost; the box tells the same bits.
  *
- * A count is a number of elements: 64-bit words, 32-bit coin words or bytes.
- * A null pointer with count 0 is an empty buffer. No call keeps a pointer or allocates; of the C library only
- * memcpy and memset are used. pack_restore has a second state on the stack, 16,384 bytes, and takes some 18,400 bytes of it
- * in all; the other calls take up to 1,300. Calls on different states may run at the same time.
- *
- * Every call answers one number. Bits 0 to 7 are 0 where it was accepted, else the number of the refusal; a refusal sets no
- * other bit, but for the line's number with PACK_JOURNAL, and leaves state and buffers as they were. Every value of every
- * argument has its answer; the caller owes only that each pointer has as many elements behind it as its count says, and
- * that buffers do not overlap.
+ * docs/HOST.md has more on what a host owes, and a session in which two did not keep it.
  */
 #ifndef PACK_AGREEMENT_H
 #define PACK_AGREEMENT_H
@@ -55,14 +74,35 @@
 #include <stddef.h>
 #include <stdint.h>
 
+#include "pack_message.h"
+
+#if SIZE_MAX != UINT64_MAX
+#error "the engine's archive is for 64-bit targets"
+#endif
+
 #ifdef __cplusplus
 extern "C" {
 #endif
 
+/*
+ * The version of this header. It rises by one with each change that a program written for it must know of: a name, a
+ * number, a layout, what an answer means or what the caller owes. What is only added leaves it.
+ */
+#define PACK_HEADER_VERSION 1
+
+/* Has the compiler warn where an answer is not looked at. */
+#if defined(__cplusplus) && __cplusplus >= 201703L
+#define PACK_MUST_USE [[nodiscard]]
+#elif !defined(__cplusplus) && defined(__STDC_VERSION__) && __STDC_VERSION__ >= 202311L
+#define PACK_MUST_USE [[nodiscard]]
+#elif defined(__GNUC__)
+#define PACK_MUST_USE __attribute__((warn_unused_result))
+#else
+#define PACK_MUST_USE
+#endif
+
 /* Words of a state, exactly. */
 #define PACK_STATE_WORDS 2048
-/* Bytes that a turn and a restore must be lent at least for the message: the longest one. */
-#define PACK_MESSAGE_BYTES 140
 /* Bytes that opening, delivery, turn and recording must be lent at least for the line of the journal. */
 #define PACK_LINE_BYTES 512
 /* The length of the line of a turn. */
@@ -80,60 +120,80 @@ extern "C" {
 /* The last round of a vote; the first is 1. */
 #define PACK_ROUNDS 32
 
+/*
+ * What a call answers: one number, taken apart by the functions at the end. Bits 0 to 7 are 0 where it was accepted, else
+ * the number of the refusal; a refusal sets no other bit, but for the line's number with PACK_REFUSED_JOURNAL, and leaves
+ * state and buffers as they were.
+ * It is a struct so that an answer compared with a refusal or an outcome does not compile. It travels as a uint64_t does,
+ * in the same register, and other languages may declare it as one.
+ */
+typedef struct pack_answer {
+    /* The bits, as each call lists them. */
+    uint64_t number;
+} pack_answer;
+
 /* The refusals, bits 0 to 7 of an answer. */
 enum pack_refusal {
+    /* No refusal. */
     PACK_ACCEPTED = 0,
     /*
      * A setting, weight or own number outside the rules, not exactly n coin words and n weights, coins that are neither
      * printed nor boxed, or boxed ones with a coin word that is not 0.
      */
-    PACK_SETTINGS = 1,
+    PACK_REFUSED_SETTINGS = 1,
     /* Under 12 bytes, or not 12 + 8 * count. */
-    PACK_LENGTH = 2,
+    PACK_REFUSED_LENGTH = 2,
     /* Version or kind unknown. */
-    PACK_KIND = 3,
+    PACK_REFUSED_KIND = 3,
     /* Another session number. */
-    PACK_SESSION = 4,
+    PACK_REFUSED_SESSION = 4,
     /* Byte 2 is not the link's concentrator, or that is not 1 to n. */
-    PACK_SENDER = 5,
+    PACK_REFUSED_SENDER = 5,
     /* Byte 3 to 7 against the layout. */
-    PACK_FIELD = 6,
+    PACK_REFUSED_FIELD = 6,
     /* EST or AUX above 1, or COMMIT not rising. */
-    PACK_VALUE = 7,
+    PACK_REFUSED_VALUE = 7,
     /*
      * A turn or restore lent under 140 bytes for the message, an opening, delivery, turn or recording lent under 512 bytes
      * for the line, a report lent under 16 words for either set.
      */
-    PACK_SHORT = 8,
+    PACK_REFUSED_SHORT = 8,
     /* Not PACK_STATE_WORDS words, or stored numbers that no session has; opening a box, not PACK_BOX_WORDS words. */
-    PACK_NO_STATE = 9,
+    PACK_REFUSED_NO_STATE = 9,
     /* Delivery, turn or recording after closing. */
-    PACK_CLOSED = 10,
+    PACK_REFUSED_CLOSED = 10,
     /* That place already holds a message. */
-    PACK_HELD = 11,
+    PACK_REFUSED_HELD = 11,
     /* A journal without a complete opening line, or with a complete line that cannot be applied. */
-    PACK_JOURNAL = 15,
+    PACK_REFUSED_JOURNAL = 15,
     /*
      * Recording: a vote or round outside the layout, a bit above 1 or against the one that is there, or a session whose
      * coins are printed. Request: a requester, vote or round outside the layout, or a buffer that is no box.
      */
-    PACK_COIN = 16
+    PACK_REFUSED_COIN = 16
 };
 
-/* The outcomes of a turn, bits 8 to 15 of its answer. */
+/*
+ * The outcomes of a turn. The low byte of each is what bits 8 to 15 of the answer hold; 256 is added to all, so that
+ * none passes for a refusal.
+ */
 enum pack_outcome {
-    PACK_IDLE = 0,
-    PACK_SENT = 1,
+    /* Nothing is due. */
+    PACK_OUTCOME_IDLE = 256,
+    /* A message is sent. */
+    PACK_OUTCOME_SENT = 257,
     /* A vote moved out of round 32: nothing is sent, and more may be due. */
-    PACK_MOVED_OUT = 2,
+    PACK_OUTCOME_MOVED_OUT = 258,
     /* A set is in force, and the session is closed. */
-    PACK_IN_FORCE = 3
+    PACK_OUTCOME_IN_FORCE = 259
 };
 
 /* Where the coins of a session are, as opening takes it. */
 enum pack_coins {
-    PACK_PRINTED = 0,
-    PACK_BOXED = 1
+    /* In the words that opening is given. */
+    PACK_COINS_PRINTED = 0,
+    /* In the session's box. */
+    PACK_COINS_BOXED = 1
 };
 
 /*
@@ -142,37 +202,43 @@ enum pack_coins {
  * they allow none, and the opening is refused.
  * input is the own pack number, any value. coins are n words: bit r - 1 of word i, counted from 1, is the coin of vote
  * i in round r. weights are n bytes, that of concentrator 1 first, each 1 to PACK_WEIGHT_MAX; where all are 1, W is n.
- * boxed is PACK_PRINTED or PACK_BOXED; with boxed coins all n words are 0, and the bits are recorded later.
+ * boxed is PACK_COINS_PRINTED or PACK_COINS_BOXED; with boxed coins all n words are 0, and the bits are recorded later.
  * n, ta, ts, session, coins, weights and boxed are the same at all concentrators of a session; it is the same ta whether it
  * was named or left unnamed.
  * The line of the journal stands at the front of the lent bytes; the others keep their value. It starts a new journal:
  * "O", the version of the line, 1, then n, ta as it was given, ts, own, session, input in 16 hexadecimal digits, the coin
  * words in 8 each, the weights and boxed, fields parted by tabs, ended by a line feed.
  * Answer: bits 16 to 31 the length of the line in bytes, the others 0.
- * Refusals, in this order: PACK_NO_STATE (the word count only), PACK_SETTINGS, PACK_SHORT.
+ * Refusals, in this order: PACK_REFUSED_NO_STATE (the word count only), PACK_REFUSED_SETTINGS, PACK_REFUSED_SHORT.
  */
-uint64_t pack_open(uint64_t *state, size_t words, uint64_t n, uint64_t ta, uint64_t ts, uint64_t own, uint32_t session,
-                   uint64_t input, const uint32_t *coins, size_t coin_words, const uint8_t *weights,
-                   size_t weight_count, uint64_t boxed, uint8_t *line, size_t line_bytes);
+PACK_MUST_USE
+pack_answer pack_open(uint64_t *state, size_t words, uint64_t n, uint64_t ta, uint64_t ts, uint64_t own,
+                      uint32_t session, uint64_t input, const uint32_t *coins, size_t coin_words,
+                      const uint8_t *weights, size_t weight_count, uint64_t boxed, uint8_t *line, size_t line_bytes);
 
 /*
  * Records a message that came over the link of concentrator `link`.
  * Its line, at the front of the lent bytes, is "D", the link and the message in hexadecimal; the other bytes keep their
  * value.
  * Answer: bits 16 to 31 the length of the line in bytes, the others 0.
- * Refusals, in this order: PACK_NO_STATE, PACK_CLOSED, PACK_LENGTH to PACK_VALUE, PACK_HELD, PACK_SHORT.
+ * Refusals, in this order: PACK_REFUSED_NO_STATE, PACK_REFUSED_CLOSED, PACK_REFUSED_LENGTH to PACK_REFUSED_VALUE,
+ * PACK_REFUSED_HELD, PACK_REFUSED_SHORT.
  */
-uint64_t pack_deliver(uint64_t *state, size_t words, uint64_t link, const uint8_t *message, size_t length, uint8_t *line,
-                      size_t line_bytes);
+PACK_MUST_USE
+pack_answer pack_deliver(uint64_t *state, size_t words, uint64_t link, const uint8_t *message, size_t length,
+                         uint8_t *line, size_t line_bytes);
 
 /*
  * Does the first thing due. A message that is sent stands at the front of the bytes lent for it, and a turn that is not
  * idle writes its line, "T" and a line feed (PACK_TURN_LINE bytes), to the front of the bytes lent for that; the others
  * keep their value.
  * Answer: bits 8 to 15 the outcome, bits 16 to 31 the length of the message in bytes (0 unless sent), the others 0.
- * Refusals, in this order: PACK_NO_STATE, PACK_CLOSED, PACK_SHORT; an idle turn wants both buffers too.
+ * Refusals, in this order: PACK_REFUSED_NO_STATE, PACK_REFUSED_CLOSED, PACK_REFUSED_SHORT; an idle turn wants both
+ * buffers too.
  */
-uint64_t pack_turn(uint64_t *state, size_t words, uint8_t *message, size_t capacity, uint8_t *line, size_t line_bytes);
+PACK_MUST_USE
+pack_answer pack_turn(uint64_t *state, size_t words, uint8_t *message, size_t capacity, uint8_t *line,
+                      size_t line_bytes);
 
 /*
  * Reports on a state, also on a closed one. The set that the exits name stands at the front of the first lent buffer,
@@ -181,10 +247,11 @@ uint64_t pack_turn(uint64_t *state, size_t words, uint8_t *message, size_t capac
  * Answer: bits 8 to 15 the exit (1 to 3, 0 for none), bits 16 to 23 the number of values named, bits 24 to 31 the
  * number of values in force (0: none), bits 32 to 63 the number of turns since opening that did not answer idle; after a
  * restore those of the journal's lines count.
- * Refusals, in this order: PACK_NO_STATE, PACK_SHORT.
+ * Refusals, in this order: PACK_REFUSED_NO_STATE, PACK_REFUSED_SHORT.
  */
-uint64_t pack_report(const uint64_t *state, size_t words, uint64_t *named, size_t named_words, uint64_t *in_force,
-                     size_t in_force_words);
+PACK_MUST_USE
+pack_answer pack_report(const uint64_t *state, size_t words, uint64_t *named, size_t named_words, uint64_t *in_force,
+                        size_t in_force_words);
 
 /*
  * Rebuilds the state after the last complete line of a journal, whatever the words held. A line is complete with its line
@@ -192,72 +259,123 @@ uint64_t pack_report(const uint64_t *state, size_t words, uint64_t *named, size_
  * a delivery, a turn or a recording. An opening's line that ends with its weights, or with its coin words, as it was before
  * there were boxes or weights, reads as printed, and with weights of 1. If the last line is that of a turn that sent a
  * message, the message stands again at the front of the lent bytes, since it may not have left; the others keep their value.
- * Where a line cannot be applied the answer is PACK_JOURNAL: it has not the form above (leading zeros and capital letters
- * are another form), its call would be refused, it is a turn that would be idle, or an opening behind the first line.
+ * Where a line cannot be applied the answer is PACK_REFUSED_JOURNAL: it has not the form above (leading zeros and capital
+ * letters are another form), its call would be refused, it is a turn that would be idle, or an opening behind the first
+ * line.
  * Answer: bits 8 to 15 are 1 where a message is given again, else 0, bits 16 to 31 its length in bytes, bits 32 to 63 the
- * number of bytes of the journal up to the end of the last complete line, modulo 2^32. With PACK_JOURNAL bits 8 to 63 are
- * the number of the first line, from 1, that cannot be applied, and 1 where no line is complete.
- * Refusals, in this order: PACK_NO_STATE (the word count only), PACK_SHORT, PACK_JOURNAL; each leaves the state's words and
- * the lent bytes as they were.
+ * number of bytes of the journal up to the end of the last complete line, modulo 2^32. With PACK_REFUSED_JOURNAL bits 8 to
+ * 63 are the number of the first line, from 1, that cannot be applied, and 1 where no line is complete.
+ * Refusals, in this order: PACK_REFUSED_NO_STATE (the word count only), PACK_REFUSED_SHORT, PACK_REFUSED_JOURNAL; each
+ * leaves the state's words and the lent bytes as they were.
  */
-uint64_t pack_restore(uint64_t *state, size_t words, const uint8_t *journal, size_t journal_bytes, uint8_t *message,
-                      size_t capacity);
+PACK_MUST_USE
+pack_answer pack_restore(uint64_t *state, size_t words, const uint8_t *journal, size_t journal_bytes,
+                         uint8_t *message, size_t capacity);
 
 /*
  * Records in a boxed session that the coin of a vote, 1 to n, in a round, 1 to PACK_ROUNDS, is this bit, 0 or 1; the vote
  * need not have reached the round, and may have left it. A repeat is accepted. Its line, at the front of the lent bytes, is
  * "K", the vote, the round and the bit; the other bytes keep their value.
  * Answer: bits 16 to 31 the length of the line in bytes, the others 0.
- * Refusals, in this order: PACK_NO_STATE, PACK_CLOSED, PACK_COIN, PACK_SHORT.
+ * Refusals, in this order: PACK_REFUSED_NO_STATE, PACK_REFUSED_CLOSED, PACK_REFUSED_COIN, PACK_REFUSED_SHORT.
  */
-uint64_t pack_record(uint64_t *state, size_t words, uint64_t vote, uint64_t round, uint64_t bit, uint8_t *line,
-                     size_t line_bytes);
+PACK_MUST_USE
+pack_answer pack_record(uint64_t *state, size_t words, uint64_t vote, uint64_t round, uint64_t bit, uint8_t *line,
+                        size_t line_bytes);
 
 /*
  * Opens a coin box: n, ta, ts and weights are those of the session, and coins are n words as a printed session has them.
  * Opening sets the whole buffer, whatever it held.
  * Answer: 0.
- * Refusals, in this order: PACK_NO_STATE (the word count only), PACK_SETTINGS.
+ * Refusals, in this order: PACK_REFUSED_NO_STATE (the word count only), PACK_REFUSED_SETTINGS.
  */
-uint64_t pack_box_open(uint64_t *box, size_t words, uint64_t n, uint64_t ta, uint64_t ts, const uint32_t *coins,
-                       size_t coin_words, const uint8_t *weights, size_t weight_count);
+PACK_MUST_USE
+pack_answer pack_box_open(uint64_t *box, size_t words, uint64_t n, uint64_t ta, uint64_t ts, const uint32_t *coins,
+                          size_t coin_words, const uint8_t *weights, size_t weight_count);
 
 /*
  * Concentrator `requester`, 1 to n, asks the box for the coin of a vote, 1 to n, in a round, 1 to PACK_ROUNDS. Until those
  * that have asked for it weigh ta + 1, each counted once, the answer is sealed; the request that completes the weight is
  * told the bit, and so is every later one. That the request came from the requester is for its link to say.
  * Answer: bits 8 to 15 are 0 for sealed and 1 for a bit, which stands in bits 16 to 23, the others 0.
- * Refusal: PACK_COIN.
+ * Refusal: PACK_REFUSED_COIN.
  */
-uint64_t pack_box_request(uint64_t *box, size_t words, uint64_t requester, uint64_t vote, uint64_t round);
+PACK_MUST_USE
+pack_answer pack_box_request(uint64_t *box, size_t words, uint64_t requester, uint64_t vote, uint64_t round);
 
 /* The parts of an answer. */
 
-static inline unsigned pack_refusal_of(uint64_t answer) { return (unsigned)(answer & 0xff); }
+/* PACK_ACCEPTED, or why the call was refused. */
+static inline enum pack_refusal pack_refusal_of(pack_answer answer) { return (enum pack_refusal)(answer.number & 0xff); }
 
-static inline unsigned pack_outcome_of(uint64_t turn) { return (unsigned)(turn >> 8 & 0xff); }
+/* What a turn that was accepted did; of a restore, PACK_OUTCOME_SENT where a message is given again, else idle. */
+static inline enum pack_outcome pack_outcome_of(pack_answer answer)
+{
+    return (enum pack_outcome)(PACK_OUTCOME_IDLE + (answer.number >> 8 & 0xff));
+}
 
 /* Of the message that a turn sent or a restore gives again, or of the line of an opening, a delivery or a recording. */
-static inline size_t pack_length_of(uint64_t answer) { return (size_t)(answer >> 16 & 0xffff); }
+static inline size_t pack_length_of(pack_answer answer) { return (size_t)(answer.number >> 16 & 0xffff); }
 
-static inline unsigned pack_exit_of(uint64_t report) { return (unsigned)(report >> 8 & 0xff); }
+/* The exit of a report, 1 to 3, or 0 for none. */
+static inline unsigned pack_exit_of(pack_answer report) { return (unsigned)(report.number >> 8 & 0xff); }
 
-static inline size_t pack_named_of(uint64_t report) { return (size_t)(report >> 16 & 0xff); }
+/* How many values a report names. */
+static inline size_t pack_named_of(pack_answer report) { return (size_t)(report.number >> 16 & 0xff); }
 
-static inline size_t pack_in_force_of(uint64_t report) { return (size_t)(report >> 24 & 0xff); }
+/* How many values a report has in force; 0 where the session is not closed. */
+static inline size_t pack_in_force_of(pack_answer report) { return (size_t)(report.number >> 24 & 0xff); }
 
-static inline uint64_t pack_turns_of(uint64_t report) { return report >> 32; }
+/* The turns that a report counts. */
+static inline uint64_t pack_turns_of(pack_answer report) { return report.number >> 32; }
 
-static inline uint32_t pack_complete_of(uint64_t restore) { return (uint32_t)(restore >> 32); }
+/* The bytes of the complete lines that a restore took, modulo 2^32. */
+static inline uint32_t pack_complete_of(pack_answer restore) { return (uint32_t)(restore.number >> 32); }
 
 /* Whether a request is told the bit, not that it is sealed. */
-static inline int pack_told_of(uint64_t request) { return (request >> 8 & 0xff) != 0; }
+static inline int pack_told_of(pack_answer request) { return (request.number >> 8 & 0xff) != 0; }
 
 /* The bit, where it is told. */
-static inline unsigned pack_bit_of(uint64_t request) { return (unsigned)(request >> 16 & 0xff); }
+static inline unsigned pack_bit_of(pack_answer request) { return (unsigned)(request.number >> 16 & 0xff); }
 
-/* The line that is refused with PACK_JOURNAL. */
-static inline uint64_t pack_line_of(uint64_t restore) { return restore >> 8; }
+/* The line that is refused with PACK_REFUSED_JOURNAL. */
+static inline uint64_t pack_line_of(pack_answer restore) { return restore.number >> 8; }
+
+/* Words for printing. */
+
+/* The published word of a refusal. */
+static inline const char *pack_refusal_name(enum pack_refusal refusal)
+{
+    switch (refusal) {
+    case PACK_ACCEPTED: return "ACCEPTED";
+    case PACK_REFUSED_SETTINGS: return "SETTINGS";
+    case PACK_REFUSED_LENGTH: return "LENGTH";
+    case PACK_REFUSED_KIND: return "KIND";
+    case PACK_REFUSED_SESSION: return "SESSION";
+    case PACK_REFUSED_SENDER: return "SENDER";
+    case PACK_REFUSED_FIELD: return "FIELD";
+    case PACK_REFUSED_VALUE: return "VALUE";
+    case PACK_REFUSED_SHORT: return "SHORT";
+    case PACK_REFUSED_NO_STATE: return "NO STATE";
+    case PACK_REFUSED_CLOSED: return "CLOSED";
+    case PACK_REFUSED_HELD: return "HELD";
+    case PACK_REFUSED_JOURNAL: return "JOURNAL";
+    case PACK_REFUSED_COIN: return "COIN";
+    }
+    return "unknown";
+}
+
+/* What a turn did. */
+static inline const char *pack_outcome_name(enum pack_outcome outcome)
+{
+    switch (outcome) {
+    case PACK_OUTCOME_IDLE: return "idle";
+    case PACK_OUTCOME_SENT: return "sent";
+    case PACK_OUTCOME_MOVED_OUT: return "moved out of round 32";
+    case PACK_OUTCOME_IN_FORCE: return "in force";
+    }
+    return "unknown";
+}
 
 #ifdef __cplusplus
 }

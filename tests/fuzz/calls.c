@@ -48,10 +48,11 @@ static uint8_t *lend_line(uint8_t choice)
 }
 
 /* The line of an accepted opening, delivery or recording. */
-static void take_line(unsigned p, uint64_t answer, char letter)
+static void take_line(unsigned p, pack_answer answer, char letter)
 {
     size_t length = pack_length_of(answer);
-    require(answer == (uint64_t)length << 16 && line_lent.size >= PACK_LINE_BYTES, "the answer of a call with a line");
+    require(answer.number == (uint64_t)length << 16 && line_lent.size >= PACK_LINE_BYTES,
+            "the answer of a call with a line");
     require(lent_kept(&line_lent, length) && lent_start(&line_lent)[0] == letter, "the line of a call");
     keep(&kept[p], lent_start(&line_lent), length, NULL, 0);
 }
@@ -60,12 +61,12 @@ static void take_line(unsigned p, uint64_t answer, char letter)
 static uint64_t *words_from(unsigned p, size_t words) { return words_of(p) - (words > PACK_STATE_WORDS ? 1 : 0); }
 
 /* What every call owes: a refusal has no other bits and changes nothing, and a state of another length is refused so. */
-static bool accepted(unsigned p, size_t words, uint64_t answer)
+static bool accepted(unsigned p, size_t words, pack_answer answer)
 {
-    unsigned refusal = pack_refusal_of(answer);
-    require(refusal <= PACK_HELD || refusal == PACK_COIN, "a refusal that is not in the list");
-    require(words == PACK_STATE_WORDS || refusal == PACK_NO_STATE, "a state of another length is taken");
-    require(refusal == PACK_ACCEPTED || answer == refusal, "a refusal with other bits");
+    enum pack_refusal refusal = pack_refusal_of(answer);
+    require(refusal <= PACK_REFUSED_HELD || refusal == PACK_REFUSED_COIN, "a refusal that is not in the list");
+    require(words == PACK_STATE_WORDS || refusal == PACK_REFUSED_NO_STATE, "a state of another length is taken");
+    require(refusal == PACK_ACCEPTED || answer.number == refusal, "a refusal with other bits");
     require(lent_kept(&state[p], refusal == PACK_ACCEPTED ? STATE_BYTES : 0), "a refusal changed the state");
     calls_made++;
     calls_accepted += refusal == PACK_ACCEPTED;
@@ -81,9 +82,10 @@ static void open_state(const struct opening *opening, unsigned p, uint64_t own, 
     memcpy(weights_lent.end - count, opening->weights, count);
     const uint8_t *weights = lend(&weights_lent, count);
     uint8_t *line = lend_line(choice);
-    uint64_t answer = pack_open(words_from(p, words), words, opening->n, opening->ta, opening->ts, own, opening->session,
-                                opening->input + p % 3 * (opening->input & 1), opening->coins, opening->coin_words,
-                                count == 0 ? NULL : weights, count, opening->boxed, line, line_lent.size);
+    pack_answer answer =
+        pack_open(words_from(p, words), words, opening->n, opening->ta, opening->ts, own, opening->session,
+                  opening->input + p % 3 * (opening->input & 1), opening->coins, opening->coin_words,
+                  count == 0 ? NULL : weights, count, opening->boxed, line, line_lent.size);
     require(memcmp(before, opening->coins, sizeof before) == 0, "an opening changed the coins");
     require(lent_kept(&weights_lent, 0), "an opening changed the weights");
     if (accepted(p, words, answer))
@@ -94,12 +96,12 @@ static void open_state(const struct opening *opening, unsigned p, uint64_t own, 
 }
 
 /* A bit recorded at state p. In an open boxed session one of the layout is taken, unless the other bit is there. */
-static uint64_t record(unsigned p, uint64_t vote, uint64_t round, uint64_t bit, uint8_t choice)
+static enum pack_refusal record(unsigned p, uint64_t vote, uint64_t round, uint64_t bit, uint8_t choice)
 {
     size_t words = lend_state(p, choice);
     uint8_t *line = lend_line(choice);
-    uint64_t answer = pack_record(words_from(p, words), words, vote, round, bit, line_lent.size == 0 ? NULL : line,
-                                  line_lent.size);
+    pack_answer answer =
+        pack_record(words_from(p, words), words, vote, round, bit, line_lent.size == 0 ? NULL : line, line_lent.size);
     if (accepted(p, words, answer)) {
         require(vote >= 1 && vote <= words_of(p)[0] && round >= 1 && round <= PACK_ROUNDS && bit <= 1, "a coin is taken");
         take_line(p, answer, 'K');
@@ -114,7 +116,7 @@ static void record_any(struct input *in, unsigned p)
 {
     uint64_t vote = take_number(in), round = take_number(in), bit = take_number(in);
     if (record(p, vote, round, bit, take(in)) == PACK_ACCEPTED) {
-        require(record(p, vote, round, 1 - bit, 0) == PACK_COIN, "two bits for one coin");
+        require(record(p, vote, round, 1 - bit, 0) == PACK_REFUSED_COIN, "two bits for one coin");
         require(irregular || record(p, vote, round, bit, 0) == PACK_ACCEPTED, "a repeat is refused");
     }
 }
@@ -125,20 +127,20 @@ static void record_told(const struct opening *opening, uint64_t rounds)
     for (uint64_t vote = 1; vote <= opening->n && vote <= PACK_CONCENTRATORS; vote++)
         for (uint64_t round = 1; round <= rounds; round++)
             for (unsigned p = 0; p < STATES; p++) {
-                uint64_t told = box_request(p + 1, vote, round);
+                pack_answer told = box_request(p + 1, vote, round);
                 if (pack_told_of(told))
                     record(p, vote, round, pack_bit_of(told), 0);
             }
 }
 
 /* Answers the refusal. */
-static uint64_t deliver_once(unsigned p, uint64_t link, size_t length, uint8_t choice)
+static enum pack_refusal deliver_once(unsigned p, uint64_t link, size_t length, uint8_t choice)
 {
     size_t words = lend_state(p, choice);
     uint8_t *message = lend(&bytes_lent, length);
     uint8_t *line = lend_line(choice);
-    uint64_t answer = pack_deliver(words_from(p, words), words, link, length == 0 ? NULL : message, length,
-                                   line_lent.size == 0 ? NULL : line, line_lent.size);
+    pack_answer answer = pack_deliver(words_from(p, words), words, link, length == 0 ? NULL : message, length,
+                                      line_lent.size == 0 ? NULL : line, line_lent.size);
     require(lent_kept(&bytes_lent, 0), "a delivery changed the message");
     if (accepted(p, words, answer))
         take_line(p, answer, 'D');
@@ -148,28 +150,32 @@ static uint64_t deliver_once(unsigned p, uint64_t link, size_t length, uint8_t c
 }
 
 /* Delivers the bytes; where they are taken, the same delivery again is held. */
-static uint64_t deliver(unsigned p, uint64_t link, const uint8_t *message, size_t length, uint8_t choice)
+static enum pack_refusal deliver(unsigned p, uint64_t link, const uint8_t *message, size_t length, uint8_t choice)
 {
     memcpy(bytes_lent.end - length, message, length);
-    uint64_t answer = deliver_once(p, link, length, choice);
-    if (answer == PACK_ACCEPTED)
-        require(deliver_once(p, link, length, 0) == PACK_HELD, "a second delivery is not held");
-    note(1, (unsigned)answer * 8 + (length > 1 ? message[1] & 7 : 0));
-    return answer;
+    enum pack_refusal refusal = deliver_once(p, link, length, choice);
+    if (refusal == PACK_ACCEPTED)
+        require(deliver_once(p, link, length, 0) == PACK_REFUSED_HELD, "a second delivery is not held");
+    note(1, refusal * 8 + (length > PACK_BYTE_KIND ? message[PACK_BYTE_KIND] & 7 : 0));
+    return refusal;
 }
 
 static void check_sent(unsigned p, const uint8_t *message, size_t length)
 {
     const uint64_t *words = words_of(p);
-    require(length == 12 + 8 * (size_t)message[5] && length >= 20, "the length of a message that is sent");
-    require(message[0] == 1 && message[1] >= 1 && message[1] <= 6, "the kind of a message that is sent");
-    require(message[2] == words[3], "the sender of a message that is sent");
+    size_t count = pack_message_count(message);
+    enum pack_kind kind = pack_message_kind(message);
+    require(length == PACK_HEADER_BYTES + PACK_VALUE_BYTES * count && count >= 1,
+            "the length of a message that is sent");
+    require(message[PACK_BYTE_VERSION] == PACK_MESSAGE_VERSION, "the version of a message that is sent");
+    require(kind >= PACK_KIND_SEND && kind <= PACK_KIND_COMMIT, "the kind of a message that is sent");
+    require(pack_message_sender(message) == words[3], "the sender of a message that is sent");
     if (sent_count < SENT) {
         memcpy(sent[sent_count].bytes, message, length);
         sent[sent_count].length = length;
         sent[sent_count++].next = 0;
     }
-    note(2, message[1] * 64u + (message[1] == 6 ? message[5] : message[4]));
+    note(2, kind * 64u + (kind == PACK_KIND_COMMIT ? (unsigned)count : pack_message_round(message)));
 }
 
 /* One turn; answers whether it was accepted and not idle. */
@@ -178,23 +184,24 @@ static bool turn(unsigned p, size_t capacity, uint8_t choice)
     size_t words = lend_state(p, choice);
     uint8_t *message = lend_filled(&bytes_lent, capacity, 0xa5);
     uint8_t *line = lend_line(choice);
-    uint64_t answer = pack_turn(words_from(p, words), words, capacity == 0 ? NULL : message, capacity, line, line_lent.size);
-    unsigned outcome = pack_outcome_of(answer);
+    pack_answer answer =
+        pack_turn(words_from(p, words), words, capacity == 0 ? NULL : message, capacity, line, line_lent.size);
+    enum pack_outcome outcome = pack_outcome_of(answer);
     size_t length = pack_length_of(answer);
-    note(3, (unsigned)(answer & 0xffff) % 512);
-    bool acted = answer >> 8 != 0;
+    note(3, (unsigned)(answer.number & 0xffff) % 512);
+    bool acted = answer.number >> 8 != 0;
     require(lent_kept(&bytes_lent, length) && lent_kept(&line_lent, acted ? PACK_TURN_LINE : 0), "a turn wrote other bytes");
     if (!accepted(p, words, answer))
         return false;
-    require(outcome <= PACK_IN_FORCE && answer >> 32 == 0, "a turn's answer");
-    require((outcome == PACK_SENT) == (length != 0), "a length with no message");
+    require(outcome <= PACK_OUTCOME_IN_FORCE && answer.number >> 32 == 0, "a turn's answer");
+    require((outcome == PACK_OUTCOME_SENT) == (length != 0), "a length with no message");
     require(capacity >= PACK_MESSAGE_BYTES && line_lent.size >= PACK_LINE_BYTES, "a turn lent too little");
-    require(outcome != PACK_IDLE || lent_kept(&state[p], 0), "an idle turn changed the state");
+    require(outcome != PACK_OUTCOME_IDLE || lent_kept(&state[p], 0), "an idle turn changed the state");
     if (acted)
         keep(&kept[p], line, PACK_TURN_LINE, message, length);
-    if (outcome == PACK_SENT)
+    if (outcome == PACK_OUTCOME_SENT)
         check_sent(p, message, length);
-    return outcome != PACK_IDLE;
+    return outcome != PACK_OUTCOME_IDLE;
 }
 
 static bool rising(const uint64_t *values, size_t count)
@@ -210,13 +217,13 @@ static void report(unsigned p, size_t named_words, size_t in_force_words, uint8_
     size_t words = lend_state(p, choice);
     uint64_t *named = lend_filled(&named_lent, 8 * named_words, 0xa5);
     uint64_t *in_force = lend_filled(&in_force_lent, 8 * in_force_words, 0xa5);
-    uint64_t answer = pack_report(words_from(p, words), words, named, named_words, in_force, in_force_words);
+    pack_answer answer = pack_report(words_from(p, words), words, named, named_words, in_force, in_force_words);
     size_t named_count = pack_named_of(answer), in_force_count = pack_in_force_of(answer);
     bool given = accepted(p, words, answer);
     require(lent_kept(&state[p], 0), "a report changed the state");
     require(lent_kept(&named_lent, 8 * named_count), "a report wrote other words named");
     require(lent_kept(&in_force_lent, 8 * in_force_count), "a report wrote other words in force");
-    note(4, given ? 16 + pack_exit_of(answer) * 32 + (unsigned)named_count : (unsigned)answer);
+    note(4, given ? 16 + pack_exit_of(answer) * 32 + (unsigned)named_count : (unsigned)answer.number);
     if (!given)
         return;
     require(named_words >= PACK_SET_WORDS && in_force_words >= PACK_SET_WORDS, "a report lent too little");
@@ -236,9 +243,11 @@ static void run_feeder(uint64_t order)
                 left = true;
         for (size_t k = 0; k < sent_count; k++)
             for (; sent[k].next < STATES; sent[k].next++, left = true) {
-                uint64_t link = sent[k].bytes[2];
-                uint64_t answer = deliver((sent[k].next + order) % STATES, link, sent[k].bytes, sent[k].length, 0);
-                require(irregular || (answer != PACK_VALUE && answer != PACK_FIELD && answer != PACK_KIND),
+                uint64_t link = pack_message_sender(sent[k].bytes);
+                enum pack_refusal refusal =
+                    deliver((sent[k].next + order) % STATES, link, sent[k].bytes, sent[k].length, 0);
+                require(irregular || (refusal != PACK_REFUSED_VALUE && refusal != PACK_REFUSED_FIELD &&
+                                      refusal != PACK_REFUSED_KIND),
                         "a message that was sent is refused by its form");
             }
         if (!left)
@@ -249,18 +258,19 @@ static void run_feeder(uint64_t order)
 /* A message with this head and these values, at most PACK_MESSAGE_BYTES. */
 static size_t build(struct input *in, uint8_t *message, uint8_t session)
 {
-    uint8_t kind = take(in), place = take(in);
+    uint8_t drawn = take(in), place = take(in), kind = drawn & 7, sender = 1 + (place & 15);
+    uint8_t count = kind == PACK_KIND_COMMIT ? 1 + (drawn >> 3) % PACK_CONCENTRATORS : 1;
     memset(message, 0, PACK_MESSAGE_BYTES);
-    message[0] = 1;
-    message[1] = kind & 7;
-    message[2] = 1 + (place & 15);
-    message[3] = (kind & 7) == 1 ? message[2] : (kind & 7) == 6 ? 0 : 1 + (place >> 4);
-    message[4] = (kind & 7) == 4 || (kind & 7) == 5 ? 1 + (kind >> 3) : 0;
-    message[5] = (kind & 7) == 6 ? 1 + (kind >> 3) % PACK_CONCENTRATORS : 1;
-    message[11] = session;
-    for (uint8_t k = 0; k < message[5]; k++)
-        message[12 + 8 * k + 7] = take(in);
-    return 12 + 8 * (size_t)message[5];
+    message[PACK_BYTE_VERSION] = PACK_MESSAGE_VERSION;
+    message[PACK_BYTE_KIND] = kind;
+    message[PACK_BYTE_SENDER] = sender;
+    message[PACK_BYTE_INSTANCE] = kind == PACK_KIND_SEND ? sender : kind == PACK_KIND_COMMIT ? 0 : 1 + (place >> 4);
+    message[PACK_BYTE_ROUND] = kind == PACK_KIND_EST || kind == PACK_KIND_AUX ? 1 + (drawn >> 3) : 0;
+    message[PACK_BYTE_COUNT] = count;
+    message[PACK_BYTE_SESSION + 3] = session;
+    for (uint8_t k = 0; k < count; k++)
+        message[PACK_HEADER_BYTES + PACK_VALUE_BYTES * k + PACK_VALUE_BYTES - 1] = take(in);
+    return PACK_HEADER_BYTES + PACK_VALUE_BYTES * (size_t)count;
 }
 
 /* A forged message to one state, or to all; at times with a byte changed. */
@@ -268,7 +278,7 @@ static void forge(struct input *in, uint8_t code, uint8_t session)
 {
     uint8_t message[PACK_MESSAGE_BYTES], p = take(in);
     size_t length = build(in, message, session);
-    uint64_t link = message[2];
+    uint64_t link = pack_message_sender(message);
     if (code & 0x80)
         message[take(in) % length] = take(in);
     if (code & 0x40)
@@ -285,9 +295,9 @@ static void copy_from_all(struct input *in)
     for (size_t k = sent_count > back ? sent_count - back : 0; k < sent_count; k++)
         for (uint8_t sender = 1; sender <= PACK_CONCENTRATORS; sender++) {
             struct message copy = sent[k];
-            copy.bytes[2] = sender;
-            if (copy.bytes[1] == 1)
-                copy.bytes[3] = sender;
+            copy.bytes[PACK_BYTE_SENDER] = sender;
+            if (pack_message_kind(copy.bytes) == PACK_KIND_SEND)
+                copy.bytes[PACK_BYTE_INSTANCE] = sender;
             deliver(0, sender, copy.bytes, copy.length, 0);
         }
 }
@@ -295,7 +305,7 @@ static void copy_from_all(struct input *in)
 static void deliver_raw(struct input *in)
 {
     static uint8_t raw[4096];
-    size_t length = take(in) % 3 == 0 ? 12 + 8 * (size_t)take(in) : take(in);
+    size_t length = take(in) % 3 == 0 ? PACK_HEADER_BYTES + PACK_VALUE_BYTES * (size_t)take(in) : take(in);
     uint64_t link = take_number(in);
     for (size_t k = 0; k < length; k++)
         raw[k] = take(in);

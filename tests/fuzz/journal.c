@@ -14,20 +14,22 @@
 static struct lent first_lent, second_lent, journal_lent, message_lent, other_lent;
 
 /* Restores the bytes onto a buffer that was filled so. What every restore owes is checked. */
-static uint64_t restore(struct lent *state, const uint8_t *bytes, size_t length, uint8_t fill, struct lent *message)
+static pack_answer restore(struct lent *state, const uint8_t *bytes, size_t length, uint8_t fill, struct lent *message)
 {
     uint64_t *words = lend_filled(state, STATE_BYTES, fill);
     uint8_t *lent = lend_filled(message, PACK_MESSAGE_BYTES, 0xa5);
     memcpy(journal_lent.end - length, bytes, length);
     const uint8_t *journal = lend(&journal_lent, length);
-    uint64_t answer = pack_restore(words, PACK_STATE_WORDS, length == 0 ? NULL : journal, length, lent, PACK_MESSAGE_BYTES);
+    pack_answer answer =
+        pack_restore(words, PACK_STATE_WORDS, length == 0 ? NULL : journal, length, lent, PACK_MESSAGE_BYTES);
     bool accepted = pack_refusal_of(answer) == PACK_ACCEPTED;
     size_t sent = accepted ? pack_length_of(answer) : 0;
-    require(accepted || pack_refusal_of(answer) == PACK_JOURNAL, "a refusal that no restore gives");
+    require(accepted || pack_refusal_of(answer) == PACK_REFUSED_JOURNAL, "a refusal that no restore gives");
     require(lent_kept(&journal_lent, 0), "a restore changed the journal");
     require(lent_kept(state, accepted ? STATE_BYTES : 0), "a refusal changed the state");
     require(lent_kept(message, sent), "a restore wrote other bytes");
-    require(!accepted || pack_outcome_of(answer) == (sent != 0), "a message without a length, or a length without one");
+    require(!accepted || pack_outcome_of(answer) == (sent != 0 ? PACK_OUTCOME_SENT : PACK_OUTCOME_IDLE),
+            "a message without a length, or a length without one");
     calls_made++;
     calls_accepted += accepted;
     return answer;
@@ -58,13 +60,13 @@ static size_t end_of(const uint8_t *bytes, uint64_t lines)
 static bool same_words(void) { return memcmp(lent_start(&first_lent), lent_start(&second_lent), STATE_BYTES) == 0; }
 
 /* A refused journal: the lines before the one that is named are taken, where there are any. */
-static void check_refused(const uint8_t *bytes, uint64_t answer, size_t lines)
+static void check_refused(const uint8_t *bytes, pack_answer answer, size_t lines)
 {
     uint64_t line = pack_line_of(answer);
     require(line >= 1 && (line <= lines || (lines == 0 && line == 1)), "a line that is not there");
     note(1, (unsigned)line);
     if (line > 1) {
-        uint64_t before = restore(&first_lent, bytes, end_of(bytes, line - 1), 0, &message_lent);
+        pack_answer before = restore(&first_lent, bytes, end_of(bytes, line - 1), 0, &message_lent);
         require(pack_refusal_of(before) == PACK_ACCEPTED, "the lines before the one that is named are refused");
     }
 }
@@ -76,8 +78,11 @@ static void check_short(const uint8_t *bytes, size_t length)
     uint8_t *message = lend_filled(&message_lent, PACK_MESSAGE_BYTES, 0xa5);
     memcpy(journal_lent.end - length, bytes, length);
     const uint8_t *journal = lend(&journal_lent, length);
-    require(pack_restore(words + 1, PACK_STATE_WORDS - 1, journal, length, message + 1, 139) == PACK_NO_STATE, "2047 words");
-    require(pack_restore(words, PACK_STATE_WORDS, journal, length, message + 1, 139) == PACK_SHORT, "139 bytes");
+    require(pack_restore(words + 1, PACK_STATE_WORDS - 1, journal, length, message + 1, 139).number ==
+                PACK_REFUSED_NO_STATE,
+            "2047 words");
+    require(pack_restore(words, PACK_STATE_WORDS, journal, length, message + 1, 139).number == PACK_REFUSED_SHORT,
+            "139 bytes");
     require(lent_kept(&second_lent, 0) && lent_kept(&message_lent, 0), "a refusal changed something");
 }
 
@@ -86,13 +91,13 @@ static bool turn_on(uint8_t *bytes, size_t *length)
 {
     uint8_t message[PACK_MESSAGE_BYTES], line[PACK_LINE_BYTES];
     uint64_t *words = (uint64_t *)(void *)lent_start(&first_lent);
-    uint64_t answer = pack_turn(words, PACK_STATE_WORDS, message, sizeof message, line, sizeof line);
-    unsigned refusal = pack_refusal_of(answer);
-    require(refusal == PACK_ACCEPTED || refusal == PACK_CLOSED, "a turn on what was restored");
+    pack_answer answer = pack_turn(words, PACK_STATE_WORDS, message, sizeof message, line, sizeof line);
+    enum pack_refusal refusal = pack_refusal_of(answer);
+    require(refusal == PACK_ACCEPTED || refusal == PACK_REFUSED_CLOSED, "a turn on what was restored");
     memcpy(bytes + *length, "T\n", PACK_TURN_LINE);
-    uint64_t restored = restore(&second_lent, bytes, *length + PACK_TURN_LINE, 0x77, &other_lent);
-    if (refusal != PACK_ACCEPTED || pack_outcome_of(answer) == PACK_IDLE) {
-        require(pack_refusal_of(restored) == PACK_JOURNAL, "a turn that did nothing is taken from the journal");
+    pack_answer restored = restore(&second_lent, bytes, *length + PACK_TURN_LINE, 0x77, &other_lent);
+    if (refusal != PACK_ACCEPTED || pack_outcome_of(answer) == PACK_OUTCOME_IDLE) {
+        require(pack_refusal_of(restored) == PACK_REFUSED_JOURNAL, "a turn that did nothing is taken from the journal");
         return false;
     }
     size_t sent = pack_length_of(answer);
@@ -100,7 +105,7 @@ static bool turn_on(uint8_t *bytes, size_t *length)
     require(pack_refusal_of(restored) == PACK_ACCEPTED && same_words(), "the next line gives other words");
     require(pack_complete_of(restored) == *length && pack_length_of(restored) == sent, "the answer to the next line");
     require(memcmp(message, lent_start(&other_lent), sent) == 0, "the next line gives another message");
-    note(2, sent == 0 ? pack_outcome_of(answer) : message[1] * 64u + message[4]);
+    note(2, sent == 0 ? pack_outcome_of(answer) : pack_message_kind(message) * 64u + pack_message_round(message));
     return true;
 }
 
@@ -112,23 +117,27 @@ static void record_on(uint8_t *bytes, size_t *length, uint64_t vote, uint64_t ro
 {
     uint8_t line[PACK_LINE_BYTES];
     uint64_t *words = (uint64_t *)(void *)lent_start(&first_lent);
-    uint64_t answer = pack_record(words, PACK_STATE_WORDS, vote, round, bit, line, sizeof line);
-    unsigned refusal = pack_refusal_of(answer);
-    require(refusal == PACK_ACCEPTED || refusal == PACK_COIN || refusal == PACK_CLOSED, "a recording on what was restored");
+    pack_answer answer = pack_record(words, PACK_STATE_WORDS, vote, round, bit, line, sizeof line);
+    enum pack_refusal refusal = pack_refusal_of(answer);
+    require(refusal == PACK_ACCEPTED || refusal == PACK_REFUSED_COIN || refusal == PACK_REFUSED_CLOSED,
+            "a recording on what was restored");
     note(3, refusal);
     if (refusal == PACK_ACCEPTED) {
         memcpy(bytes + *length, line, pack_length_of(answer));
         *length += pack_length_of(answer);
-        uint64_t restored = restore(&second_lent, bytes, *length, 0x55, &other_lent);
-        require(restored == (uint64_t)*length << 32 && same_words(), "the line of a recording gives other words");
-        require(pack_record(words, PACK_STATE_WORDS, vote, round, 1 - bit, line, sizeof line) == PACK_COIN, "the other bit");
+        pack_answer restored = restore(&second_lent, bytes, *length, 0x55, &other_lent);
+        require(restored.number == (uint64_t)*length << 32 && same_words(),
+                "the line of a recording gives other words");
+        require(pack_record(words, PACK_STATE_WORDS, vote, round, 1 - bit, line, sizeof line).number ==
+                    PACK_REFUSED_COIN,
+                "the other bit");
     }
 }
 
 static void check_report(void)
 {
     uint64_t named[PACK_SET_WORDS], in_force[PACK_SET_WORDS], *words = (uint64_t *)(void *)lent_start(&first_lent);
-    uint64_t answer = pack_report(words, PACK_STATE_WORDS, named, PACK_SET_WORDS, in_force, PACK_SET_WORDS);
+    pack_answer answer = pack_report(words, PACK_STATE_WORDS, named, PACK_SET_WORDS, in_force, PACK_SET_WORDS);
     require(pack_refusal_of(answer) == PACK_ACCEPTED, "a report on what was restored");
     note(3, pack_exit_of(answer) * 256 + (unsigned)pack_turns_of(answer) % 256);
 }
@@ -150,8 +159,9 @@ int LLVMFuzzerTestOneInput(const uint8_t *data, size_t size)
     size_t complete, length = size < JOURNAL_MOST ? size : JOURNAL_MOST;
     memcpy(bytes, data, length);
     size_t lines = count_lines(bytes, length, &complete);
-    uint64_t answer = restore(&first_lent, bytes, length, 0, &message_lent);
-    require(restore(&second_lent, bytes, length, 0xff, &other_lent) == answer, "two buffers, two answers");
+    pack_answer answer = restore(&first_lent, bytes, length, 0, &message_lent);
+    require(restore(&second_lent, bytes, length, 0xff, &other_lent).number == answer.number,
+            "two buffers, two answers");
     if (pack_refusal_of(answer) != PACK_ACCEPTED) {
         check_refused(bytes, answer, lines);
         check_short(bytes, length);
@@ -161,7 +171,8 @@ int LLVMFuzzerTestOneInput(const uint8_t *data, size_t size)
     require(memcmp(lent_start(&message_lent), lent_start(&other_lent), PACK_MESSAGE_BYTES) == 0, "two messages");
     require(pack_complete_of(answer) == complete && lines > 0, "the bytes of the complete lines");
     note(0, (unsigned)lines);
-    require(restore(&second_lent, bytes, complete, 0x11, &other_lent) == answer && same_words(), "a torn line counts");
+    require(restore(&second_lent, bytes, complete, 0x11, &other_lent).number == answer.number && same_words(),
+            "a torn line counts");
     check_report();
     length = complete;
     for (unsigned turns = 0; turns < 4 && turn_on(bytes, &length); turns++) {

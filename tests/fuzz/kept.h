@@ -50,9 +50,10 @@ static inline void check_kept(const struct kept *kept, const uint64_t *words)
     memcpy(journal + kept->length, torn, sizeof torn);
     memset(restored, 0xc3, sizeof restored);
     memset(message, 0xa5, sizeof message);
-    uint64_t answer = pack_restore(restored, PACK_STATE_WORDS, journal, kept->length + sizeof torn, message, sizeof message);
+    pack_answer answer =
+        pack_restore(restored, PACK_STATE_WORDS, journal, kept->length + sizeof torn, message, sizeof message);
     uint64_t expected = (uint64_t)kept->length << 32 | (uint64_t)kept->sent << 16 | (uint64_t)(kept->sent != 0) << 8;
-    require(answer == expected, "the answer to a whole journal");
+    require(answer.number == expected, "the answer to a whole journal");
     require(memcmp(restored, words, sizeof restored) == 0, "a journal gives other words back");
     require(memcmp(message, kept->message, kept->sent) == 0, "a journal gives another message back");
     for (size_t k = kept->sent; k < sizeof message; k++)

@@ -26,6 +26,6 @@ orAct a b = cond (isDue a) a b
 unfoldable pub actAt : (ℕ → Act) → ℕ → Act
 actAt f p = cond (eqb p 0) Idle (f p)
 
--- "lower instances first": of f 1 to f n the first that is due
+-- of f 1 to f n the first that is due, the lowest instance first (PROTOCOL 8.1)
 unfoldable pub firstAct : (ℕ → Act) → ℕ → Act
 firstAct f n = actAt f (lowest (λ i. isDue (f i)) n)

@@ -1,5 +1,5 @@
--- Demand 3 over lawful histories: sets that exits name or that are in force are one and the same, none is in force that exits had not named
--- before, and with equal inputs only the set of that input is shown.
+-- Agreement over lawful histories (PROTOCOL 16.8 to 16.10): sets that exits name or that are in force are one and the same, none is in force
+-- that exits had not named before, and with equal inputs only the set of that input is shown.
 use Prim.Native.Nat.{ℕ}
 use mathlib.Core.List.{List, [], _∷_}
 use mathlib.Core.Path.{_≡_}
@@ -7,7 +7,7 @@ use Rattle.agreement.specs.Evidence.{World, whole, Sound, Honest, Backed
 use Rattle.agreement.specs.History.{send, commit, History, Single, Did, Naming, Lawful}
 use Rattle.agreement.specs.Moments.{Within, Before}
 
--- "In force: n−ts senders' COMMITs hold the same set."
+-- a set is in force where its COMMITs are a quorum (PROTOCOL 7.4)
 abbrev pub InForce : World → History → List ℕ → Type 0
 InForce W h X = Backed W (whole W) (W .settings .ts) (λ m. Did h m (commit X))
 

@@ -1,9 +1,9 @@
 -- For the author of a firmware: after every list of calls that meets the conditions, an opened honest one's journal, cut at any byte behind its
 -- first line, is taken, whatever the 2,048 words of the buffer are, and gives back the state after its last complete line and the message of
--- that line.
+-- that line (PROTOCOL 16.12).
 use Prim.Native.Nat.{ℕ, _≤_}
 use mathlib.Core.Bool.{Bool}
-use mathlib.Core.List.{List, _∷_}
+use mathlib.Core.List.{List, [], _∷_}
 use mathlib.Core.Option.{none, some, Option}
 use mathlib.Core.Path.{_≡_}
 use lib.ListN.{length, take}
@@ -11,9 +11,22 @@ use Rattle.records.specs.Layout.{stateWords}
 use Rattle.turn.specs.Turn.{sentLength, turnBytes}
 use Rattle.journal.specs.Journal.{turnedOutcome}
 use Rattle.restore.specs.Restoring.{MESSAGE-BYTES, restoreAnswer, restoredWords, restoredBytes}
-use Rattle.agreement.specs.Calls.{Call, Moment, Journal, words, bytes, complete, journal, lastTurn, Opened, Conditions, line}
-use Rattle.agreement.specs.EngineCalls.{engine, Agreed, Bytes, TurnLent, SendsBytes}
+use Rattle.calls.specs.Machine.{Machine, Call, opening, delivery, turn, report, restore, recording, words}
+use Rattle.agreement.specs.Journals.{Moment, Journal, bytes, complete, journal, line}
+use Rattle.agreement.specs.DemandThree.{Opened, Conditions}
+use Rattle.calls.specs.Engine.{engine, Agreed, Bytes, TurnLent, SendsBytes}
 use Rattle.restore.specs.declared.Restored.the-variants as answer
+
+module _ (M : Machine) (start : ℕ → M .Words) where
+  -- the last call of a moment, where it is a turn: the words before it, and what it was lent
+  abbrev pub lastTurn : Moment M → Option (M .Words × M .Lent)
+  lastTurn [] = none
+  lastTurn (opening p o ∷ cs) = none
+  lastTurn (delivery p m b ∷ cs) = none
+  lastTurn (turn p l ∷ cs) = some (words M start cs p, l)
+  lastTurn (report p r ∷ cs) = none
+  lastTurn (restore p v r ∷ cs) = none
+  lastTurn (recording p x ∷ cs) = none
 
 -- a turn as the last call: the words before it
 abbrev pub Last : Type 0

@@ -1,12 +1,13 @@
 -- The world of a session, and evidence: sets of senders that are heavy enough to have honest members.
--- Thresholds stand as sums: "n−ts senders" is whole ≤ weight + ts.
+-- Thresholds stand as sums: a quorum of senders is whole ≤ weight + ts (PROTOCOL 1.14).
 use Prim.Native.Nat.{ℕ, _+_, _*_, _≤_, _<_}
-use mathlib.Core.Bool.{Bool, true, not}
+use mathlib.Core.Bool.{Bool, true}
 use mathlib.Core.Path.{_≡_}
+use Rattle.settings.specs.Settings.{weighed}
 use Rattle.settings.specs.Rules.{Ruled}
 use Rattle.settings.specs.declared.Settings.{Settings}
-use Rattle.quorum.specs.Total.{total, everyone}
-use Rattle.quorum.specs.Weights.{weightOf}
+use Rattle.quorum.specs.Total.{everyone}
+use Rattle.agreement.specs.Honest as honest
 
 -- the session's settings, who is honest, and the coin of a vote and a round
 pub record World : Type 0 where
@@ -16,14 +17,14 @@ pub record World : Type 0 where
 
 -- what the members of a set count: the weights of the senders. Every count of senders goes through here.
 abbrev pub weigh : World → (ℕ → Bool) → ℕ
-weigh W M = total (weightOf (W .settings .weights)) M (W .settings .n)
+weigh W M = weighed (W .settings) M
 
 abbrev pub whole : World → ℕ
 whole W = weigh W everyone
 
 -- what the liars count
 abbrev pub liars : World → ℕ
-liars W = weigh W (λ m. not (W .honest m))
+liars W = honest.liars (W .settings) (W .honest)
 
 -- settings within the rules, and liars of at most L, which is at most ts
 pub record Sound (W : World) (L : ℕ) : Type 0 where
@@ -33,11 +34,8 @@ pub record Sound (W : World) (L : ℕ) : Type 0 where
   pub few : liars W ≤ L
 
 module _ (W : World) where
-  -- "Honest are any chosen numbers from 1 to n"
-  pub record Honest (m : ℕ) : Type 0 where
-    pub low : 1 ≤ m
-    pub high : m ≤ W .settings .n
-    pub fair : W .honest m ≡ true
+  abbrev pub Honest : ℕ → Type 0
+  Honest m = honest.Honest (W .settings) (W .honest) m
 
   -- a set of senders of weight k or more, up to the slack, whose honest members have P
   pub record Backed (k slack : ℕ) (P : ℕ → Type 0) : Type 0 where

@@ -10,7 +10,7 @@ use Rattle.acts.specs.declared.View.{View}
 use Rattle.acts.specs.declared.View.the-variants.{Only, Both}
 use Rattle.votes.specs.Votes.{estimate, coinValue}
 use Rattle.broadcasts.specs.declared.Output.the-variants.{Value}
-use Rattle.exits.specs.Exits.{Standing, exitAt}
+use Rattle.exits.specs.Standing.{Standing, exitAt}
 use Rattle.settings.specs.declared.Settings.{Settings}
 use Rattle.agreement.specs.Evidence.{World, whole, Honest, Backed}
 
@@ -68,7 +68,7 @@ module _ (W : World) where
   abbrev ts : ℕ
   ts = W .settings .ts
 
-  -- m sent the EST of its own accord: "Starting enters round 1 .. and sends EST of that value", "Moving enters the next round and sends its EST"
+  -- m sent the EST of its own accord: a start sends its value in round 1, a move its estimate in the round that it enters (PROTOCOL 5.3, 5.11)
   pub data Own (h : History) (i r b m : ℕ) : Type 0 where
     started : r ≡ 1 → Did h m (start i b) → Own h i r b m
     moved : (q : ℕ) (v : View) → r ≡ suc q → estimate (W .coin i q) v ≡ b → Did h m (move i q v) → Own h i r b m
@@ -78,11 +78,11 @@ module _ (W : World) where
     own : Own h i r b m → Est h i r b m
     relayed : Did h m (relay i r b) → Est h i r b m
 
-  -- "A value is accepted in a round when 2·ta+1 senders' ESTs hold it."
+  -- a value is accepted in a round once its ESTs there reach the accept threshold (PROTOCOL 5.5)
   abbrev pub Accepted : History → ℕ → ℕ → ℕ → Type 0
   Accepted h i r b = Backed W (2 * ta + 1) 0 (Est h i r b)
 
-  -- "If those carry just one value b, .. vote i is decided b if b equals the coin"
+  -- a move that sees only b decides b where b is the coin (PROTOCOL 5.9)
   pub record Deciding (h : History) (i b m : ℕ) : Type 0 where
     pub round : ℕ
     pub coin : b ≡ coinValue (W .coin i round)
@@ -92,7 +92,7 @@ module _ (W : World) where
   pub data Decided (h : History) (p i b : ℕ) : Type 0 where
     by-move : Deciding h i b p → Decided h p i b
 
-  -- "A broadcast has output v when n−ts senders' READYs hold v."
+  -- a broadcast has output v where READYs of v are a quorum (PROTOCOL 4.3)
   abbrev pub Delivers : History → ℕ → ℕ → Type 0
   Delivers h i v = Backed W (whole W) ts (λ m. Did h m (ready i v))
 
@@ -114,7 +114,7 @@ module _ (W : World) (G : ℕ → Act → Type 0) where
     pub occurs : Occurs value v
     pub sent : Heard G h (aux i r value) m
 
-  -- "when at least n−ta held AUXs carry accepted values"
+  -- the AUXs with accepted values reach the vote quorum (PROTOCOL 5.7)
   pub record Moving (h : History) (i r : ℕ) (v : View) : Type 0 where
     pub round : 1 ≤ r
     pub quorum : Backed W (whole W) (ta W) (Voiced h i r v)
@@ -123,16 +123,16 @@ module _ (W : World) (G : ℕ → Act → Type 0) where
   -- what is asked of an act of p after h
   abbrev pub Guard : History → ℕ → Act → Type 0
   Guard h p (send v) = Unit {0}
-  -- "ECHO of the value in the instance's SEND"
+  -- an ECHO carries the value of the SEND (PROTOCOL 4.4)
   Guard h p (echo i v) = Honest W i → Did h i (send v)
-  -- "a value with n−ts ECHOs, else one with ts+1 READYs"
+  -- a quorum of ECHOs, or else READYs that reach the repeat threshold (PROTOCOL 4.5)
   Guard h p (ready i v) = Backed W (whole W) (ts W) (Heard G h (echo i v)) ⊎ Backed W (ts W + 1) 0 (λ m. Did h m (ready i v))
   Guard h p (start i b) = Unit {0}
-  -- "held from ta+1 senders"
+  -- ESTs that reach the relay threshold (PROTOCOL 5.4)
   Guard h p (relay i r b) = Backed W (ta W + 1) 0 (Est W h i r b)
   Guard h p (aux i r b) = Unit {0}
   Guard h p (move i r v) = Moving h i r v
-  -- "the set the exits name, else a set held from ts+1 senders"
+  -- the named set, or else one whose COMMITs reach the repeat threshold (PROTOCOL 7.2)
   Guard h p (commit X) = Naming W h X p ⊎ Backed W (ts W + 1) 0 (λ m. Did h m (commit X))
 
   abbrev pub Allowed : History → Event → Type 0

@@ -2,8 +2,9 @@ pub mod Evidence
 pub mod Moments
 pub mod History
 pub mod Agreement
-pub mod Calls
+pub mod Honest
+pub mod Journals
+pub mod DemandThree
 pub mod Plain
-pub mod EngineCalls
 pub mod EngineRestores
 pub mod laws

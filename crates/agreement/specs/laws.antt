@@ -5,6 +5,7 @@ pub mod History
 pub mod Broadcasts
 pub mod Votes
 pub mod Agreement
+pub mod Worlds
 pub mod Runs
 pub mod Machine
 pub mod Openings

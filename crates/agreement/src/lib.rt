@@ -1,10 +1,10 @@
-// Demand 3. The functions do nothing: their contracts state what is proved in specs/.
+// Agreement (PROTOCOL 16.3 to 16.10). The functions do nothing: their contracts state what is proved in specs/.
 ghost use Rattle.agreement.specs.Agreement.{Agree, Named, Valid};
-ghost use Rattle.agreement.specs.EngineCalls.{EngineAgrees};
+ghost use Rattle.agreement.specs.DemandThree.{EngineAgrees};
 ghost use Rattle.agreement.specs.EngineRestores.{RestoreGives};
 ghost use Rattle.agreement.specs.Plain.{PrintedMeets, PlainMeets};
 
-// Demand 3 of the engine, all of it: specs/Calls.antt states it of whole lists of calls, specs/EngineCalls.antt has the engine's.
+// Agreement of the engine, all of it: specs/DemandThree.antt states it of whole lists of calls.
 pub fn demand_three()
     ensures { λ _. ⌜ EngineAgrees ⌝ }
 {}
@@ -14,12 +14,12 @@ pub fn restore_gives()
     ensures { λ _. ⌜ RestoreGives ⌝ }
 {}
 
-// Where coins are printed nothing is asked of recordings: the conditions are those from before there were any.
+// Where coins are printed, conditions that ask nothing of recordings are enough.
 pub fn printed_sessions()
     ensures { λ _. ⌜ PrintedMeets ⌝ }
 {}
 
-// Where, besides, nobody is restored they are those of the scope paper.
+// Where, besides, nobody is restored, conditions that ask nothing of journals are enough.
 pub fn without_restores()
     ensures { λ _. ⌜ PlainMeets ⌝ }
 {}

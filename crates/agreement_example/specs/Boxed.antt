@@ -6,10 +6,10 @@ use mathlib.Core.Path.{_≡_}
 use Rattle.wire.specs.declared.Message.the-variants.{Est}
 use Rattle.turn.specs.declared.Outcome.the-variants.{Idle, Sent}
 use Rattle.journal.specs.Journal.{LINE-BYTES, turnedOutcome}
-use Rattle.agreement.specs.Calls.{Call, opening}
-use Rattle.agreement.specs.EngineCalls.{engine, Agreed}
-use Rattle.agreement_example.specs.Checking.{wordsOf, run}
-use Rattle.agreement_example.specs.Example.{Example, FromAny}
+use Rattle.calls.specs.Machine.{Call, opening}
+use Rattle.calls.specs.Engine.{engine, Agreed}
+use Rattle.agreement_check.specs.Checking.{wordsOf, run}
+use Rattle.agreement_check.specs.Example.{Example, FromAny}
 use Rattle.agreement_example.specs.Messages.{inputFive, openingWith, recordOf}
 use Rattle.agreement_example.specs.Weighted.{firstTwo, turns, withAuxes, withLastAuxes, withSets}
 

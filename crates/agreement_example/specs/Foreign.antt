@@ -8,14 +8,16 @@ use mathlib.Core.Path.{_≡_}
 use Rattle.wire.specs.Message.{encode}
 use Rattle.wire.specs.declared.Message.the-variants.{Send}
 use Rattle.agreement.specs.Moments.{Within}
-use Rattle.agreement.specs.Calls.{Call, opening, delivery, words, Sent}
-use Rattle.agreement.specs.EngineCalls.{engine, OpeningGiven, Bytes}
-use Rattle.agreement_example.specs.Example.{Example, FromAny}
-use Rattle.agreement_example.specs.Messages.{inputFive, bytesOf, openingWith, openingOf, turnOf}
+use Rattle.calls.specs.Machine.{Call, opening, delivery, words}
+use Rattle.agreement.specs.DemandThree.{Sent}
+use Rattle.calls.specs.Engine.{engine, OpeningGiven, Bytes}
+use Rattle.agreement_check.specs.Example.{Example, FromAny}
+use Rattle.calls.specs.Given.{bytesOf}
+use Rattle.agreement_example.specs.Messages.{inputFive, openingWith, openingFive, turnOf}
 use Rattle.agreement_example.specs.Weighted.{session, firstTwo, weightedCalls}
 
 abbrev pub asFourth : OpeningGiven
-asFourth = openingOf 4 1 1 4
+asFourth = openingFive 4 1 1 4
 
 abbrev pub asSecond : OpeningGiven
 asSecond = openingWith 3 1 1 (1 ∷ 0 ∷ 1 ∷ []) (4 ∷ 1 ∷ 1 ∷ []) 0 2 6

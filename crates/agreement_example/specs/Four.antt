@@ -8,10 +8,11 @@ use Rattle.records.specs.Words.{blank}
 use Rattle.wire.specs.Message.{encode}
 use Rattle.wire.specs.declared.Message.{Message}
 use Rattle.wire.specs.declared.Message.the-variants.{Send, Echo, Ready, Commit}
-use Rattle.agreement.specs.Calls.{Call, opening, delivery, report}
-use Rattle.agreement.specs.EngineCalls.{engine, Agreed}
-use Rattle.agreement_example.specs.Example.{Example, FromAny}
-use Rattle.agreement_example.specs.Messages.{inputFive, bytesOf, openingOf, deliver, turnOf}
+use Rattle.calls.specs.Machine.{Call, opening, delivery, report}
+use Rattle.calls.specs.Engine.{engine, Agreed}
+use Rattle.agreement_check.specs.Example.{Example, FromAny}
+use Rattle.calls.specs.Given.{bytesOf}
+use Rattle.agreement_example.specs.Messages.{inputFive, openingFive, deliver, turnOf}
 
 abbrev pub session : Agreed
 session = record { settings = record { n = 4; ta = 1; ts = 1; whole = 4; weights = 15 }; number = 7; coins = 0 ∷ 0 ∷ 0 ∷ 0 ∷ []; boxed = 0 }
@@ -33,7 +34,7 @@ fromAll m xs cs = toAll 3 m xs (toAll 2 m xs (toAll 1 m xs cs))
 
 -- 3 leaves ta unnamed, which means 1 too
 unfoldable pub openings : List (Call engine)
-openings = opening 3 (openingOf 4 UNNAMED 1 3) ∷ opening 2 (openingOf 4 1 1 2) ∷ opening 1 (openingOf 4 1 1 1) ∷ []
+openings = opening 3 (openingFive 4 UNNAMED 1 3) ∷ opening 2 (openingFive 4 1 1 2) ∷ opening 1 (openingFive 4 1 1 1) ∷ []
 
 -- the SENDs; the liar sends 5 to 1, 6 to 2, and to 3 a SEND in the name of 1, which is refused (5 SENDER)
 unfoldable pub untilSends : List (Call engine)

@@ -1,6 +1,3 @@
-pub mod Bits
-pub mod Checking
-pub mod Example
 pub mod Messages
 pub mod One
 pub mod Four

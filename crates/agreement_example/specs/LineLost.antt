@@ -1,6 +1,6 @@
 -- Who is restored without the line of a message that left counts as a liar: here the SEND was delivered, and the restore reads the line of the
--- opening alone. Whichever session and whichever honest ones are chosen, the list does not meet the conditions of demand 3, so the calls of this
--- concentrator are in no list that does.
+-- opening alone. Whichever session and whichever honest ones are chosen, the list does not meet the conditions of agreement, so the calls of
+-- this concentrator are in no list that does (PROTOCOL 11.18).
 use Prim.Native.Nat.{ℕ}
 use mathlib.Core.Bool.{Bool}
 use mathlib.Core.List.{List, [], _∷_}
@@ -8,16 +8,17 @@ use mathlib.Core.Path.{_≡_}
 use lib.ListN.{length}
 use Rattle.records.specs.Layout.{stateWords}
 use Rattle.wire.specs.declared.Message.the-variants.{Send}
-use Rattle.agreement.specs.Calls.{Call, opening, restore, Conditions}
-use Rattle.agreement.specs.EngineCalls.{engine, Agreed}
-use Rattle.agreement_example.specs.Example.{FromAny}
-use Rattle.agreement_example.specs.Messages.{openingOf, deliver, turnOf}
+use Rattle.calls.specs.Machine.{Call, opening, restore}
+use Rattle.agreement.specs.DemandThree.{Conditions}
+use Rattle.calls.specs.Engine.{engine, Agreed}
+use Rattle.agreement_check.specs.Example.{FromAny}
+use Rattle.agreement_example.specs.Messages.{openingFive, deliver, turnOf}
 use Rattle.agreement_example.specs.One.{session, everyone}
 use Rattle.agreement_example.specs.PowerLost.{firstLine, from}
 
 -- the SEND is sent
 unfoldable pub untilSent : List (Call engine)
-untilSent = turnOf 1 ∷ opening 1 (openingOf 1 0 0 1) ∷ []
+untilSent = turnOf 1 ∷ opening 1 (openingFive 1 0 0 1) ∷ []
 
 -- .. and delivered
 unfoldable pub untilGot : List (Call engine)

@@ -11,11 +11,11 @@ use Rattle.broadcasts.specs.declared.Output.the-variants.{Value}
 use Rattle.wire.specs.declared.Message.{Message}
 use Rattle.wire.specs.declared.Message.the-variants.{Send, Echo, Ready, Commit}
 use Rattle.settings.specs.Settings.{UNNAMED}
-use Rattle.agreement.specs.Evidence.{Honest, liars}
-use Rattle.agreement.specs.Calls.{Call, opening, report, world, words}
-use Rattle.agreement.specs.EngineCalls.{engine, Agreed}
-use Rattle.agreement_example.specs.Example.{Shown, Supposed, FromAny}
-use Rattle.agreement_example.specs.Messages.{inputFive, openingOf, deliver}
+use Rattle.agreement.specs.Honest.{Honest, liars}
+use Rattle.calls.specs.Machine.{Call, opening, report, words}
+use Rattle.calls.specs.Engine.{engine, Agreed}
+use Rattle.agreement_check.specs.Example.{Shown, Supposed, FromAny}
+use Rattle.agreement_example.specs.Messages.{inputFive, openingFive, deliver}
 use Rattle.agreement_example.specs.Weighted.{firstTwo, turns, toBoth, fromBoth}
 
 abbrev pub session : Agreed
@@ -24,7 +24,7 @@ session = record { settings = record { n = 3; ta = 0; ts = 1; whole = 3; weights
 -- The last call stands first; `cs` are the calls before.
 
 unfoldable pub openings : List (Call engine)
-openings = opening 2 (openingOf 3 UNNAMED 1 2) ∷ opening 1 (openingOf 3 0 1 1) ∷ []
+openings = opening 2 (openingFive 3 UNNAMED 1 2) ∷ opening 1 (openingFive 3 0 1 1) ∷ []
 
 -- the liar sends m to 1 and k to 2
 unfoldable pub equivocated : Message → Message → List (Call engine) → List (Call engine)
@@ -51,9 +51,9 @@ lowTaCalls = closing openings
 
 -- the list cs of the session S, in which 1 and 2 are honest and put in 5
 pub record OverTa (start : ℕ → List ℕ) (S : Agreed) (cs : List (Call engine)) : Type 0 where
-  pub over : S .settings .ta < liars (world engine S firstTwo)
+  pub over : S .settings .ta < liars (S .settings) firstTwo
   pub supposed : Supposed start S firstTwo inputFive cs
-  pub shown : (p : ℕ) → Honest (world engine S firstTwo) p → Shown start cs p 1 (5 ∷ [])
+  pub shown : (p : ℕ) → Honest (S .settings) firstTwo p → Shown start cs p 1 (5 ∷ [])
   -- the two outputs
   pub at-first : output (S .settings) (words engine start cs 1) 3 ≡ Value 6
   pub at-second : output (S .settings) (words engine start cs 2) 3 ≡ Value 8

@@ -4,10 +4,11 @@ use mathlib.Core.Bool.{Bool, true}
 use mathlib.Core.List.{List, [], _∷_}
 use Rattle.records.specs.Words.{blank}
 use Rattle.wire.specs.declared.Message.the-variants.{Send, Echo, Ready, Commit}
-use Rattle.agreement.specs.Calls.{Call, opening, delivery, report}
-use Rattle.agreement.specs.EngineCalls.{engine, Agreed}
-use Rattle.agreement_example.specs.Example.{Example, FromAny}
-use Rattle.agreement_example.specs.Messages.{inputFive, bytesOf, openingOf, deliver, turnOf}
+use Rattle.calls.specs.Machine.{Call, opening, delivery, report}
+use Rattle.calls.specs.Engine.{engine, Agreed}
+use Rattle.agreement_check.specs.Example.{Example, FromAny}
+use Rattle.calls.specs.Given.{bytesOf}
+use Rattle.agreement_example.specs.Messages.{inputFive, openingFive, deliver, turnOf}
 
 abbrev pub session : Agreed
 session = record { settings = record { n = 1; ta = 0; ts = 0; whole = 1; weights = 1 }; number = 7; coins = 0 ∷ []; boxed = 0 }
@@ -27,11 +28,11 @@ oneCalls =
     ∷ turnOf 1
     ∷ deliver 1 1 (Echo 1 5) []
     ∷ turnOf 1
-    ∷ opening 1 (openingOf 3 1 1 1)
+    ∷ opening 1 (openingFive 3 1 1 1)
     ∷ deliver 1 1 (Send 1 5) []
     ∷ deliver 1 1 (Send 1 5) []
     ∷ turnOf 1
-    ∷ opening 1 (openingOf 1 0 0 1)
+    ∷ opening 1 (openingFive 1 0 0 1)
     ∷ delivery 1 1 (bytesOf (1 ∷ 1 ∷ 1 ∷ []))
     ∷ []
 

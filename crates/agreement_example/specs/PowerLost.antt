@@ -11,10 +11,10 @@ use Rattle.records.specs.Words.{blank}
 use Rattle.opening.specs.Arguments.{arguments}
 use Rattle.wire.specs.declared.Message.the-variants.{Send, Echo, Ready, Commit}
 use Rattle.journal.specs.Lines.{LETTER-D, LETTER-T, openingLine, turnLine}
-use Rattle.agreement.specs.Calls.{Call, opening, report, restore}
-use Rattle.agreement.specs.EngineCalls.{engine, RestoreLent}
-use Rattle.agreement_example.specs.Example.{Example, FromAny}
-use Rattle.agreement_example.specs.Messages.{inputFive, openingOf, deliver, turnOf}
+use Rattle.calls.specs.Machine.{Call, opening, report, restore}
+use Rattle.calls.specs.Engine.{engine, RestoreLent}
+use Rattle.agreement_check.specs.Example.{Example, FromAny}
+use Rattle.agreement_example.specs.Messages.{inputFive, openingFive, deliver, turnOf}
 use Rattle.agreement_example.specs.One.{session, everyone}
 
 -- the line of the opening
@@ -27,7 +27,7 @@ from journal = record { journal = journal; message = blank 140 }
 
 -- up to the first restore, which finds the words v; the cut falls behind the letter of the lost line
 unfoldable pub onceRestored : List ℕ → List (Call engine)
-onceRestored v = restore 1 v (from (firstLine ++ (LETTER-T ∷ []))) ∷ turnOf 1 ∷ opening 1 (openingOf 1 0 0 1) ∷ []
+onceRestored v = restore 1 v (from (firstLine ++ (LETTER-T ∷ []))) ∷ turnOf 1 ∷ opening 1 (openingFive 1 0 0 1) ∷ []
 
 -- up to the second, which finds the words w; two lines are complete
 unfoldable pub twiceRestored : (v w : List ℕ) → List (Call engine)

@@ -8,9 +8,9 @@ use Rattle.records.specs.Words.{blank}
 use Rattle.wire.specs.declared.Message.{Message}
 use Rattle.wire.specs.declared.Message.the-variants.{Send, Echo, Ready, Est, Aux, Commit}
 use Rattle.opening.specs.Given.{onesGiven}
-use Rattle.agreement.specs.Calls.{Call, opening, report}
-use Rattle.agreement.specs.EngineCalls.{engine, Agreed}
-use Rattle.agreement_example.specs.Example.{Example, FromAny}
+use Rattle.calls.specs.Machine.{Call, opening, report}
+use Rattle.calls.specs.Engine.{engine, Agreed}
+use Rattle.agreement_check.specs.Example.{Example, FromAny}
 use Rattle.agreement_example.specs.Messages.{openingWith}
 use Rattle.agreement_example.specs.Four.{firstThree, turns, toAll, fromAll}
 

@@ -8,19 +8,19 @@ use mathlib.Core.Logic.{_≢_}
 use Rattle.records.specs.Words.{blank}
 use Rattle.wire.specs.declared.Message.{Message}
 use Rattle.wire.specs.declared.Message.the-variants.{Send, Echo, Ready, Commit}
-use Rattle.agreement.specs.Evidence.{Honest, liars}
+use Rattle.agreement.specs.Honest.{Honest, liars}
 use Rattle.agreement.specs.Moments.{Within}
-use Rattle.agreement.specs.Calls.{Call, opening, report, world, place}
-use Rattle.agreement.specs.EngineCalls.{engine}
-use Rattle.agreement_example.specs.Example.{Shown, Supposed, FromAny}
-use Rattle.agreement_example.specs.Messages.{inputFive, openingOf}
+use Rattle.calls.specs.Machine.{Call, opening, report, place}
+use Rattle.calls.specs.Engine.{engine}
+use Rattle.agreement_check.specs.Example.{Shown, Supposed, FromAny}
+use Rattle.agreement_example.specs.Messages.{inputFive, openingFive}
 use Rattle.agreement_example.specs.Four.{session, firstThree}
 use Rattle.agreement_example.specs.Weighted.{turns, toBoth, fromBoth}
 
 -- The last call stands first; `cs` are the calls before.
 
 unfoldable pub openings : List (Call engine)
-openings = opening 2 (openingOf 4 1 1 2) ∷ opening 1 (openingOf 4 1 1 1) ∷ []
+openings = opening 2 (openingFive 4 1 1 2) ∷ opening 1 (openingFive 4 1 1 1) ∷ []
 
 -- the same message of 1, 2 and 4
 unfoldable pub fromThree : Message → List ℕ → List (Call engine) → List (Call engine)
@@ -41,10 +41,10 @@ unfoldable pub unopenedCalls : List (Call engine)
 unopenedCalls = report 1 (blank 16, blank 16) ∷ turns (fromThree (Commit 1) (5 ∷ []) (turns (inEach Ready (inEach Echo untilSends))))
 
 pub record OneUnopened (start : ℕ → List ℕ) : Type 0 where
-  pub few-ta : liars (world engine session firstThree) ≤ session .settings .ta
+  pub few-ta : liars (session .settings) firstThree ≤ session .settings .ta
   pub supposed : Supposed start session firstThree inputFive unopenedCalls
   -- 3 is honest, and no call is made there ..
-  pub honest : Honest (world engine session firstThree) 3
+  pub honest : Honest (session .settings) firstThree 3
   pub uncalled : (c : Call engine) (ds : List (Call engine)) → Within (c ∷ ds) unopenedCalls → place engine c ≢ 3
   -- .. and 1 and 2 close
   pub first : Shown start unopenedCalls 1 1 (5 ∷ [])

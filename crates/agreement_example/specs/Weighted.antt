@@ -10,9 +10,9 @@ use lib.Dec.{leb}
 use Rattle.records.specs.Words.{blank}
 use Rattle.wire.specs.declared.Message.{Message}
 use Rattle.wire.specs.declared.Message.the-variants.{Send, Echo, Ready, Est, Aux, Commit}
-use Rattle.agreement.specs.Calls.{Call, opening, report}
-use Rattle.agreement.specs.EngineCalls.{engine, Agreed}
-use Rattle.agreement_example.specs.Example.{Example, FromAny}
+use Rattle.calls.specs.Machine.{Call, opening, report}
+use Rattle.calls.specs.Engine.{engine, Agreed}
+use Rattle.agreement_check.specs.Example.{Example, FromAny}
 use Rattle.agreement_example.specs.Messages.{inputFive, openingWith, deliver, turnOf}
 
 -- the weights as one word: 1 has the marks 1, 17, 33 and 49, 2 and 3 the marks 2 and 3

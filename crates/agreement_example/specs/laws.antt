@@ -2,15 +2,6 @@ pub mod Unequal
 pub mod LowTa
 pub mod Foreign
 pub mod Unopened
-pub mod Lists
-pub mod Lengths
-pub mod Entries
-pub mod Journals
-pub mod Tracks
-pub mod Restores
-pub mod Tracking
-pub mod Example
-pub mod Refusals
 pub mod Computing
 pub mod One
 pub mod Four

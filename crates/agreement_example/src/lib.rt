@@ -1,4 +1,4 @@
-// Demand 3 does not speak of nothing: lists of calls that meet its conditions, after which honest concentrators name a set and have it in force.
+// Agreement does not speak of nothing: lists of calls that meet its conditions, after which honest concentrators name a set and have it in force.
 // They differ in how the set comes about (each exit, weights, boxed coins, restores), in the liars (of up to ta, or of up to ts), and in what the
 // conditions leave open (calls before the own opening, honest ones that are never opened).
 // The functions do nothing: their contracts state what is proved in specs/.

@@ -1,4 +1,4 @@
--- Rules 4 and 5 of the turn order, and the output of a broadcast.
+-- Rules 4 and 5 of the turn order, and the output of a broadcast: PROTOCOL, section 4.
 use Prim.Native.Nat.{ℕ}
 use mathlib.Core.Bool.{cond}
 use mathlib.Core.List.{List}
@@ -12,24 +12,24 @@ use Rattle.broadcasts.specs.Leading.{leading, orOutput}
 use Rattle.broadcasts.specs.declared.Output.{Output}
 use Rattle.broadcasts.specs.declared.Output.the-variants.{Value, Nothing}
 
--- "A broadcast has output v when n−ts senders' READYs hold v."
+-- a broadcast has output v where READYs of v weigh the quorum (PROTOCOL 4.3)
 unfoldable pub output : Settings → List ℕ → ℕ → Output
-output g s i = leading (g .weights) (readyHeld s i) (readyValue s i) (g .n) (quorum g)
+output g s i = leading g (readyHeld s i) (readyValue s i) (quorum g)
 
--- "ECHO of the value in the instance's SEND, once for each instance."
+-- one ECHO in each instance whose SEND is held, with its value (PROTOCOL 4.4)
 unfoldable pub echoAct : List ℕ → ℕ → Act
 echoAct s i = cond (echoSent s i) Idle (cond (sendHeld s i) (Echo i (sendValue s i)) Idle)
 
--- "a value with n−ts ECHOs, else one with ts+1 READYs (of several, the lowest sender's)"
+-- the leading value of the ECHOs at the quorum, or else of the READYs at the repeat threshold (PROTOCOL 4.5)
 unfoldable pub readyDue : Settings → List ℕ → ℕ → Output
 readyDue g s i =
-    orOutput (leading (g .weights) (echoHeld s i) (echoValue s i) (g .n) (quorum g)) (leading (g .weights) (readyHeld s i) (readyValue s i) (g .n) (repeat g))
+    orOutput (leading g (echoHeld s i) (echoValue s i) (quorum g)) (leading g (readyHeld s i) (readyValue s i) (repeat g))
 
 abbrev pub readyOf : ℕ → Output → Act
 readyOf i (Value v) = Ready i v
 readyOf i Nothing = Idle
 
--- "READY, once for each instance"
+-- one READY in each instance (PROTOCOL 4.5)
 unfoldable pub readyAct : Settings → List ℕ → ℕ → Act
 readyAct g s i = cond (readySent s i) Idle (readyOf i (readyDue g s i))
 

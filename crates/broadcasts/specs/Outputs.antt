@@ -14,11 +14,11 @@ use Rattle.broadcasts.specs.declared.Output.the-variants.{Value, Nothing
 
 -- broadcast i has output where its mark is set, and its value stands at place i − 1
 unfoldable pub outputAt : ℕ → List ℕ → ℕ → Output
-outputAt held values i = cond (leb i 16 && mark held i) (Value (word values (i - 1))) Nothing
+outputAt outputs values i = cond (leb i 16 && mark outputs i) (Value (word values (i - 1))) Nothing
 
 -- marks and values say the outputs of the broadcasts 1 to k as far as the array goes, which is all of them within the rules, and of no others
-pub record Outputs (g : Settings) (s : List ℕ) (k held : ℕ) (values : List ℕ) : Type 0 where
+pub record Outputs (g : Settings) (s : List ℕ) (k outputs : ℕ) (values : List ℕ) : Type 0 where
   pub within : k ≤ g .n
   pub size : length values ≡ 16
-  pub each : (i : ℕ) → 1 ≤ i → i ≤ k → i ≤ 16 → outputAt held values i ≡ output g s i
-  pub none : (i : ℕ) → k < i → mark held i ≡ false
+  pub each : (i : ℕ) → 1 ≤ i → i ≤ k → i ≤ 16 → outputAt outputs values i ≡ output g s i
+  pub none : (i : ℕ) → k < i → mark outputs i ≡ false

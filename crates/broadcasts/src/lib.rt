@@ -5,6 +5,7 @@ use settings::Settings;
 ghost use mathlib.Core.Path.{_≡_};
 ghost use Prim.Native.Nat.{_+_, _≤_};
 ghost use lib.Dec.{leb};
+ghost use Rattle.settings.specs.laws.Counting.{counting};
 ghost use Rattle.records.specs.Records.{readyHeld, readyValue, echoHeld, echoValue};
 ghost use Rattle.records.specs.Words.{word, marked};
 ghost use Rattle.broadcasts.specs.laws.Leading.{heldCount};
@@ -20,10 +21,10 @@ pub enum Output {
 }
 
 // Whether senders of weight q hold v: the marks of those that do are collected, then weighed at once. Those held have the weight q
-// together, so nothing is weighed where all of them hold v.
+// together, so nothing is weighed where all of them hold v. n and the weights come as numbers, which stay in registers.
 fn enough_hold(s: &[u64], marks: u16, values: u16, v: u64, n: u8, weights: u64, q: u64) -> bool
-    requires { ⌜ q ≤ heldCount weights (now s) marks n ⌝ }
-    ensures { λ r. ⌜ r ≡ leb q (holders weights (λ p. marked (now (s .entry)) marks p) (λ p. word (now (s .entry)) (values + p)) v n) ⌝ }
+    requires { ⌜ q ≤ heldCount (counting n weights) (now s) marks ⌝ }
+    ensures { λ r. ⌜ r ≡ leb q (holders (counting n weights) (λ p. marked (now (s .entry)) marks p) (λ p. word (now (s .entry)) (values + p)) v) ⌝ }
 {
     let equal = records::equal_marks(s, values as u32 + 1, n, v);
     let held = records::word(s, marks as usize);
@@ -35,8 +36,8 @@ fn enough_hold(s: &[u64], marks: u16, values: u16, v: u64, n: u8, weights: u64, 
 
 // Whether sender p holds a value that senders of weight q hold.
 fn leads(s: &[u64], marks: u16, values: u16, n: u8, weights: u64, q: u64, p: u8) -> bool
-    requires { ⌜ q ≤ heldCount weights (now s) marks n ⌝ }
-    ensures { λ r. ⌜ r ≡ leads weights (λ k. marked (now (s .entry)) marks k) (λ k. word (now (s .entry)) (values + k)) n q p ⌝ }
+    requires { ⌜ q ≤ heldCount (counting n weights) (now s) marks ⌝ }
+    ensures { λ r. ⌜ r ≡ leads (counting n weights) (λ k. marked (now (s .entry)) marks k) (λ k. word (now (s .entry)) (values + k)) q p ⌝ }
 {
     if records::marked(s, marks as usize, p as u64) {
         let v = records::word(s, values as usize + p as usize);
@@ -48,8 +49,8 @@ fn leads(s: &[u64], marks: u16, values: u16, n: u8, weights: u64, q: u64, p: u8)
 
 // A value that senders of weight q hold: of several, the lowest sender's. The senders are looked at one by one.
 fn leading_of(s: &[u64], marks: u16, values: u16, n: u8, weights: u64, q: u64) -> Output
-    requires { ⌜ q ≤ heldCount weights (now s) marks n ⌝ }
-    ensures { λ r. ⌜ r ≡ leading weights (λ k. marked (now (s .entry)) marks k) (λ k. word (now (s .entry)) (values + k)) n q ⌝ }
+    requires { ⌜ q ≤ heldCount (counting n weights) (now s) marks ⌝ }
+    ensures { λ r. ⌜ r ≡ leading (counting n weights) (λ k. marked (now (s .entry)) marks k) (λ k. word (now (s .entry)) (values + k)) q ⌝ }
 {
     let mut p: u8 = 0;
     while p < n {
@@ -63,40 +64,40 @@ fn leading_of(s: &[u64], marks: u16, values: u16, n: u8, weights: u64, q: u64) -
 
 // The weight of the senders 1 to n that have their mark in word marks.
 fn held_count(s: &[u64], marks: u16, n: u8, weights: u64) -> u64
-    ensures { λ r. ⌜ r ≡ heldCount weights (now (s .entry)) marks n ⌝ }
+    ensures { λ r. ⌜ r ≡ heldCount (counting n weights) (now (s .entry)) marks ⌝ }
 {
     quorum::weigh_marks(records::word(s, marks as usize), 0, n, weights)
 }
 
 // The READYs of instance i: a value that senders of weight q hold. Where less is held, nobody's value is looked at.
-fn leading_ready(s: &[u64], n: u8, weights: u64, q: u64, i: u8) -> Output
-    ensures { λ r. ⌜ r ≡ leading weights (readyHeld (now (s .entry)) i) (readyValue (now (s .entry)) i) n q ⌝ }
+fn leading_ready(s: &[u64], g: Settings, q: u64, i: u8) -> Output
+    ensures { λ r. ⌜ r ≡ leading g (readyHeld (now (s .entry)) i) (readyValue (now (s .entry)) i) q ⌝ }
 {
     let marks = layout::READY_MARKS as u16 + i as u16;
     let values = layout::READY_VALUES as u16 + 16 * i as u16;
-    if held_count(s, marks, n, weights) < q {
+    if held_count(s, marks, g.n, g.weights) < q {
         return Output::Nothing;
     }
-    leading_of(s, marks, values, n, weights, q)
+    leading_of(s, marks, values, g.n, g.weights, q)
 }
 
 // The ECHOs of instance i: a value that senders of weight q hold, in the same way.
-fn leading_echo(s: &[u64], n: u8, weights: u64, q: u64, i: u8) -> Output
-    ensures { λ r. ⌜ r ≡ leading weights (echoHeld (now (s .entry)) i) (echoValue (now (s .entry)) i) n q ⌝ }
+fn leading_echo(s: &[u64], g: Settings, q: u64, i: u8) -> Output
+    ensures { λ r. ⌜ r ≡ leading g (echoHeld (now (s .entry)) i) (echoValue (now (s .entry)) i) q ⌝ }
 {
     let marks = layout::ECHO_MARKS as u16 + i as u16;
     let values = layout::ECHO_VALUES as u16 + 16 * i as u16;
-    if held_count(s, marks, n, weights) < q {
+    if held_count(s, marks, g.n, g.weights) < q {
         return Output::Nothing;
     }
-    leading_of(s, marks, values, n, weights, q)
+    leading_of(s, marks, values, g.n, g.weights, q)
 }
 
 // The output of broadcast i.
 pub fn output_of(s: &[u64], g: Settings, i: u8) -> Output
     ensures { λ r. ⌜ r ≡ output g (now (s .entry)) i ⌝ }
 {
-    leading_ready(s, g.n, g.weights, g.quorum(), i)
+    leading_ready(s, g, g.quorum(), i)
 }
 
 // Broadcast i has output o: its mark in the answer, its value at place i − 1.
@@ -160,10 +161,10 @@ pub fn echo_act(s: &[u64], i: u8) -> Act
 fn ready_due(s: &[u64], g: Settings, i: u8) -> Output
     ensures { λ r. ⌜ r ≡ readyDue g (now (s .entry)) i ⌝ }
 {
-    let o = leading_echo(s, g.n, g.weights, g.quorum(), i);
+    let o = leading_echo(s, g, g.quorum(), i);
     match o {
         Output::Value(v) => Output::Value(v),
-        Output::Nothing => leading_ready(s, g.n, g.weights, g.repeat(), i),
+        Output::Nothing => leading_ready(s, g, g.repeat(), i),
     }
 }
 

@@ -1,2 +1,4 @@
 pub mod Answers
+pub mod Restored
+pub mod Replies
 pub mod laws

@@ -1,5 +1,5 @@
 // The six calls of a concentrator's own program, which is written in C, and the two of the coin box. Each answers one number:
-// specs/Answers.antt has its bits.
+// specs/Answers.antt, Restored.antt and Replies.antt have its bits.
 use coin_box::Reply;
 use journal::Entry;
 use report::Answer;
@@ -19,8 +19,35 @@ ghost use Rattle.coin_box.specs.Box.{boxOpenAnswer, boxOpened, requestReply, re
 ghost use Rattle.report.specs.Report.{reportAnswer, reportNamed, reportInForce};
 ghost use Rattle.restore.specs.Restoring.{restoreAnswer, restoredWords, restoredBytes};
 ghost use Rattle.turn.specs.Turn.{sentLength, turnOutcome, turnWords};
-ghost use Rattle.cabi.specs.Answers.{entryNumber, outcomeNumber, figuresNumber, reportNumber, restoredNumber, bitValue, replyNumber};
+ghost use Rattle.cabi.specs.Answers.{entryNumber, outcomeNumber, figuresNumber, reportNumber};
+ghost use Rattle.cabi.specs.Restored.{restoredNumber};
+ghost use Rattle.cabi.specs.Replies.{bitValue, replyNumber};
 ghost use Rattle.cabi.specs.laws.Cases.{lineLength, messageLength};
+
+// What the part of an answer is multiplied by that starts at bit 8, ..
+const BIT_8: u64 = 256;
+
+// .. at bit 16, ..
+const BIT_16: u64 = 65536;
+
+// .. at bit 24, ..
+const BIT_24: u64 = 16777216;
+
+// .. at bit 32.
+const BIT_32: u64 = 4294967296;
+
+// A line's number is cut to 56 bits.
+const LINE_LIMIT: u64 = 72057594037927936;
+
+// A turn's outcome in bits 8 to 15; idle is 0.
+const SENT: u64 = 256;
+
+const MOVED_OUT: u64 = 512;
+
+const IN_FORCE: u64 = 768;
+
+// In bits 8 to 15: the coin box told a bit.
+const TOLD: u64 = 256;
 
 fn entry_number(e: Entry) -> u64
     requires { ⌜ lineLength e ≤ 512 ⌝ }
@@ -28,7 +55,7 @@ fn entry_number(e: Entry) -> u64
 {
     match e {
         Entry::Refused(k) => k,
-        Entry::Line(l) => 65536 * l,
+        Entry::Line(l) => BIT_16 * l,
     }
 }
 
@@ -99,9 +126,9 @@ fn outcome_number(o: Outcome) -> u64
     match o {
         Outcome::Refused(k) => k,
         Outcome::Idle => 0,
-        Outcome::Sent(m) => 256 + 65536 * wire::message_length(m) as u64,
-        Outcome::MovedOut => 512,
-        Outcome::InForce => 768,
+        Outcome::Sent(m) => SENT + BIT_16 * wire::message_length(m) as u64,
+        Outcome::MovedOut => MOVED_OUT,
+        Outcome::InForce => IN_FORCE,
     }
 }
 
@@ -120,10 +147,7 @@ fn figures_number(f: Figures) -> u64
     requires { ⌜ f .turns < 4294967296 ⌝ }
     ensures { λ r. ⌜ r ≡ figuresNumber f ⌝ }
 {
-    256 * f.exit as u64
-        + 65536 * f.named as u64
-        + 16777216 * f.in_force as u64
-        + 4294967296 * f.turns
+    BIT_8 * f.exit as u64 + BIT_16 * f.named as u64 + BIT_24 * f.in_force as u64 + BIT_32 * f.turns
 }
 
 // Reports on a state: the sets stand at the front of the lent words.
@@ -153,9 +177,9 @@ fn restored_number(a: Restored) -> u64
 {
     match a {
         Restored::Refused(k) => k,
-        Restored::Journal(line) => refusal::JOURNAL + 256 * (line % 72057594037927936),
+        Restored::Journal(line) => refusal::JOURNAL + BIT_8 * (line % LINE_LIMIT),
         Restored::Given(m, bytes) => {
-            256 * given_again(m) + 65536 * m + 4294967296 * (bytes % 4294967296)
+            BIT_8 * given_again(m) + BIT_16 * m + BIT_32 * (bytes % BIT_32)
         }
     }
 }
@@ -198,7 +222,7 @@ fn reply_number(x: Reply) -> u64
     match x {
         Reply::Refused(k) => k,
         Reply::Sealed => 0,
-        Reply::Bit(b) => 256 + 65536 * bit_value(b),
+        Reply::Bit(b) => TOLD + BIT_16 * bit_value(b),
     }
 }
 

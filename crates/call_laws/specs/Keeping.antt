@@ -11,7 +11,9 @@ use Rattle.turn.specs.Turn.{turnOutcome, turnWords}
 use Rattle.journal.specs.Journal.{openEntry, openedWords, openedBytes, deliverEntry, deliveredWords, deliveredBytes, recordEntry, recordWords, recordBytes, turnRoom, turnedMessage, turnedLine}
 use Rattle.restore.specs.Restoring.{restoreAnswer, restoredWords, restoredBytes}
 use Rattle.report.specs.Report.{reportAnswer, reportNamed, reportInForce}
-use Rattle.cabi.specs.Answers.{entryNumber, outcomeNumber, reportNumber, restoredNumber, replyNumber}
+use Rattle.cabi.specs.Answers.{entryNumber, outcomeNumber, reportNumber}
+use Rattle.cabi.specs.Restored.{restoredNumber}
+use Rattle.cabi.specs.Replies.{replyNumber}
 use Rattle.call_laws.specs.Parts.{Refused}
 
 abbrev pub OpeningKeeps : Type 0

@@ -25,7 +25,9 @@ use Rattle.report.specs.declared.Answer.the-variants as report
 use Rattle.coin_box.specs.Box.{boxOpenAnswer, requestReply}
 use Rattle.coin_box.specs.declared.Reply.{Reply}
 use Rattle.coin_box.specs.declared.Reply.the-variants as box
-use Rattle.cabi.specs.Answers.{entryNumber, outcomeNumber, reportNumber, restoredNumber, replyNumber}
+use Rattle.cabi.specs.Answers.{entryNumber, outcomeNumber, reportNumber}
+use Rattle.cabi.specs.Restored.{restoredNumber}
+use Rattle.cabi.specs.Replies.{replyNumber}
 use Rattle.call_laws.specs.Parts.{refusalOf, outcomeOf, exitOf, toldOf, lengthOf, namedOf, bitOf, inForceOf, turnsOf, completeOf, lineOf}
 
 -- the number r is read as the refusal k, and as nothing else

@@ -1,4 +1,4 @@
--- The coin box of request N12: its words, its opening, its requests, and what it keeps secret. w are the weights as one word (opening/Given).
+-- The coin box (PROTOCOL, section 12): its words, its opening, its requests, and what it keeps secret. w are the weights as one word (opening/Given).
 --
 --     0            n
 --     1            ta
@@ -40,7 +40,8 @@ requestsAt i r = 7 + 32 * i + r
 
 -- ---- opening
 
--- "opened, under 1 as a printed session is, with n, ta, ts, weights and n coin words", after 9 for the word count; 0 is accepted
+-- a box refuses another number of words than 552, then the settings that an opening refuses and another number of coin words than n; 0 is
+-- accepted (PROTOCOL 9.28)
 unfoldable pub boxOpenAnswer : ℕ → ℕ → ℕ → ℕ → ℕ → ℕ → ℕ
 boxOpenAnswer words n ta ts w coinWords =
     cond (not (eqb words boxWords)) NO-STATE
@@ -60,21 +61,21 @@ unfoldable pub boxOpened : List ℕ → ℕ → ℕ → ℕ → ℕ → List ℕ
 boxOpened s n ta ts w coins =
     cond (eqb (boxOpenAnswer (length s) n ta ts w (length coins)) 0) (boxOpenWords n ta ts w coins) s
 
--- ---- requests: "takes requests from concentrators for a vote and round"
+-- ---- requests: each has a requester, a vote and a round (PROTOCOL 12.4)
 
 -- the word count, and stored settings that opening would take; ta is taken as it is
 unfoldable pub isBox : List ℕ → Bool
 isBox s = eqb (length s) boxWords && validSettings (word s nAt) (word s taAt) (word s tsAt) (word s boxWeightsAt)
 
--- "16 COIN, for a requester, vote or round outside the layout": none of them is; words that are no box have no layout
+-- the words are a box, requester and vote are 1 to n, and the round is 1 to 32 (PROTOCOL 9.30)
 unfoldable pub asks : List ℕ → ℕ → ℕ → ℕ → Bool
 asks s p i r = isBox s && numbered (word s nAt) p && numbered (word s nAt) i && numbered roundLimit r
 
--- the weight that "has requested a coin", that of vote i in round r; "repeats count once": a requester has one mark
+-- what the requesters of the coin of vote i in round r weigh; asking again adds nothing, since a requester has one mark (PROTOCOL 12.5)
 unfoldable pub requested : List ℕ → ℕ → ℕ → ℕ
 requested s i r = weigh (word s boxWeightsAt) (λ p. marked s (requestsAt i r) p) (word s nAt)
 
--- "Until ta+1 weight has requested a coin": from then on it is unsealed
+-- a coin is sealed until its requesters weigh ta + 1; from then on it is unsealed (PROTOCOL 12.6)
 unfoldable pub unsealed : List ℕ → ℕ → ℕ → Bool
 unsealed s i r = ltb (word s taAt) (requested s i r)
 
@@ -82,7 +83,7 @@ unsealed s i r = ltb (word s taAt) (requested s i r)
 unfoldable pub requestWords : List ℕ → ℕ → ℕ → ℕ → List ℕ
 requestWords s p i r = cond (asks s p i r) (setMark s (requestsAt i r) p) s
 
--- "every answer about it is `sealed`; from then on it is the bit": the request itself counts, so the one that completes the weight is told
+-- sealed, and once the requesters weigh enough the bit (PROTOCOL 12.6): the request itself counts, so the one that completes the weight is told
 -- the bit
 unfoldable pub requestReply : List ℕ → ℕ → ℕ → ℕ → Reply
 requestReply s p i r = cond (asks s p i r) (cond (unsealed (requestWords s p i r) i r) (Bit (coin s i r)) Sealed) (Refused COIN)
@@ -108,8 +109,8 @@ replies s (q ∷ qs) = requestReply (after s qs) (q .requester) (q .vote) (q .ro
 abbrev pub coinOf : List ℕ → ℕ → ℕ → Bool
 coinOf coins i r = mark (item coins i) r
 
--- "Two boxes that got the same requests in the same order and differ only in coins still sealed after them must have answered alike.": boxes
--- opened alike on any words s and t, but with coin words a and b; requests of any kind, refused ones too
+-- no answer depends on a coin that is still sealed (PROTOCOL 12.8): boxes opened alike on any words s and t, but with coin words a and b, which
+-- differ only in coins that are sealed after the requests; requests of any kind, refused ones too
 unfoldable pub Secret : Type 0
 Secret =
     (n ta ts w : ℕ) (s t a b : List ℕ) → boxOpenAnswer (length s) n ta ts w (length a) ≡ 0 → boxOpenAnswer (length t) n ta ts w (length b) ≡ 0 →

@@ -1,8 +1,10 @@
 // COMMITs: the sets that senders hold, and the lowest sender whose set enough of them hold.
 use records::layout;
+use settings::Settings;
 ghost use mathlib.Core.Path.{_≡_};
 ghost use mathlib.Core.Bool.{_&&_};
 ghost use lib.Dec.{eqb};
+ghost use Rattle.settings.specs.laws.Counting.{counting};
 ghost use Rattle.records.specs.Records.{commitValue};
 ghost use Rattle.commits.specs.Commits.{commitHeld, sameSet, setHolders, setLeads, setLeader};
 ghost use Rattle.commits.specs.laws.Commits.{commitsHeld};
@@ -50,9 +52,10 @@ fn holds_set(s: &[u64], p: u8, q: u8) -> bool
     }
 }
 
-// The weight of the senders 1 to n that hold the set of sender p: their marks are collected, then weighed at once.
+// The weight of the senders that hold the set of sender p: their marks are collected, then weighed at once. n and the weights come as
+// numbers, which stay in registers.
 fn set_holders(s: &[u64], weights: u64, n: u8, p: u8) -> u64
-    ensures { λ r. ⌜ r ≡ setHolders weights (now (s .entry)) n p ⌝ }
+    ensures { λ r. ⌜ r ≡ setHolders (counting n weights) (now (s .entry)) p ⌝ }
 {
     let mut m: u64 = 0;
     let mut q = quorum::mark_end(n);
@@ -65,7 +68,7 @@ fn set_holders(s: &[u64], weights: u64, n: u8, p: u8) -> u64
 
 // Whether sender p holds a set that senders of weight k hold.
 fn set_leads(s: &[u64], weights: u64, n: u8, k: u64, p: u8) -> bool
-    ensures { λ r. ⌜ r ≡ setLeads weights (now (s .entry)) n k p ⌝ }
+    ensures { λ r. ⌜ r ≡ setLeads (counting n weights) (now (s .entry)) k p ⌝ }
 {
     if commit_held(s, p) {
         k <= set_holders(s, weights, n, p)
@@ -74,9 +77,9 @@ fn set_leads(s: &[u64], weights: u64, n: u8, k: u64, p: u8) -> bool
     }
 }
 
-// The weight of the senders 1 to n of whom a COMMIT is held: those whose count is not 0.
+// The weight of the senders of whom a COMMIT is held: those whose count is not 0.
 fn commits_held(s: &[u64], weights: u64, n: u8) -> u64
-    ensures { λ r. ⌜ r ≡ commitsHeld weights (now (s .entry)) n ⌝ }
+    ensures { λ r. ⌜ r ≡ commitsHeld (counting n weights) (now (s .entry)) ⌝ }
 {
     let none = records::equal_marks(s, layout::COMMIT_COUNTS as u32 + 1, n, 0);
     quorum::weigh_marks(!none, 0, n, weights)
@@ -84,7 +87,7 @@ fn commits_held(s: &[u64], weights: u64, n: u8) -> u64
 
 // The lowest sender with a set that senders of weight k hold, and 0 if there is none. The senders are looked at one by one.
 fn leader_of(s: &[u64], weights: u64, n: u8, k: u64) -> u8
-    ensures { λ r. ⌜ r ≡ setLeader weights (now (s .entry)) n k ⌝ }
+    ensures { λ r. ⌜ r ≡ setLeader (counting n weights) (now (s .entry)) k ⌝ }
 {
     let mut p: u8 = 0;
     while p < n {
@@ -97,11 +100,18 @@ fn leader_of(s: &[u64], weights: u64, n: u8, k: u64) -> u8
 }
 
 // The same; where COMMITs of less weight are held, no set is looked at.
-pub fn set_leader(s: &[u64], weights: u64, n: u8, k: u64) -> u8
-    ensures { λ r. ⌜ r ≡ setLeader weights (now (s .entry)) n k ⌝ }
+fn leader_if_held(s: &[u64], weights: u64, n: u8, k: u64) -> u8
+    ensures { λ r. ⌜ r ≡ setLeader (counting n weights) (now (s .entry)) k ⌝ }
 {
     if commits_held(s, weights, n) < k {
         return 0;
     }
     leader_of(s, weights, n, k)
+}
+
+// The lowest sender with a set that senders of weight k hold, and 0 if there is none.
+pub fn set_leader(s: &[u64], g: Settings, k: u64) -> u8
+    ensures { λ r. ⌜ r ≡ setLeader g (now (s .entry)) k ⌝ }
+{
+    leader_if_held(s, g.weights, g.n, k)
 }

@@ -1,45 +1,45 @@
--- Request N13, the costliest session, as claims about lists of calls at one concentrator.
+-- The costliest session, as claims about lists of calls: PROTOCOL, section 14.
 use Prim.Native.Nat.{ℕ, _+_, _*_, _≤_}
 use mathlib.Core.Bool.{true, cond}
-use mathlib.Core.List.{List, [], _∷_}
+use mathlib.Core.List.{List, [], _∷_, _++_}
+use mathlib.Core.Option.{some}
 use mathlib.Core.Path.{_≡_}
-use lib.Dec.{eqb}
 use lib.ListN.{length}
-use Rattle.opening.specs.Arguments.{Arguments, settingsBy}
-use Rattle.opening.specs.Opening.{openAnswer, opened}
-use Rattle.turn.specs.Turn.{sentLength, turnOutcome}
+use Rattle.opening.specs.Arguments.{settingsBy}
+use Rattle.turn.specs.Turn.{sentLength}
 use Rattle.turn.specs.declared.Outcome.{Outcome}
 use Rattle.turn.specs.declared.Outcome.the-variants.{Refused, Idle, Sent, MovedOut, InForce}
-use Rattle.turn_bound.specs.TurnBound.{Step, opening, delivery, turn, report, recording, after, current}
-use Rattle.turn_bound.specs.Calls.{Call, openNumberBy, begun, turnsSince, settingsSince}
-use Rattle.turn_bound.specs.Calls as call
-use Rattle.turn_bound.specs.Lined.{lineLent, lined}
-use Rattle.costliest.specs.Calls.{opens, costliestCalls}
+use Rattle.journal.specs.Journal.{turnedOutcome}
+use Rattle.calls.specs.Machine.{Call, opening, delivery, turn, report, restore, recording, traced}
+use Rattle.calls.specs.Engine.{engine}
+use Rattle.calls.specs.Given.{openingOf}
+use Rattle.turn_bound.specs.TurnBound.{Begun, sessionAt}
+use Rattle.costliest.specs.Calls.{Calls, opens, costliestCalls}
 
--- the opening and the calls after it, each lent 512 bytes for its line
-unfoldable pub wholeSession : ℕ → List Call
-wholeSession n = lined (costliestCalls n) (call.opening (opens n) lineLent ∷ [])
+-- the opening and the calls after it
+unfoldable pub wholeSession : ℕ → Calls
+wholeSession n = costliestCalls n ++ (opening 1 (openingOf (opens n)) ∷ [])
 
--- the words s take the opening, and of the calls after it exactly k are turns that act
-pub record Takes (n k : ℕ) (s : List ℕ) : Type 0 where
-  pub is-opened : openNumberBy s (opens n) lineLent ≡ 0
-  pub exactly : turnsSince s (wholeSession n) ≡ k
+-- the opening is accepted, and of the calls after it exactly k are turns that act
+pub record Takes (n k : ℕ) (start : ℕ → List ℕ) : Type 0 where
+  pub is-opened : engine .opens (start 1) (openingOf (opens n)) ≡ true
+  pub exactly : sessionAt start (wholeSession n) 1 ≡ some (record { settings = settingsBy (opens n); turns = k })
 
--- for n from 2 to 16 the session takes 99·n+3 turns, whatever its buffer held; that no calls bring more is the bound on turns, `CallCount`
+-- for n from 2 to 16 the session takes 99·n+3 turns, whatever its buffer held; that no calls bring more is the bound on turns, `TurnCount`
 unfoldable pub Costliest : Type 0
-Costliest = (n : ℕ) → 2 ≤ n → n ≤ 16 → (s : List ℕ) → length s ≡ 2048 → Takes n (99 * n + 3) s
+Costliest = (n : ℕ) → 2 ≤ n → n ≤ 16 → (start : ℕ → List ℕ) → length (start 1) ≡ 2048 → Takes n (99 * n + 3) start
 
 -- for n = 1 it takes 5
 unfoldable pub FiveTurns : Type 0
-FiveTurns = (s : List ℕ) → length s ≡ 2048 → Takes 1 5 s
+FiveTurns = (start : ℕ → List ℕ) → length (start 1) ≡ 2048 → Takes 1 5 start
 
 -- and there no calls bring more: after every list of calls, further openings, restores and recordings among them, at most 5 turns count where
 -- the last accepted opening or restore has n = 1 and the weight 1, its coins printed or boxed
 unfoldable pub AtMostFive : Type 0
 AtMostFive =
-    (s : List ℕ) (cs : List Call) → begun s cs ≡ true → settingsSince s cs .n ≡ 1 → settingsSince s cs .weights ≡ 1 → turnsSince s cs ≤ 5
+    (start : ℕ → List ℕ) (cs : Calls) (q : ℕ) (x : Begun) → sessionAt start cs q ≡ some x → x .settings .n ≡ 1 → x .settings .weights ≡ 1 → x .turns ≤ 5
 
--- a turn that answers "sent"
+-- a turn whose outcome is sent (PROTOCOL 8.9)
 abbrev pub sentOne : Outcome → ℕ
 sentOne (Refused k) = 0
 sentOne Idle = 0
@@ -47,23 +47,24 @@ sentOne (Sent m) = 1
 sentOne MovedOut = 0
 sentOne InForce = 0
 
--- what f makes of the turns since the last accepted opening, summed up
-unfoldable pub summed : (Outcome → ℕ) → List ℕ → List Step → ℕ
-summed f s [] = 0
-summed f s (opening o ∷ cs) = cond (eqb (openAnswer (length (after s cs)) o) 0) 0 (summed f s cs)
-summed f s (delivery link b ∷ cs) = summed f s cs
-summed f s (turn out ∷ cs) = f (turnOutcome (after s cs) (length out)) + summed f s cs
-summed f s (report ∷ cs) = summed f s cs
-summed f s (recording i r b ∷ cs) = summed f s cs
+-- what f makes of the turns since the last accepted opening or restore, summed up: k before a call on the words w
+abbrev pub sentAfter : (Outcome → ℕ) → Call engine → List ℕ → ℕ → ℕ
+sentAfter f (opening p o) w k = cond (engine .opens w o) 0 k
+sentAfter f (delivery p m b) w k = k
+sentAfter f (turn p l) w k = f (turnedOutcome w (length (l .message)) (l .line)) + k
+sentAfter f (report p r) w k = k
+sentAfter f (restore p v r) w k = cond (engine .restores v r) 0 k
+sentAfter f (recording p b) w k = k
 
--- messages, and bytes, of a session of n
-pub record Sends (n : ℕ) (s : List ℕ) (cs : List Step) : Type 0 where
-  pub messages : summed sentOne s cs ≤ 98 * n + 2
-  pub bytes : summed sentLength s cs ≤ 1968 * n + 32
+-- .. at q after a list of calls
+unfoldable pub sentAt : (Outcome → ℕ) → (ℕ → List ℕ) → Calls → ℕ → ℕ
+sentAt f start cs q = traced engine start (sentAfter f) 0 cs q
 
--- no calls make a concentrator send more. Here they stand without their lines: one that is lent too few bytes for its line is refused and
--- sends nothing.
+-- messages, and bytes, in a session of n
+pub record Sends (n : ℕ) (start : ℕ → List ℕ) (cs : Calls) (q : ℕ) : Type 0 where
+  pub messages : sentAt sentOne start cs q ≤ 98 * n + 2
+  pub bytes : sentAt sentLength start cs q ≤ 1968 * n + 32
+
+-- no calls make a concentrator send more
 unfoldable pub AtMostSent : Type 0
-AtMostSent =
-    (s : List ℕ) (o : Arguments) → openAnswer (length s) o ≡ 0 →
-    (cs : List Step) → Sends (current (settingsBy o) (opened s o) cs .n) (opened s o) cs
+AtMostSent = (start : ℕ → List ℕ) (cs : Calls) (q : ℕ) (x : Begun) → sessionAt start cs q ≡ some x → Sends (x .settings .n) start cs q

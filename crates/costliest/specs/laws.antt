@@ -1,3 +1,6 @@
+pub mod Bytes
+pub mod Words
+pub mod Session
 pub mod Packs
 pub mod One
 pub mod Saying
@@ -7,3 +10,4 @@ pub mod Acting
 pub mod Costliest
 pub mod Five
 pub mod Sent
+pub mod SentCalls

@@ -16,7 +16,7 @@ pub fn at_most_five()
     ensures { λ _. ⌜ AtMostFive ⌝ }
 {}
 
-// For every n, no calls make a concentrator send more than 98·n+2 messages and 1,968·n+32 bytes.
+// For every n, no calls make a concentrator send more than 98·n+2 messages and 1,968·n+32 bytes since its last opening or restore.
 pub fn at_most_sent()
     ensures { λ _. ⌜ AtMostSent ⌝ }
 {}

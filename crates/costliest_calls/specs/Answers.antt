@@ -8,28 +8,31 @@ use lib.Dec.{eqb, leb, ltb}
 use lib.ListN.{length}
 use Rattle.settings.specs.Refusals.{SETTINGS, SHORT}
 use Rattle.wire.specs.Message.{atFront}
-use Rattle.turn_bound.specs.TurnBound.{Step, opening, delivery, turn, report, recording}
+use Rattle.calls.specs.Machine.{Call, opening, delivery, turn, report, restore, recording}
+use Rattle.calls.specs.Engine.{engine}
 use Rattle.costliest.specs.Calls.{costliestCalls}
 use Rattle.costliest_calls.specs.Numbered.{callAt}
 
 -- bits 8 to 15: 0 no such call, 1 a delivery, 2 a turn; 16 to 31: the length of the message delivered, or of the bytes lent to the turn;
--- 32 to 39: the link of the delivery. An opening, a report and a recording have no number of their own.
-unfoldable pub callNumber : Option Step → ℕ
+-- 32 to 39: the link of the delivery. An opening, a report, a restore and a recording have no number of their own.
+unfoldable pub callNumber : Option (Call engine) → ℕ
 callNumber none = 0
-callNumber (some (opening o)) = 0
-callNumber (some (delivery link b)) = 2 ^ 8 * 1 + 2 ^ 16 * length b + 2 ^ 32 * link
-callNumber (some (turn out)) = 2 ^ 8 * 2 + 2 ^ 16 * length out
-callNumber (some report) = 0
-callNumber (some (recording i r b)) = 0
+callNumber (some (opening p o)) = 0
+callNumber (some (delivery p link b)) = 2 ^ 8 * 1 + 2 ^ 16 * length (b .list) + 2 ^ 32 * link
+callNumber (some (turn p l)) = 2 ^ 8 * 2 + 2 ^ 16 * length (l .message)
+callNumber (some (report p r)) = 0
+callNumber (some (restore p v r)) = 0
+callNumber (some (recording p b)) = 0
 
 -- the lent bytes, with the message of a delivery at their front
-unfoldable pub callBytes : Option Step → List ℕ → List ℕ
+unfoldable pub callBytes : Option (Call engine) → List ℕ → List ℕ
 callBytes none lent = lent
-callBytes (some (opening o)) lent = lent
-callBytes (some (delivery link b)) lent = atFront b lent
-callBytes (some (turn out)) lent = lent
-callBytes (some report) lent = lent
-callBytes (some (recording i r b)) lent = lent
+callBytes (some (opening p o)) lent = lent
+callBytes (some (delivery p link b)) lent = atFront (b .list) lent
+callBytes (some (turn p l)) lent = lent
+callBytes (some (report p r)) lent = lent
+callBytes (some (restore p v r)) lent = lent
+callBytes (some (recording p b)) lent = lent
 
 -- SETTINGS where n is not 1 to 16, SHORT where fewer bytes are lent than the longest message has, else 0
 unfoldable pub callRefusal : (n room : ℕ) → ℕ

@@ -6,10 +6,11 @@ use mathlib.Core.Option.{Option, none, some}
 use lib.Dec.{eqb}
 use lib.ListN.{length, getD}
 use Rattle.opening.specs.Arguments.{Arguments}
-use Rattle.turn_bound.specs.TurnBound.{Step}
+use Rattle.calls.specs.Machine.{Call}
+use Rattle.calls.specs.Engine.{engine}
 
 -- call k of a list of calls, from 1 on, in the order in which they are made: the newest stands first in the list
-unfoldable pub callAt : List Step → ℕ → Option Step
+unfoldable pub callAt : List (Call engine) → ℕ → Option (Call engine)
 callAt [] k = none
 callAt (c ∷ cs) k = cond (eqb k (length cs + 1)) (some c) (callAt cs k)
 

@@ -9,7 +9,7 @@ ghost use lib.ListN.{length};
 ghost use Rattle.costliest.specs.Calls.{opens};
 ghost use Rattle.costliest_calls.specs.Numbered.{settingAt};
 ghost use Rattle.costliest_calls.specs.Answers.{callNumber, callBytes, callRefusal, costliestAnswer, costliestBytes};
-ghost use Rattle.costliest_calls.specs.laws.Sections.{stepOf, valuesBeside};
+ghost use Rattle.costliest_calls.specs.laws.Sections.{engineCall, Small};
 
 // A call: none, the message of a concentrator over its link, or a turn.
 pub enum Call {
@@ -40,10 +40,10 @@ fn call_refusal(n: u64, room: usize) -> u64
 
 // The number of a call; the message of a delivery is written at the front of the lent bytes.
 fn write_call(c: Call, message: &mut [u8]) -> u64
-    requires few { ⌜ valuesBeside c ≤ 16 ⌝ }
+    requires few { ⌜ Small c ⌝ }
     requires room { ⌜ 140 ≤ length (now message) ⌝ }
-    ensures answer { λ r. ⌜ r ≡ callNumber (stepOf c) ⌝ }
-    ensures bytes { λ _. ⌜ now (message .exit) ≡ callBytes (stepOf c) (now (message .entry)) ⌝ }
+    ensures answer { λ r. ⌜ r ≡ callNumber (engineCall c) ⌝ }
+    ensures bytes { λ _. ⌜ now (message .exit) ≡ callBytes (engineCall c) (now (message .entry)) ⌝ }
 {
     match c {
         Call::Nothing => 0,

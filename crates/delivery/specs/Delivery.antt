@@ -1,4 +1,5 @@
--- Delivery: the verdict on a message, and the words after it. "A delivery names the link's concentrator and records one message."
+-- Delivery: the verdict on a message, and the words after it. A delivery records one message that came over a link, and does nothing else
+-- (PROTOCOL 3.7, 9.17, 9.18).
 use Prim.Native.Nat.{ℕ}
 use mathlib.Core.Bool.{Bool, _||_, not, cond}
 use mathlib.Core.List.{List}
@@ -17,8 +18,7 @@ use Rattle.wire.specs.declared.Parsed.the-variants as parsed
 use Rattle.delivery.specs.declared.Verdict.{Verdict}
 use Rattle.delivery.specs.declared.Verdict.the-variants.{Refused, Accepted}
 
--- the place of a message of sender p is taken: "SEND, ECHO and READY are held once for each sender and instance, AUX once for each
--- sender, instance and round, EST once for each sender, instance, round and value, COMMIT once for each sender."
+-- the place of a message of sender p is taken, as the table of places has it (PROTOCOL 3.1 to 3.5)
 unfoldable pub placeHeld : List ℕ → ℕ → Message → Bool
 placeHeld s p (Send i v) = sendHeld s i
 placeHeld s p (Echo i v) = echoHeld s i p
@@ -27,12 +27,12 @@ placeHeld s p (Est i r b) = estHeld s i r b p
 placeHeld s p (Aux i r b) = auxHeld s i r 0 p || auxHeld s i r 1 p
 placeHeld s p (Commit k) = commitHeld s p
 
--- the refusals 2 to 7, then "11 HELD: that place already holds a message"
+-- the refusals 2 to 7, then 11 where the message's place is taken (PROTOCOL 3.6)
 unfoldable pub judged : List ℕ → ℕ → Parsed → Verdict
 judged s p (parsed.Refused k) = Refused k
 judged s p (parsed.Taken m) = cond (placeHeld s p m) (Refused HELD) (Accepted m)
 
--- "Delivery 9, 10, 2 to 7, 11.": the first refusal, or the message
+-- the refusals of a delivery in their order, apart from 8 for its line: the first one, or the message (PROTOCOL 10.15)
 unfoldable pub verdict : List ℕ → ℕ → List ℕ → Verdict
 verdict s link b =
     cond (not (isState s)) (Refused NO-STATE)
@@ -53,7 +53,7 @@ unfoldable pub answerOf : Verdict → ℕ
 answerOf (Refused k) = k
 answerOf (Accepted m) = 0
 
--- the words after a verdict: "A refusal yields its number and nothing else; state and buffers are untouched."
+-- the words after a verdict: a refusal changes none (PROTOCOL 9.3)
 unfoldable pub wordsAfter : Verdict → List ℕ → ℕ → List ℕ → List ℕ
 wordsAfter (Refused k) s link b = s
 wordsAfter (Accepted m) s link b = recorded s link m (drop 12 b)

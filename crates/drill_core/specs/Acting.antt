@@ -20,7 +20,7 @@ use Rattle.drill_core.specs.declared.Verdict.the-variants as verdict
 unfoldable pub begun : Phase → Given → List ℕ → List ℕ
 begun x g w = cond (isSetup x) (openedAll g w) w
 
--- "`T p`, a turn; `D k q`, sent message k .. delivered to q; `L p q kind instance round value`, a liar's one-value message; `R`"
+-- turns, deliveries of sent messages, liars' messages, and runs (PROTOCOL 15.6 to 15.9)
 unfoldable pub called : Given → Call → Memory → Memory
 called g (call.Turn p) x = turned p x
 called g (call.Deliver k q) (memory w m c) = memory (messageDelivered m k q w) m c

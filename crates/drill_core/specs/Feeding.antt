@@ -23,7 +23,7 @@ startDrill = record {
   reader = lines.start;
 }
 
--- the number of the line read next, below 2^64; "the line's number only" is printed after a bad one
+-- the number of the line read next, below 2^64; that of a bad line stays, since only it is printed then (PROTOCOL 15.16)
 unfoldable pub nextNumber : Phase → ℕ → ℕ
 nextNumber x number = cond (isBad x) number ((number + 1) % 2 ^ 64)
 
@@ -46,7 +46,7 @@ settled number (world w m s) = drilling w m (nextLine s number)
 unfoldable pub ended : Drilling → Drilling
 ended (drilling w m d) = settled (d .number) (taken (lines.finished (d .reader)) (world w m (d .state)))
 
--- one byte more; a line that cannot be taken "ends it"
+-- one byte more; nothing after a line that cannot be taken is read (PROTOCOL 15.16)
 unfoldable pub fedByte : Drilling → ℕ → Drilling
 fedByte (drilling w m d) c =
     cond (isBad (d .state .phase)) (drilling w m d)
@@ -65,7 +65,7 @@ lastLine (drilling w m d) = cond (d .begun) (ended (drilling w m d)) (drilling w
 unfoldable pub allOpen : Drilling → Drilling
 allOpen (drilling w m d) = drilling (begun (d .state .phase) (d .state .given) w) m d
 
--- "At the end of input"
+-- the input is over: what is left behind the last LF is a line, and the sessions are opened now at the latest (PROTOCOL 15.1, 15.11)
 unfoldable pub atEnd : Drilling → Drilling
 atEnd x = allOpen (lastLine x)
 

@@ -1,4 +1,4 @@
--- "A line it cannot take prints `bad`": which lines a drill takes, and what they come to.
+-- Which lines a drill takes, and what they come to; one that cannot be taken ends it (PROTOCOL 15.16).
 use Prim.Native.Nat.{ℕ, _^_}
 use mathlib.Core.Bool.{Bool, true, false, _&&_, not, cond}
 use lib.Dec.{eqb, leb, ltb}
@@ -27,7 +27,7 @@ isFirst phase.Setup = false
 isFirst phase.Running = false
 isFirst phase.Bad = false
 
--- "N, C and P lines stand before the rest": the N line was taken, and only C and P lines after it
+-- the N line was taken, and only C and P lines after it, which come before all others (PROTOCOL 15.4, 15.5)
 unfoldable pub isSetup : Phase → Bool
 isSetup phase.First = false
 isSetup phase.Setup = true
@@ -48,7 +48,7 @@ isBad phase.Setup = false
 isBad phase.Running = false
 isBad phase.Bad = true
 
--- "`P p value` (16), an honest concentrator; one without P lies"
+-- who has a P line is honest, who has none lies (PROTOCOL 15.5, 15.11)
 unfoldable pub isHonest : Members → ℕ → Bool
 isHonest g p = numbered (g .n) p && mark (g .honest) p
 
@@ -59,15 +59,15 @@ isLiar g p = numbered (g .n) p && not (mark (g .honest) p)
 unfoldable pub settingsOpen : (n ta ts : ℕ) → Bool
 settingsOpen n ta ts = eqb (openAnswer stateWords (drillArguments n ta ts 1 0 0 (blank n))) 0
 
--- not "an N that opening refuses or with n above 4"; the session number has 32 bits
+-- an opening takes the settings, n is at most 4, and the session number has 32 bits (PROTOCOL 15.3)
 unfoldable pub settingsTaken : (n ta ts session : ℕ) → Bool
 settingsTaken n ta ts session = settingsOpen n ta ts && leb n 4 && ltb session (2 ^ 32)
 
--- "`N n ta ts session` first"
+-- the settings are line 1 (PROTOCOL 15.3)
 unfoldable pub judgedN : Phase → (n ta ts session : ℕ) → Verdict
 judgedN x n ta ts session = cond (isFirst x) (cond (settingsTaken n ta ts session) (verdict.Settings n ta ts session) verdict.Bad) verdict.Bad
 
--- "each C i and P p once", "a C, P, T, D or L whose i, p or q is not 1 to n"; a word of 8 hexadecimal digits is always below 2^32
+-- one C line for each vote, 1 to n (PROTOCOL 15.4); a word of 8 hexadecimal digits is always below 2^32
 unfoldable pub judgedC : Phase → Given → (i word : ℕ) → Verdict
 judgedC x g i word =
     cond (isSetup x)
@@ -78,15 +78,15 @@ judgedC x g i word =
     verdict.Bad)
     verdict.Bad
 
--- "each .. P p once": who has none yet is no honest one yet
+-- one P line for each concentrator (PROTOCOL 15.5): who has none yet is no honest one yet
 unfoldable pub judgedP : Phase → Members → (p value : ℕ) → Verdict
 judgedP x g p value = cond (isSetup x) (cond (isLiar g p) (verdict.Input p value) verdict.Bad) verdict.Bad
 
--- "a T or D naming a liar"
+-- turns are at honest ones (PROTOCOL 15.6)
 unfoldable pub judgedT : Phase → Members → ℕ → Verdict
 judgedT x g p = cond (afterSettings x) (cond (isHonest g p) (verdict.Call (call.Turn p)) verdict.Bad) verdict.Bad
 
--- "a D of no sent message"
+-- message k was sent, and is delivered to an honest one (PROTOCOL 15.7)
 unfoldable pub judgedD : Phase → Members → (sent k q : ℕ) → Verdict
 judgedD x g sent k q =
     cond (afterSettings x)
@@ -95,11 +95,11 @@ judgedD x g sent k q =
     verdict.Bad)
     verdict.Bad
 
--- not "with a number too big for its bytes": kind, instance and round have one byte, a value of 64 bits fits its eight
+-- each number fits its bytes: kind, instance and round have one byte, a value of 64 bits fits its eight (PROTOCOL 15.8)
 unfoldable pub bytesFit : (kind instance round : ℕ) → Bool
 bytesFit kind instance round = leb kind 255 && leb instance 255 && leb round 255
 
--- "an L from an honest one, to a liar or with a number too big for its bytes"
+-- an L is from a liar, to an honest one, and its numbers fit their bytes (PROTOCOL 15.8)
 unfoldable pub judgedL : Phase → Members → (p q kind instance round value : ℕ) → Verdict
 judgedL x g p q kind instance round value =
     cond (afterSettings x)

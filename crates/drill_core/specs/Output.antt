@@ -1,5 +1,4 @@
--- What a drill prints: "At the end of input it prints for each honest one: number, exit, closed as 0 or 1, turns, values in force ..; then
--- `sent` and the message count. A line it cannot take prints `bad`, a tab and the line's number only".
+-- What a drill prints: a line for each honest one and the number of messages, or the number of the bad line alone (PROTOCOL 15.15, 15.16).
 use Prim.Native.Nat.{ℕ, zero, suc}
 use mathlib.Core.Bool.{Bool, cond}
 use mathlib.Core.List.{List, [], _++_}
@@ -22,14 +21,14 @@ unfoldable pub answerText : ℕ → Answer → Bool → List ℕ → List ℕ
 answerText p (Refused k) c values = resultLine p 0 (cond c 1 0) 0 (take 0 values)
 answerText p (Given f) c values = resultLine p (f .exit) (cond c 1 0) (f .turns) (take (f .«in_force») values)
 
--- "number, exit, closed as 0 or 1, turns, values in force": the report is lent 16 words for each set
+-- number, exit, closed or not, count of turns, packs in force (PROTOCOL 15.15): the report is lent 16 words for each set
 unfoldable pub resultText : ℕ → List ℕ → List ℕ
 resultText p s = answerText p (reportAnswer s 16 16) (closed s) (reportInForce s 16 (blank 16))
 
 unfoldable pub resultIf : ℕ → List ℕ → ℕ → List ℕ
 resultIf honest w p = cond (mark honest p) (resultText p (stateOf w p)) []
 
--- "for each honest one": the lines of 1 to n
+-- one line for every honest one of 1 to n (PROTOCOL 15.15)
 unfoldable pub results : ℕ → List ℕ → ℕ → List ℕ
 results honest w zero = []
 results honest w (suc n) = results honest w n ++ resultIf honest w (suc n)

@@ -10,7 +10,7 @@ use Rattle.drill_feeder.specs.Steps.{steps}
 use Rattle.drill_feeder.specs.Lines.{drillArguments, openedAt}
 use Rattle.drill_core.specs.declared.Given.{Given}
 
--- "`N n ta ts session`"; "a missing C is 00000000", and "one without P lies"
+-- the settings (PROTOCOL 15.3, 15.11); a coin word that is not given is 0, and who has no P line lies
 unfoldable pub settingsGiven : (n ta ts session : ℕ) → Given
 settingsGiven n ta ts session = record {
   members = record { n = n; honest = 0 };
@@ -25,7 +25,7 @@ settingsGiven n ta ts session = record {
 unfoldable pub noneGiven : Given
 noneGiven = settingsGiven 0 0 0 0
 
--- "`C i word`"
+-- a coin word of a C line (PROTOCOL 15.4)
 unfoldable pub coinGiven : Given → (i word : ℕ) → Given
 coinGiven g i w = record {
   members = g .members;
@@ -37,7 +37,7 @@ coinGiven g i w = record {
   inputs = g .inputs;
 }
 
--- "`P p value` (16), an honest concentrator"
+-- p is honest, with this input (PROTOCOL 15.5)
 unfoldable pub inputGiven : Given → (p value : ℕ) → Given
 inputGiven g p value = record {
   members = record { n = g .members .n; honest = withMark (g .members .honest) p };
@@ -49,7 +49,7 @@ inputGiven g p value = record {
   inputs = put (g .inputs) (p - 1) value;
 }
 
--- the arguments of the opening of session p with an input and "n coin words"
+-- the arguments of the opening of session p with an input and n coin words (PROTOCOL 9.15)
 abbrev pub argumentsWith : Given → (p input : ℕ) → List ℕ → Arguments
 argumentsWith g p input coins = drillArguments (g .members .n) (g .ta) (g .ts) p (g .session) input (take (g .members .n) coins)
 

@@ -1,5 +1,4 @@
--- What the lines of a drill do: "`T p`, a turn; `D k q`, sent message k (from 1, in order of sending) delivered to q; `L p q kind instance
--- round value`, a liar's one-value message; `R`."
+-- What the lines of a drill do: turns, deliveries of sent messages, liars' messages, and runs (PROTOCOL 15.6 to 15.9).
 use Prim.Native.Nat.{ℕ, zero, suc, _+_, _-_}
 use mathlib.Core.Bool.{Bool, true, false, cond}
 use mathlib.Core.List.{List, [], _∷_}
@@ -20,7 +19,7 @@ use Rattle.drill_feeder.specs.declared.Counts.{Counts}
 use Rattle.drill_feeder.specs.declared.Members.{Members}
 use Rattle.drill_feeder.specs.declared.Lie.{Lie}
 
--- the arguments of an opening: "Drills stay printed, with weights 1."
+-- the arguments of an opening: weights are 1, and coins are printed (PROTOCOL 15.3)
 abbrev pub drillArguments : (n ta ts p session input : ℕ) → List ℕ → Arguments
 drillArguments n ta ts p session input coins = arguments n ta ts p session input coins (onesGiven n) 0
 
@@ -28,15 +27,16 @@ drillArguments n ta ts p session input coins = arguments n ta ts p session input
 unfoldable pub openedAt : List ℕ → Arguments → List ℕ
 openedAt w o = withState w (o .own) (opened (stateOf w (o .own)) o)
 
--- the words after bytes b were delivered to q over a link; "What the engine refuses of T, D, L or R prints nothing.", and changes nothing
+-- the words after bytes b were delivered to q over a link; a refused call changes and prints nothing (PROTOCOL 15.13)
 unfoldable pub deliveredTo : List ℕ → (q link : ℕ) → List ℕ → List ℕ
 deliveredTo w q link b = withState w q (delivered (stateOf w q) link b)
 
--- "`D k q`, sent message k .. delivered to q": over the link of its sender
+-- `D k q`: message k is delivered to q over the link of its sender (PROTOCOL 15.7)
 unfoldable pub messageDelivered : List ℕ → (k q : ℕ) → List ℕ → List ℕ
 messageDelivered m k q w = deliveredTo w q (senderAt m k) (messageAt m k)
 
--- "`L p q kind instance round value`, a liar's one-value message": delivered to q, over the link of p; it is no sent message
+-- `L p q kind instance round value`: a message of liar p, with one value, is delivered to q over the link of p; it is no sent message
+-- (PROTOCOL 15.8, 15.12, 15.13)
 unfoldable pub lied : ℕ → ℕ → Lie → List ℕ → List ℕ
 lied session q l w = deliveredTo w q (l .p) (messageBytes (headerWith (l .kind) (l .p) (l .instance) (l .round) 1 session) (l .value ∷ []))
 
@@ -49,26 +49,26 @@ unfoldable pub more : ℕ → ℕ
 more sent = cond (ltb sent 1600) (sent + 1) sent
 
 -- a turn that answers sent has sent one message more
-unfoldable pub counted : Outcome → Counts → Counts
-counted (outcome.Refused k) c = c
-counted outcome.Idle c = c
-counted (outcome.Sent m) c = record { sent = more (c .sent); offered = c .offered }
-counted outcome.MovedOut c = c
-counted outcome.InForce c = c
+unfoldable pub messageCounted : Outcome → Counts → Counts
+messageCounted (outcome.Refused k) c = c
+messageCounted outcome.Idle c = c
+messageCounted (outcome.Sent m) c = record { sent = more (c .sent); offered = c .offered }
+messageCounted outcome.MovedOut c = c
+messageCounted outcome.InForce c = c
 
 -- the outcome of a turn of p
 unfoldable pub outcomeAt : ℕ → Memory → Outcome
 outcomeAt p (memory w m c) = turnOutcome (stateOf w p) (length (roomFor m (c .sent)))
 
--- "`T p`, a turn": its message, if it has one, is stored as the next
+-- `T p`: a turn, whose message, if it has one, is stored as the next (PROTOCOL 15.6, 15.12)
 unfoldable pub turned : ℕ → Memory → Memory
 turned p (memory w m c) =
     memory
     (withState w p (turnWords (stateOf w p) (length (roomFor m (c .sent)))))
     (withRoom m (c .sent) (turnBytes (stateOf w p) (roomFor m (c .sent))))
-    (counted (turnOutcome (stateOf w p) (length (roomFor m (c .sent)))) c)
+    (messageCounted (turnOutcome (stateOf w p) (length (roomFor m (c .sent)))) c)
 
--- neither "idle or closed"
+-- another turn follows unless this one is idle, refused or puts a set in force (PROTOCOL 15.14)
 unfoldable pub goesOn : Outcome → Bool
 goesOn (outcome.Refused k) = false
 goesOn outcome.Idle = false
@@ -79,7 +79,7 @@ goesOn outcome.InForce = false
 unfoldable pub turnGoesOn : ℕ → Memory → Bool
 turnGoesOn p x = goesOn (outcomeAt p x)
 
--- "turn until idle or closed", so many turns at the most
+-- turns until one is idle, refused or puts a set in force, so many at the most (PROTOCOL 15.14)
 unfoldable pub sweep : ℕ → ℕ → Memory → Memory
 sweep p zero x = x
 sweep p (suc k) x = cond (turnGoesOn p x) (sweep p k (turned p x)) (turned p x)
@@ -87,11 +87,11 @@ sweep p (suc k) x = cond (turnGoesOn p x) (sweep p k (turned p x)) (turned p x)
 unfoldable pub sweepIf : ℕ → ℕ → Memory → Memory
 sweepIf honest p x = cond (mark honest p) (sweep p 401 x) x
 
--- "honest ones in rising order turn until idle or closed"
+-- each honest one, the lowest first, takes such turns (PROTOCOL 15.14)
 unfoldable pub swept : Members → Memory → Memory
 swept g x = steps (sweepIf (g .honest)) (g .n) x
 
--- "go to every honest one, by message then number": message k to q, to all, and message done + j to all
+-- the lowest message first, for each message the lowest number first (PROTOCOL 15.14): message k to q, to all, and message done + j to all
 unfoldable pub offerTo : ℕ → List ℕ → (k q : ℕ) → List ℕ → List ℕ
 offerTo honest m k q w = cond (mark honest q) (messageDelivered m k q w) w
 
@@ -101,7 +101,7 @@ offer g m k w = steps (offerTo (g .honest) m k) (g .n) w
 unfoldable pub offerNext : Members → List ℕ → (done j : ℕ) → List ℕ → List ℕ
 offerNext g m done j w = offer g m (done + j) w
 
--- "messages not yet delivered by an R go to every honest one"
+-- messages that no R has delivered go to all honest ones (PROTOCOL 15.14)
 unfoldable pub offered : Members → Memory → Memory
 offered g (memory w m c) =
     memory (steps (offerNext g m (c .offered)) (c .sent - c .offered) w) m (record { sent = c .sent; offered = c .sent })
@@ -109,7 +109,7 @@ offered g (memory w m c) =
 unfoldable pub anyLeft : Memory → Bool
 anyLeft (memory w m c) = ltb (c .offered) (c .sent)
 
--- "R repeats: ..; it ends when none was left.", so many times at the most
+-- R repeats its two steps until no message is left, so many times at the most (PROTOCOL 15.14)
 unfoldable pub ran : Members → ℕ → Memory → Memory
 ran g zero x = x
 ran g (suc k) x = cond (anyLeft (swept g x)) (ran g k (offered g (swept g x))) (swept g x)

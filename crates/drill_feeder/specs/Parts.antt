@@ -13,7 +13,7 @@ part l a k = cond (leb (a + k) (length l)) (take k (drop a l)) []
 unfoldable pub withPart : List ℕ → ℕ → ℕ → List ℕ → List ℕ
 withPart l a k new = cond (leb (a + k) (length l)) (take a l ++ (new ++ drop (a + k) l)) l
 
--- "The state is a lent buffer of exactly 2,048 words": that of session p follows those of the sessions below
+-- a state has 2,048 words: that of session p follows those of the sessions below (PROTOCOL 9.1)
 abbrev pub stateAt : ℕ → ℕ
 stateAt p = 2048 * (p - 1)
 
@@ -37,10 +37,10 @@ withRoom m sent b = withPart m (44 * sent) 140 b
 unfoldable pub byteAt : List ℕ → ℕ → ℕ
 byteAt m k = getD m k 0
 
--- "The length is 12 + 8·count.", and byte 5 is the count
+-- twelve bytes, and eight more for each value; byte 5 says how many (PROTOCOL 2.14)
 unfoldable pub messageAt : List ℕ → ℕ → List ℕ
 messageAt m k = part m (placeAt k) (12 + 8 * byteAt m (placeAt k + 5))
 
--- "Byte 2 is the sender"
+-- the sender of a message stands in byte 2 (PROTOCOL 2.9)
 unfoldable pub senderAt : List ℕ → ℕ → ℕ
 senderAt m k = byteAt m (placeAt k + 2)

@@ -31,7 +31,7 @@ fn deliver(state: &mut [u64], link: u64, bytes: &[u8])
     journal::deliver(state, link, bytes, &mut line);
 }
 
-// Drills are printed (request N12): 0.
+// Drills are printed: 0 (PROTOCOL 15.3).
 fn open(
     state: &mut [u64],
     n: u64,

@@ -8,7 +8,7 @@ use turn::Outcome;
 ghost use mathlib.Core.Path.{_≡_};
 ghost use Prim.Native.Nat.{_+_, _-_, _<_};
 ghost use Rattle.drill_feeder.specs.Steps.{steps};
-ghost use Rattle.drill_feeder.specs.Lines.{memory, more, counted, goesOn, turned, turnGoesOn, sweep, sweepIf, swept, offerTo, offer, offerNext, offered, ran};
+ghost use Rattle.drill_feeder.specs.Lines.{memory, more, messageCounted, goesOn, turned, turnGoesOn, sweep, sweepIf, swept, offerTo, offer, offerNext, offered, ran};
 
 // The places of the store.
 const CAPACITY: u16 = 1600;
@@ -26,8 +26,8 @@ fn more(sent: u16) -> u16
 }
 
 // The counts after a turn.
-fn counted(o: Outcome, c: Counts) -> Counts
-    ensures { λ r. ⌜ r ≡ counted o c ⌝ }
+fn message_counted(o: Outcome, c: Counts) -> Counts
+    ensures { λ r. ⌜ r ≡ messageCounted o c ⌝ }
 {
     match o {
         Outcome::Refused(_) => c,
@@ -61,7 +61,7 @@ pub fn take_turn(words: &mut [u64], store: &mut [u8], p: u8, c: Counts) -> Turne
 {
     let o = calls::turn_of(words, store, p, c.sent);
     Turned {
-        counts: counted(o, c),
+        counts: message_counted(o, c),
         again: goes_on(o),
     }
 }

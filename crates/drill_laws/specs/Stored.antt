@@ -9,14 +9,14 @@ use Rattle.wire.specs.declared.Message.{Message}
 use Rattle.turn.specs.Due.{commitDue}
 use Rattle.turn.specs.Turn.{turnOutcome, turnBytes}
 use Rattle.drill_feeder.specs.Parts.{part, placeAt, stateOf, roomFor, withRoom, messageAt}
-use Rattle.drill_feeder.specs.Lines.{counted}
+use Rattle.drill_feeder.specs.Lines.{messageCounted}
 use Rattle.drill_feeder.specs.declared.Counts.{Counts}
 
--- "sent message k (from 1, in order of sending)": a turn of p that would send message k has room, is counted, its bytes stand at the
--- next place, and the places before it stay
+-- messages are numbered from 1 as they are sent (PROTOCOL 15.12): a turn of p that would send message k has room, is counted, its bytes stand
+-- at the next place, and the places before it stay
 pub record Stored (w m : List ℕ) (c : Counts) (p : ℕ) (k : Message) : Type 0 where
   pub room : length (roomFor m (c .sent)) ≡ 140
-  pub counts : counted (turnOutcome (stateOf w p) (length (roomFor m (c .sent)))) c .sent ≡ c .sent + 1
+  pub counts : messageCounted (turnOutcome (stateOf w p) (length (roomFor m (c .sent)))) c .sent ≡ c .sent + 1
   pub bytes :
       messageAt (withRoom m (c .sent) (turnBytes (stateOf w p) (roomFor m (c .sent)))) (c .sent + 1)
       ≡ encode k (sessionOf (stateOf w p) .own) (sessionOf (stateOf w p) .number) (commitDue (settingsOf (stateOf w p)) (stateOf w p))

@@ -1,4 +1,4 @@
--- What a line of the drill's input is taken as: "fields parted by tabs".
+-- What a line of the drill's input is taken as: fields with one tab between any two (PROTOCOL 15.2).
 use Prim.Native.Nat.{ℕ}
 use mathlib.Core.Bool.{cond}
 use mathlib.Core.List.{List, [], _∷_}
@@ -35,31 +35,31 @@ LETTER-R = 82
 unfoldable pub lineOr : List ℕ → List (List ℕ) → (List ℕ → Line) → Line
 lineOr forms fs make = cond (allRight forms fs) (make (valuesOf forms fs)) Bad
 
--- "`N n ta ts session`"; "Other fields are decimal"
+-- `N n ta ts session`, the settings; fields are decimal unless said otherwise (PROTOCOL 15.3, 15.10)
 unfoldable pub lineN : List ℕ → Line
 lineN xs = N (getD xs 0 0) (getD xs 1 0) (getD xs 2 0) (getD xs 3 0)
 
--- "`C i word`"
+-- `C i word`, a coin word (PROTOCOL 15.4)
 unfoldable pub lineC : List ℕ → Line
 lineC xs = C (getD xs 0 0) (getD xs 1 0)
 
--- "`P p value`"
+-- `P p value`, an honest one's input (PROTOCOL 15.5)
 unfoldable pub lineP : List ℕ → Line
 lineP xs = P (getD xs 0 0) (getD xs 1 0)
 
--- "`T p`"
+-- `T p`, a turn (PROTOCOL 15.6)
 unfoldable pub lineT : List ℕ → Line
 lineT xs = T (getD xs 0 0)
 
--- "`D k q`"
+-- `D k q`, the delivery of a message (PROTOCOL 15.7)
 unfoldable pub lineD : List ℕ → Line
 lineD xs = D (getD xs 0 0) (getD xs 1 0)
 
--- "`L p q kind instance round value`"
+-- `L p q kind instance round value`, a liar's message (PROTOCOL 15.8)
 unfoldable pub lineL : List ℕ → Line
 lineL xs = L (getD xs 0 0) (getD xs 1 0) (getD xs 2 0) (getD xs 3 0) (getD xs 4 0) (getD xs 5 0)
 
--- "`R`"
+-- `R`, a run (PROTOCOL 15.9)
 unfoldable pub lineR : List ℕ → Line
 lineR xs = R
 
@@ -92,6 +92,6 @@ unfoldable pub lineOfFields : List (List ℕ) → Line
 lineOfFields [] = Bad
 lineOfFields (f ∷ fs) = byLetter (letter f) fs
 
--- the line of the bytes before its LF: "A line it cannot take .. one of the wrong form" is Bad
+-- the line of the bytes before its LF; one of another form is Bad (PROTOCOL 15.2)
 unfoldable pub lineOf : List ℕ → Line
 lineOf b = lineOfFields (fields b)

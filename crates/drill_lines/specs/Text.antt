@@ -15,7 +15,7 @@ DASH = 45
 unfoldable pub commaText : ℕ → List ℕ
 commaText x = COMMA ∷ hexText x
 
--- "values in force in 16 lower-case hexadecimal digits parted by commas or "-""
+-- the packs in force in 16 hexadecimal digits, with commas between them, a dash where there are none (PROTOCOL 15.15)
 unfoldable pub valuesText : List ℕ → List ℕ
 valuesText [] = DASH ∷ []
 valuesText (x ∷ xs) = hexText x ++ eachText commaText xs
@@ -24,7 +24,7 @@ valuesText (x ∷ xs) = hexText x ++ eachText commaText xs
 unfoldable pub fieldText : ℕ → List ℕ
 fieldText n = decimalText n ++ (TAB ∷ [])
 
--- "number, exit, closed as 0 or 1, turns, values in force"
+-- the line of an honest one: number, exit, closed or not, count of turns, packs in force (PROTOCOL 15.15)
 unfoldable pub resultLine : (number exit closed turns : ℕ) → List ℕ → List ℕ
 resultLine number exit closed turns values =
     fieldText number ++ (fieldText exit ++ (fieldText closed ++ (fieldText turns ++ (valuesText values ++ (LF ∷ [])))))
@@ -33,10 +33,10 @@ resultLine number exit closed turns values =
 unfoldable pub endText : ℕ → List ℕ
 endText n = decimalText n ++ (LF ∷ [])
 
--- "`sent` and the message count"
+-- the last line: how many messages were sent (PROTOCOL 15.15)
 unfoldable pub sentLine : ℕ → List ℕ
 sentLine count = (115 ∷ 101 ∷ 110 ∷ 116 ∷ TAB ∷ []) ++ endText count
 
--- "`bad`, a tab and the line's number"
+-- what a bad line prints: `bad` and its number (PROTOCOL 15.16)
 unfoldable pub badLine : ℕ → List ℕ
 badLine number = (98 ∷ 97 ∷ 100 ∷ TAB ∷ []) ++ endText number

@@ -10,7 +10,7 @@ pub use reading::finish;
 pub use reading::start;
 ghost use Rattle.drill_lines.specs.Theorem.{ReadsLines};
 
-// A line by its letter, with its fields under their names in 01; Bad is one of the wrong form.
+// A line by its letter, with its fields under their names in PROTOCOL 15.3 to 15.9; Bad is one of the wrong form.
 pub enum Line {
     Bad,
     N {

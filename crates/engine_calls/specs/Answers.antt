@@ -1,4 +1,4 @@
--- What the code's six calls answer and leave, beside the machine `engine` of demand 3.
+-- What the code's six calls answer and leave, beside the machine `engine` of which agreement is proved.
 use Prim.Native.Nat.{ℕ}
 use mathlib.Core.Bool.{Bool, true, false}
 use mathlib.Core.List.{List, []}
@@ -18,7 +18,7 @@ use Rattle.restore.specs.declared.Restored.{Restored}
 use Rattle.report.specs.declared.Figures.{Figures}
 use Rattle.report.specs.declared.Answer.{Answer}
 use Rattle.report.specs.declared.Answer.the-variants as answer
-use Rattle.agreement.specs.EngineCalls.{engine, OpeningGiven, Bytes, TurnLent, BitGiven, RestoreLent}
+use Rattle.calls.specs.Engine.{engine, OpeningGiven, Bytes, TurnLent, BitGiven, RestoreLent}
 
 -- whether an opening, a delivery or a recording is accepted
 abbrev pub accepted : Entry → Bool

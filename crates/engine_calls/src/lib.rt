@@ -1,4 +1,4 @@
-// The six calls of the code are those of the machine `engine`, of which demand 3 is proved. Each function only makes one of them; its contract
+// The six calls of the code are those of the machine `engine`, of which agreement is proved. Each function only makes one of them; its contract
 // says what came of it by the machine, and, where the machine bounds what it takes, that every call of the code is within that.
 use journal::Entry;
 use report::Answer;
@@ -8,7 +8,7 @@ ghost use mathlib.Core.Path.{_≡_};
 ghost use Prim.Native.Nat.{ℕ};
 ghost use lib.ListN.{length, take};
 ghost use Rattle.opening.specs.Arguments.{arguments};
-ghost use Rattle.agreement.specs.EngineCalls.{OpeningGiven, Bytes, TurnLent, BitGiven, RestoreLent};
+ghost use Rattle.calls.specs.Engine.{OpeningGiven, Bytes, TurnLent, BitGiven, RestoreLent};
 ghost use Rattle.engine_calls.specs.Answers.{OpeningOf, BytesOf, OpensAs, DeliversAs, TurnsAs, RecordsAs, RestoresAs, ReportsAs};
 
 // Opens a session in the lent words.

@@ -1,4 +1,5 @@
 pub mod Exits
+pub mod Standing
 pub mod Stated
 pub mod Exactly
 pub mod laws

@@ -1,5 +1,5 @@
--- Opening, delivery, recording and turn with the line that each writes (requests N10, N12): one for each accepted opening, delivery and
--- recording, and for each turn that is neither idle nor refused.
+-- Opening, delivery, recording and turn with the line that each writes: one for each accepted opening, delivery and recording, and for each
+-- turn that is neither idle nor refused (PROTOCOL 11.1).
 use Prim.Native.Nat.{ℕ}
 use mathlib.Core.Bool.{Bool, true, false, cond}
 use mathlib.Core.List.{List}
@@ -22,7 +22,8 @@ use Rattle.journal.specs.declared.Entry.the-variants as entry
 abbrev pub LINE-BYTES : ℕ
 LINE-BYTES = 512
 
--- "fewer is 8, checked last": the number of a call that is k without its line and is lent so many bytes for it; 0 is accepted
+-- the 512 bytes for the line are asked for after all else (PROTOCOL 10.14 to 10.17): the number of a call that is k without its line and is
+-- lent so many bytes for it; 0 is accepted
 unfoldable pub lineAnswer : ℕ → ℕ → ℕ
 lineAnswer k room = cond (eqb k 0) (cond (ltb room LINE-BYTES) SHORT 0) k
 
@@ -82,7 +83,7 @@ recordEntry s i r b room = lineEntry (recordNumber s i r b room) (recordingLine 
 unfoldable pub turnRoom : (room line : ℕ) → ℕ
 turnRoom room line = cond (ltb line LINE-BYTES) 0 room
 
--- "neither idle nor refused"
+-- a turn that is neither idle nor refused acts (PROTOCOL 8.19)
 abbrev pub acts : Outcome → Bool
 acts (outcome.Refused k) = false
 acts outcome.Idle = false

@@ -1,4 +1,5 @@
--- The lines of the journal (request N10): fields parted by tabs, ended by LF, numbers as in the drill, decimals without leading zeros.
+-- The lines of the journal: fields with one tab between any two, ended by LF, numbers as in the drill, decimals without leading zeros
+-- (PROTOCOL 11.2 to 11.7).
 use Prim.Native.Nat.{ℕ, _/_, _%_}
 use mathlib.Core.Bool.{cond}
 use mathlib.Core.List.{List, [], _∷_, _++_}
@@ -45,8 +46,7 @@ unfoldable pub openingForms : ℕ → ℕ → List ℕ
 openingForms coins figures =
     DECIMAL ∷ DECIMAL ∷ DECIMAL ∷ DECIMAL ∷ DECIMAL ∷ DECIMAL ∷ PACK ∷ (replicate coins WORD ++ replicate figures DECIMAL)
 
--- the decimals after the coin words: "`O` lines carry [the weights] after the coin words", and "`O` ends with 0 for printed or 1 for boxed"
--- (requests N11, N12)
+-- the decimals after the coin words: the weights, and the kind of coins (PROTOCOL 11.4)
 abbrev pub figures : Arguments → List ℕ
 figures o = o .weights ++ (o .boxed ∷ [])
 
@@ -74,7 +74,7 @@ deliveryText link b = tabbed (LETTER-D ∷ []) (decimalText link ∷ hexBytes b 
 abbrev pub turnText : List ℕ
 turnText = LETTER-T ∷ []
 
--- an accepted recording, "a repeat too": "vote, round, bit" (request N12)
+-- an accepted recording, a repeat too: vote, round and bit (PROTOCOL 11.7)
 abbrev pub recordingForms : List ℕ
 recordingForms = DECIMAL ∷ DECIMAL ∷ DECIMAL ∷ []
 

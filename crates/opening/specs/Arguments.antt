@@ -14,10 +14,10 @@ pub record Arguments : Type 0 where
   pub own : ℕ
   pub session : ℕ
   pub input : ℕ
-  -- the coin word of each vote, the weight of each concentrator (request N11)
+  -- the coin word of each vote, the weight of each concentrator (PROTOCOL 1.9, 1.5)
   pub coins : List ℕ
   pub weights : List ℕ
-  -- 0 for printed coins, 1 for boxed ones (request N12)
+  -- 0 for printed coins, 1 for boxed ones (PROTOCOL 1.10)
   pub boxed : ℕ
 
 -- the arguments, in the order of the call

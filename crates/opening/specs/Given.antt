@@ -1,4 +1,4 @@
--- The lists that an opening is given: coin words, and weights (request N11), which are kept as one word.
+-- The lists that an opening is given: coin words, and weights, which are kept as one word.
 use Prim.Native.Nat.{ℕ, _-_}
 use mathlib.Core.Bool.{Bool, _&&_, _||_, cond}
 use mathlib.Core.List.{List}
@@ -17,11 +17,11 @@ item xs i = cond (eqb i 0) 0 (word xs (i - 1))
 unfoldable pub coinZero : List ℕ → ℕ → Bool
 coinZero coins i = eqb (item coins i) 0
 
--- "n coin words", n being at most 16; printed (0) or boxed (1), as the opening says (request N12), and "boxed sessions give coin words of 0"
+-- as many coin words as votes, n being at most 16; coins are printed (0) or boxed (1), and with boxed ones every coin word is 0 (PROTOCOL 9.15)
 unfoldable pub coinsGiven : ℕ → List ℕ → ℕ → Bool
 coinsGiven n coins boxed = leb n maxConcentrators && eqb (length coins) n && leb boxed 1 && (eqb boxed 0 || every (coinZero coins) n)
 
--- "Every concentrator gets a weight from 1 to 4"
+-- a weight is 1 to 4 (PROTOCOL 1.5)
 unfoldable pub weightGiven : List ℕ → ℕ → Bool
 weightGiven weights p = leb 1 (item weights p) && leb (item weights p) 4
 

@@ -1,4 +1,4 @@
--- Opening: its answer, and the words of a new state.
+-- Opening: its answer, and the words of a new state (PROTOCOL 9.14 to 9.16).
 use Prim.Native.Nat.{ℕ}
 use mathlib.Core.Bool.{cond, not}
 use mathlib.Core.List.{List}
@@ -13,9 +13,8 @@ use Rattle.session.specs.Session.{numbered}
 use Rattle.opening.specs.Given.{item, coinsGiven}
 use Rattle.opening.specs.Arguments.{Arguments, weightsBy, taBy}
 
--- "Order: opening 9 (word count only), 1."; 0 is accepted
--- "1 SETTINGS: a setting or own number outside the rules above, or not exactly n coin words."; "not exactly n weights is refused as 1"; whether
--- coins are printed or boxed is a setting (request N12)
+-- the refusals of an opening in their order, apart from 8 for its line (journal/Journal); 0 is accepted. Settings, weights, own number,
+-- coin words or kind of coins against the rules, and another number of weights or coin words than n, give 1 (PROTOCOL 10.14, 9.15).
 unfoldable pub openAnswer : (words : ℕ) → Arguments → ℕ
 openAnswer words o =
     cond (not (eqb words stateWords)) NO-STATE
@@ -37,11 +36,11 @@ withSettings s o =
     weightsAt (weightsBy o))
     boxedAt (o .boxed)
 
--- "n coin words": word i is that of vote i
+-- word i of the n coin words is that of vote i (PROTOCOL 1.9)
 unfoldable pub withCoins : List ℕ → List ℕ → ℕ → List ℕ
 withCoins s coins n = storeOf (item coins) (coinAt 0) s n
 
--- "Opening sets all of it.": what is not given is 0
+-- an opening sets every word: what is not given is 0 (PROTOCOL 9.16)
 unfoldable pub openWords : Arguments → List ℕ
 openWords o = withCoins (withSettings (blank stateWords) o) (o .coins) (o .n)
 

@@ -1,4 +1,4 @@
--- The weight of the members of a set among 1 to k. Concentrators weigh 1 each; the laws hold for any weights.
+-- The weight of the members of a set among 1 to k, for any weights. With weights of 1 it is their number.
 use Prim.Native.Nat.{ℕ, zero, suc, _+_}
 use mathlib.Core.Bool.{Bool, true, false}
 

@@ -6,11 +6,11 @@ use Rattle.quorum.specs.Total.{everyone}
 use Rattle.quorum.specs.Every.{every}
 use Rattle.quorum.specs.Weights.{weightOf, weigh}
 
--- "n becomes the sum of all weights"
+-- W, the sum of the weights of 1 to n (PROTOCOL 1.5)
 unfoldable pub wholeOf : ℕ → ℕ → ℕ
 wholeOf w n = weigh w everyone n
 
--- "a weight from 1 to 4"
+-- a weight is 1 to 4 (PROTOCOL 1.5)
 unfoldable pub weightRight : ℕ → ℕ → Bool
 weightRight w p = leb 1 (weightOf w p) && leb (weightOf w p) 4
 

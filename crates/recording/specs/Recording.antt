@@ -1,4 +1,4 @@
--- Recording a bit of the coin box in the state of a boxed session (request N12): its answer, and the words after it.
+-- Recording a bit of the coin box in the state of a boxed session: its answer, and the words after it (PROTOCOL 9.21 to 9.23).
 use Prim.Native.Nat.{ℕ}
 use mathlib.Core.Bool.{Bool, _&&_, cond, not}
 use mathlib.Core.List.{List}
@@ -18,19 +18,18 @@ bitMark r b = cond (eqb b 1) r (zeroMark r)
 unfoldable pub otherMark : ℕ → ℕ → ℕ
 otherMark r b = cond (eqb b 1) (zeroMark r) r
 
--- "16 COIN, for a .. vote or round outside the layout, a recorded bit above 1 .. or a bit recorded in a printed session": none of these, where
--- the votes are 1 to n
+-- coins are boxed, the vote is 1 to n, the round 1 to 32 and the bit 0 or 1 (PROTOCOL 9.22)
 unfoldable pub inLayout : List ℕ → ℕ → ℕ → ℕ → ℕ → Bool
 inLayout s n i r b = not (printed s) && (numbered n i && (numbered roundLimit r && leb b 1))
 
--- ".. or against one already there": not that either
+-- the other bit is not recorded for that vote and round (PROTOCOL 9.22)
 unfoldable pub unopposed : List ℕ → ℕ → ℕ → ℕ → Bool
 unopposed s i r b = not (marked s (coinAt i) (otherMark r b))
 
 unfoldable pub recordable : List ℕ → ℕ → ℕ → ℕ → ℕ → Bool
 recordable s n i r b = inLayout s n i r b && unopposed s i r b
 
--- "checked after 9 and 10 in recording"; 0 is accepted, a repeat too
+-- the refusals of a recording in their order, apart from 8 for its line; 0 is accepted, a repeat too (PROTOCOL 10.17)
 unfoldable pub recordAnswer : List ℕ → ℕ → ℕ → ℕ → ℕ
 recordAnswer s i r b =
     cond (not (isState s)) NO-STATE

@@ -1,4 +1,4 @@
--- Where each record of the state stands. Concentrators, instances and votes count from 1 to 16, rounds from 1 to 32.
+-- Where each record of the state stands: PROTOCOL, section 17. Concentrators, instances and votes count from 1 to 16, rounds from 1 to 32.
 --
 --     0            n
 --     1            ta

@@ -26,14 +26,14 @@ sendSent s = marked s flagsAt sendSentMark
 unfoldable pub commitSent : List ℕ → Bool
 commitSent s = marked s flagsAt commitSentMark
 
--- "ECHO .. once for each instance", "READY, once for each instance"
+-- whether the ECHO and the READY of an instance, one of each, were sent (PROTOCOL 4.4, 4.5)
 unfoldable pub echoSent : List ℕ → ℕ → Bool
 echoSent s i = marked s echoSentAt i
 
 unfoldable pub readySent : List ℕ → ℕ → Bool
 readySent s i = marked s readySentAt i
 
--- "SEND, ECHO and READY are held once for each sender and instance": a SEND's sender is its instance
+-- SENDs, ECHOs and READYs have one place for each sender and instance; a SEND's sender is its instance (PROTOCOL 3.1, 3.2)
 unfoldable pub sendHeld : List ℕ → ℕ → Bool
 sendHeld s i = marked s sendMarksAt i
 
@@ -52,7 +52,7 @@ readyHeld s i p = marked s (readyMarksAt i) p
 unfoldable pub readyValue : List ℕ → ℕ → ℕ → ℕ
 readyValue s i p = word s (readyValueAt i p)
 
--- "EST once for each sender, instance, round and value"
+-- an EST has a place for its sender, vote, round and value (PROTOCOL 3.3)
 unfoldable pub estHeld : List ℕ → ℕ → ℕ → ℕ → ℕ → Bool
 estHeld s i r b p = marked s (voteAt i r) (estMark b p)
 
@@ -60,11 +60,11 @@ estHeld s i r b p = marked s (voteAt i r) (estMark b p)
 unfoldable pub auxHeld : List ℕ → ℕ → ℕ → ℕ → ℕ → Bool
 auxHeld s i r b p = marked s (voteAt i r) (auxMark b p)
 
--- "Bit r−1 of word i, lowest bit 0, is the coin of vote i in round r."
+-- the coin of round r is mark r of the vote's coin word (PROTOCOL 1.9)
 unfoldable pub coin : List ℕ → ℕ → ℕ → Bool
 coin s i r = marked s (coinAt i) r
 
--- request N12: whether the coins of the session are printed
+-- whether the coins of the session are printed (PROTOCOL 1.10)
 unfoldable pub printed : List ℕ → Bool
 printed s = eqb (word s boxedAt) 0
 
@@ -76,7 +76,7 @@ coinRecorded s i r = coin s i r || marked s (coinAt i) (zeroMark r)
 unfoldable pub coinKnown : List ℕ → ℕ → ℕ → Bool
 coinKnown s i r = printed s || coinRecorded s i r
 
--- "Starting enters round 1 (before that the round is 0)"; 33 means moved out of round 32, and a higher one is no state
+-- the round is 0 until the start (PROTOCOL 5.1); 33 means moved out of round 32, and a higher one is no state
 unfoldable pub round : List ℕ → ℕ → ℕ
 round s i = min (word s (roundAt i)) movedOutRound
 

@@ -1,4 +1,4 @@
--- The report: "The report gives the exit, its set, the turn count, and the set in force or none."
+-- The report gives the exit with its set, the count of turns and the set in force (PROTOCOL 9.25).
 use Prim.Native.Nat.{ℕ}
 use mathlib.Core.Bool.{_||_, not, cond}
 use mathlib.Core.List.{List, []}
@@ -18,13 +18,12 @@ use Rattle.report.specs.declared.Admitted.the-variants as admitted
 use Rattle.report.specs.declared.Answer.{Answer}
 use Rattle.report.specs.declared.Answer.the-variants.{Refused, Given}
 
--- "n−ts senders' COMMITs hold the same set. The set is in force; the session is closed here." Read afresh from the COMMITs held;
--- [] is none: before closing, and where a state closed by other means has no such set
+-- on a closed state, the set whose COMMITs weigh the quorum, read anew from the COMMITs held (PROTOCOL 7.7); [] is none: before closing, and
+-- where a state closed by other means has no such set
 unfoldable pub inForceSet : Settings → List ℕ → List ℕ
-inForceSet g s = cond (closed s) (leadingSet (g .weights) s (g .n) (quorum g)) []
+inForceSet g s = cond (closed s) (leadingSet g s (quorum g)) []
 
--- the exit, 0 for none; how many values it names and how many are in force; "The count stored and reported is the number of turns
--- since opening that did not answer idle"
+-- the exit, 0 for none; how many values it names and how many are in force; the count of turns (PROTOCOL 8.19, 9.9)
 unfoldable pub figuresOf : Settings → List ℕ → Figures
 figuresOf g s =
     record {
@@ -38,35 +37,26 @@ figuresOf g s =
 abbrev pub setWords : ℕ
 setWords = maxConcentrators
 
--- "Report 9, 8.": the first refusal, or the settings. "8 SHORT: .. a report lent under 16 words for either set"
+-- the refusals of a report in their order: the first one, or the settings. Each of the two sets needs 16 words (PROTOCOL 9.24, 10.18).
 unfoldable pub admits : List ℕ → ℕ → ℕ → Admitted
 admits s namedWords inForceWords =
     cond (not (isState s)) (admitted.Refused NO-STATE)
     (cond (ltb namedWords setWords || ltb inForceWords setWords) (admitted.Refused SHORT)
     (admitted.Open (settingsOf s)))
 
--- "A refusal yields its number and nothing else; state and buffers are untouched."
-unfoldable pub answerFor : Admitted → List ℕ → Answer
-answerFor (admitted.Refused k) s = Refused k
-answerFor (admitted.Open g) s = Given (figuresOf g s)
+-- what a refusal gives by its number, or the report under the settings
+unfoldable pub giving : {A : Type 0} → Admitted → (ℕ → A) → (Settings → A) → A
+giving (admitted.Refused k) refused given = refused k
+giving (admitted.Open g) refused given = given g
 
--- "a success writes .. a set's own words, and no others"
-unfoldable pub namedFor : Admitted → List ℕ → List ℕ → List ℕ
-namedFor (admitted.Refused k) s old = old
-namedFor (admitted.Open g) s old = atFront (exitNow g s .names) old
-
-unfoldable pub inForceFor : Admitted → List ℕ → List ℕ → List ℕ
-inForceFor (admitted.Refused k) s old = old
-inForceFor (admitted.Open g) s old = atFront (inForceSet g s) old
-
--- the answer of a report that is lent so many words for each set
+-- the answer of a report that is lent so many words for each set (PROTOCOL 9.9)
 unfoldable pub reportAnswer : List ℕ → ℕ → ℕ → Answer
-reportAnswer s namedWords inForceWords = answerFor (admits s namedWords inForceWords) s
+reportAnswer s namedWords inForceWords = giving (admits s namedWords inForceWords) Refused (λ g. Given (figuresOf g s))
 
--- the words lent for the set that the exits name, after the call
+-- the words lent for the set that the exits name, after the call: only those of the set are written, by a refusal none (PROTOCOL 9.3, 9.4)
 unfoldable pub reportNamed : List ℕ → List ℕ → ℕ → List ℕ
-reportNamed s named inForceWords = namedFor (admits s (length named) inForceWords) s named
+reportNamed s named inForceWords = giving (admits s (length named) inForceWords) (λ k. named) (λ g. atFront (exitNow g s .names) named)
 
 -- the words lent for the set in force, after the call
 unfoldable pub reportInForce : List ℕ → ℕ → List ℕ → List ℕ
-reportInForce s namedWords inForce = inForceFor (admits s namedWords (length inForce)) s inForce
+reportInForce s namedWords inForce = giving (admits s namedWords (length inForce)) (λ k. inForce) (λ g. atFront (inForceSet g s) inForce)

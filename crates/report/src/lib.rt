@@ -82,7 +82,7 @@ fn in_force_sender(s: &[u64], g: Settings) -> u8
     ensures { λ r. ⌜ r ≡ inForceSender g (now (s .entry)) ⌝ }
 {
     if records::closed(s) {
-        return commits::set_leader(s, g.weights, g.n, g.quorum());
+        return commits::set_leader(s, g, g.quorum());
     }
     0
 }

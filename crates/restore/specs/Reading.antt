@@ -14,7 +14,7 @@ zeroLed [] = false
 zeroLed (c ∷ []) = false
 zeroLed (c ∷ d ∷ f) = eqb c 48
 
--- a field is a number of its form as the journal writes it: "decimals without leading zeros", hexadecimal digits in lower case
+-- a field is a number of its form as the journal writes it: no decimal has a leading zero, hexadecimal digits are in lower case (PROTOCOL 11.3)
 unfoldable pub proper : ℕ → List ℕ → Bool
 proper form f = right form f && not (eqb form DECIMAL && zeroLed f)
 
@@ -29,8 +29,8 @@ allProper (w ∷ ws) (f ∷ fs) = proper w f && allProper ws fs
 unfoldable pub fieldAt : List (List ℕ) → ℕ → List ℕ
 fieldAt fs k = getD fs k []
 
--- the decimals that follow the n coin words of an opening line of so many fields after its letter: n weights, and whether coins are boxed
--- (request N12); in an older line the weights alone, or none (request N11)
+-- the decimals that follow the n coin words of an opening line of so many fields after its letter: n weights, and the kind of coins; it may
+-- lack the kind, or both (PROTOCOL 11.11)
 unfoldable pub figureCount : (n count : ℕ) → ℕ
 figureCount n count = cond (eqb count (7 + n)) 0 (cond (eqb count (7 + n + n)) n (n + 1))
 
@@ -42,7 +42,7 @@ formsFor n count = openingForms n (figureCount n count)
 unfoldable pub weightsFrom : ℕ → List ℕ → List ℕ
 weightsFrom n xs = cond (eqb (length xs) (7 + n)) (replicate n 1) (take n (drop (7 + n) xs))
 
--- whether coins are boxed, the last number: "older ones without it are printed"
+-- the kind of coins, the last number: a line without it has printed ones (PROTOCOL 11.11)
 unfoldable pub boxedFrom : ℕ → List ℕ → ℕ
 boxedFrom n xs = getD xs (7 + n + n) 0
 

@@ -1,4 +1,4 @@
--- Restoring (request N10): a state is rebuilt from the complete lines of a journal, one after another.
+-- Restoring: a state is rebuilt from the complete lines of a journal, one after another (PROTOCOL 11.10).
 use Prim.Native.Nat.{ℕ, _+_, _^_}
 use mathlib.Core.Bool.{Bool, true, false, cond, _&&_, not}
 use mathlib.Core.List.{List, [], _∷_}
@@ -68,7 +68,7 @@ unfoldable pub turnedFrom : List ℕ → List (List ℕ) → Option Point
 turnedFrom w [] = cond (acts (turnOutcome w MESSAGE-BYTES)) (some (record { words = turnWords w MESSAGE-BYTES; turned = some w })) none
 turnedFrom w (x ∷ fs) = none
 
--- a `K` line of the numbers xs: vote, round, bit (request N12). Its recording is accepted, or the line cannot be applied.
+-- a `K` line of the numbers xs: vote, round, bit (PROTOCOL 11.7). Its recording is accepted, or the line cannot be applied.
 unfoldable pub recordedBy : List ℕ → List ℕ → Option Point
 recordedBy w xs =
     cond (eqb (recordAnswer w (getD xs 0 0) (getD xs 1 0) (getD xs 2 0)) 0)
@@ -114,7 +114,7 @@ unfoldable pub replay : List (List ℕ) → Replay
 replay [] = wrong 1
 replay (b ∷ bs) = replayFrom 2 (appliedOr 1 (firstLine b)) bs
 
--- "that line's message again, if it sent one": its length, and the lent bytes with it
+-- the message of the last line, where that is a turn that sent (PROTOCOL 11.13): its length, and the lent bytes with it
 unfoldable pub lengthAgain : Option (List ℕ) → ℕ
 lengthAgain none = 0
 lengthAgain (some w) = sentLength (turnOutcome w MESSAGE-BYTES)
@@ -123,7 +123,8 @@ unfoldable pub bytesAgain : Option (List ℕ) → List ℕ → List ℕ
 bytesAgain none lent = lent
 bytesAgain (some w) lent = turnBytes w lent
 
--- "15 JOURNAL, with the line number", or the length of the message, 0 for none, and of the complete lines
+-- the number of the first line that cannot be applied, beside 15 (PROTOCOL 9.11), or the length of the message, 0 for none, and of the complete
+-- lines
 unfoldable pub replayAnswer : Replay → ℕ → Restored
 replayAnswer (wrong k) bytes = answer.Journal k
 replayAnswer (right x) bytes = answer.Given (lengthAgain (x .turned)) bytes
@@ -136,7 +137,7 @@ unfoldable pub replayBytes : Replay → List ℕ → List ℕ
 replayBytes (wrong k) lent = lent
 replayBytes (right x) lent = bytesAgain (x .turned) lent
 
--- whether the journal is read: not with another number of words, "9 for the word count", nor with too few bytes for a message, 8
+-- whether the journal is read: not with another number of words than 2,048, which is 9, nor with too few bytes for a message, 8 (PROTOCOL 9.26)
 unfoldable pub lentAnswer : (words room : ℕ) → ℕ
 lentAnswer words room = cond (not (eqb words stateWords)) NO-STATE (cond (ltb room MESSAGE-BYTES) SHORT 0)
 

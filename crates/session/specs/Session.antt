@@ -1,4 +1,4 @@
--- When a lent buffer holds a state: the refusal 9, NO STATE.
+-- When a lent buffer holds a state: the refusal 9, NO STATE (PROTOCOL 9.6).
 use Prim.Native.Nat.{ℕ, _%_, _^_}
 use mathlib.Core.Bool.{Bool, _&&_, cond}
 use mathlib.Core.List.{List}
@@ -13,20 +13,19 @@ use Rattle.session.specs.declared.Session.{Session}
 use Rattle.session.specs.declared.Stored.{Stored}
 use Rattle.session.specs.declared.Stored.the-variants.{NoState, Held}
 
--- "own number": 1 to n
+-- a number is 1 to n, as the own number is (PROTOCOL 1.8)
 unfoldable pub numbered : ℕ → ℕ → Bool
 numbered n own = leb 1 own && leb own n
 
--- "a stored round above 33": none of votes 1 to n has one
+-- the rounds of votes 1 to n are at most 33 (PROTOCOL 9.6)
 unfoldable pub roundsRight : List ℕ → ℕ → Bool
 roundsRight s n = every (λ i. leb (word s (roundAt i)) movedOutRound) n
 
--- "more than n values in a COMMIT": no sender 1 to n has so many
+-- the COMMITs of senders 1 to n have at most n values (PROTOCOL 9.6)
 unfoldable pub commitsRight : List ℕ → ℕ → Bool
 commitsRight s n = every (λ p. leb (word s (commitCountAt p)) n) n
 
--- the stored numbers beside n, ta, ts and the weights: the own number, coins that are printed or boxed (request N12), the turns, "more than
--- 99·n+3" of which is no state, rounds and COMMITs
+-- the stored numbers beside n, ta, ts and the weights: own number, kind of coins, turns within the turn bound, rounds and COMMITs (PROTOCOL 9.6)
 unfoldable pub numbersRight : Settings → List ℕ → Bool
 numbersRight g s =
     numbered (g .n) (word s ownAt) && leb (word s boxedAt) 1 && leb (word s turnsAt) (turnBound g) && roundsRight s (g .n) && commitsRight s (g .n)
@@ -34,7 +33,7 @@ numbersRight g s =
 unfoldable pub settingsOf : List ℕ → Settings
 settingsOf s = settingsFrom (word s nAt) (word s taAt) (word s tsAt) (word s weightsAt)
 
--- "wrong word count, stored settings or own number that opening would refuse (a stored ta of 255 too), ..": no such thing
+-- what makes words a state: how many they are, settings within the rules, where 255 is no ta, and the other stored numbers (PROTOCOL 9.6)
 unfoldable pub isState : List ℕ → Bool
 isState s =
     eqb (length s) stateWords && validSettings (word s nAt) (word s taAt) (word s tsAt) (word s weightsAt) && numbersRight (settingsOf s) s

@@ -1,57 +1,57 @@
--- The numbers of the refusals: "Where a call is turned down".
+-- The numbers of the refusals: PROTOCOL, section 10.
 use Prim.Native.Nat.{ℕ}
 
--- "1 SETTINGS: a setting or own number outside the rules above, or not exactly n coin words."
+-- settings, weights, own number, coin words or kind of coins against the rules, or another number of weights or coin words than n (PROTOCOL 10.1)
 abbrev pub SETTINGS : ℕ
 SETTINGS = 1
 
--- "2 LENGTH: under 12 bytes, or not 12 + 8·count."
+-- fewer than 12 bytes, or another length than byte 5 says (PROTOCOL 10.2)
 abbrev pub LENGTH : ℕ
 LENGTH = 2
 
--- "3 KIND: version or kind unknown."
+-- unknown version or kind (PROTOCOL 10.3)
 abbrev pub KIND : ℕ
 KIND = 3
 
--- "4 SESSION: another session number."
+-- a message of another session (PROTOCOL 10.4)
 abbrev pub SESSION : ℕ
 SESSION = 4
 
--- "5 SENDER: byte 2 is not the link's concentrator, or that is not 1 to n."
+-- the sender differs from the link, or the link is no concentrator (PROTOCOL 10.5)
 abbrev pub SENDER : ℕ
 SENDER = 5
 
--- "6 FIELD: byte 3 to 7 against the layout."
+-- bytes 3 to 7 break the layout (PROTOCOL 10.6)
 abbrev pub FIELD : ℕ
 FIELD = 6
 
--- "7 VALUE: EST or AUX above 1, or COMMIT not rising."
+-- a value that the kind cannot have, or a COMMIT that does not rise (PROTOCOL 10.7)
 abbrev pub VALUE : ℕ
 VALUE = 7
 
--- "8 SHORT: a turn lent under 140 bytes, a report lent under 16 words for either set."; request N10: an opening, delivery or turn lent under 512
--- bytes for its line, a restore lent under 140 for the message
+-- a lent buffer is too small: 140 bytes for the message of a turn or restore, 512 for the line of an opening, delivery, turn or recording,
+-- 16 words for each set of a report (PROTOCOL 10.8)
 abbrev pub SHORT : ℕ
 SHORT = 8
 
--- "9 NO STATE: wrong word count, stored settings or own number that opening would refuse (a stored ta of 255 too), or a stored round above 33
--- (33 means moved out of round 32), more than n values in a COMMIT, or more than 99·n+3 turns."
+-- another number of words than a state has, or a box at its opening; stored settings, own number, kind of coins, rounds, COMMITs or turns that
+-- no state has (PROTOCOL 10.9)
 abbrev pub NO-STATE : ℕ
 NO-STATE = 9
 
--- "10 CLOSED: delivery or turn after closing."
+-- a delivery, turn or recording where the session is closed (PROTOCOL 10.10)
 abbrev pub CLOSED : ℕ
 CLOSED = 10
 
--- "11 HELD: that place already holds a message."
+-- the message's place is taken (PROTOCOL 10.11)
 abbrev pub HELD : ℕ
 HELD = 11
 
--- request N10: no complete opening line, or a complete line that cannot be applied; it has the line's number beside it
+-- no complete line, or one that cannot be applied; it has the line's number beside it (PROTOCOL 10.12)
 abbrev pub JOURNAL : ℕ
 JOURNAL = 15
 
--- request N12: a requester, vote or round outside the layout, a recorded bit above 1 or against one already there, or a bit recorded in a
--- printed session
+-- a bit that cannot be recorded: the session is printed, there is no such vote or round, the bit is above 1 or against the one recorded; a
+-- request that cannot be made: the words are no box, or there is no such requester, vote or round (PROTOCOL 10.13)
 abbrev pub COIN : ℕ
 COIN = 16

@@ -1,8 +1,9 @@
--- The rules on a session's settings, and the thresholds worked out from them. With weights (request N11) n in a threshold is the sum of
--- all weights, and what is compared with it a sum of weights; n itself stays the number of concentrators. w are the weights as one word.
+-- The rules on a session's settings, and the thresholds worked out from them: PROTOCOL, section 1. W is the sum of all weights, and what is
+-- compared with a threshold a sum of weights; n is the number of concentrators. w are the weights as one word.
 use Prim.Native.Nat.{ℕ, _+_, _*_, _-_, min}
 use mathlib.Core.Bool.{Bool, _&&_, cond}
 use lib.Dec.{eqb, ltb, leb}
+use Rattle.quorum.specs.Weights.{weigh}
 use Rattle.quorum.specs.Whole.{wholeOf, weightsRight}
 use Rattle.settings.specs.declared.Settings.{Settings}
 
@@ -10,20 +11,20 @@ use Rattle.settings.specs.declared.Settings.{Settings}
 abbrev pub maxConcentrators : ℕ
 maxConcentrators = 16
 
--- "n from 1 to 16, with ta ≤ ts and 2·ts + ta < n", the last n being the sum of the weights; a weight of 0 or over 4 is against the rules
+-- n is 1 to 16, each weight 1 to 4, ta ≤ ts, and 2·ts + ta < W (PROTOCOL 1.1, 1.5, 1.6)
 unfoldable pub validSettings : ℕ → ℕ → ℕ → ℕ → Bool
 validSettings n ta ts w = leb 1 n && leb n maxConcentrators && weightsRight w n && leb ta ts && ltb (2 * ts + ta) (wholeOf w n)
 
--- "ta given as 255 means unnamed"
+-- 255 stands for an unnamed ta (PROTOCOL 1.7)
 abbrev pub UNNAMED : ℕ
 UNNAMED = 255
 
--- "the smaller of ts and n−1−2·ts" (request N8), n being the sum of the weights. Where 2·ts ≥ n the difference is 0, and `validSettings`
--- refuses that ta too, since 2·ts + 0 < n does not hold: "if 2·ts ≥ n it is refused as 1"
+-- the largest ta that the rules allow (PROTOCOL 1.7). Where 2·ts ≥ W there is none: the difference is 0, and `validSettings` refuses that ta
+-- too, since 2·ts + 0 < W does not hold.
 unfoldable pub largestTa : ℕ → ℕ → ℕ
 largestTa whole ts = min ts (whole - 1 - 2 * ts)
 
--- the ta that is meant by the one given: "255 shall mean the smaller of .."
+-- the ta that is meant by the one given: the largest, where it is unnamed (PROTOCOL 1.7)
 unfoldable pub namedTa : ℕ → ℕ → ℕ → ℕ → ℕ
 namedTa n ta ts w = cond (eqb ta UNNAMED) (largestTa (wholeOf w n) ts) ta
 
@@ -35,34 +36,38 @@ settingsFrom n ta ts w = record { n = n; ta = ta; ts = ts; whole = wholeOf w n; 
 abbrev pub settingsNamed : ℕ → ℕ → ℕ → ℕ → Settings
 settingsNamed n ta ts w = settingsFrom n (namedTa n ta ts w) ts w
 
--- "n−ts senders' COMMITs", "n−ts ECHOs", "n−ts senders' READYs", "at least n−ts broadcasts"
+-- the weight of those of the concentrators 1 to n for which x holds (PROTOCOL 13.1)
+abbrev pub weighed : Settings → (ℕ → Bool) → ℕ
+weighed g x = weigh (g .weights) x (g .n)
+
+-- the quorum: ECHOs behind a READY, READYs behind an output, outputs behind Exit 1, COMMITs behind a set in force (PROTOCOL 1.14)
 unfoldable pub quorum : Settings → ℕ
 quorum g = g .whole - g .ts
 
--- "ts+1 READYs", "a set held from ts+1 senders"
+-- the repeat threshold: READYs behind a READY, COMMITs behind a COMMIT (PROTOCOL 1.15)
 unfoldable pub repeat : Settings → ℕ
 repeat g = g .ts + 1
 
--- "s ≥ n−ta", "at least n−ta held AUXs carry accepted values"
+-- the vote quorum: AUXs behind a move, votes decided 1 behind a start with 0 and behind Exits 2 and 3 (PROTOCOL 1.16)
 unfoldable pub voteQuorum : Settings → ℕ
 voteQuorum g = g .whole - g .ta
 
--- "held from ta+1 senders"
+-- the relay threshold: ESTs behind a relay (PROTOCOL 1.17)
 unfoldable pub relay : Settings → ℕ
 relay g = g .ta + 1
 
--- "accepted in a round when 2·ta+1 senders' ESTs hold it"
+-- the accept threshold: ESTs behind an accepted value (PROTOCOL 1.18)
 unfoldable pub accept : Settings → ℕ
 accept g = 2 * g .ta + 1
 
--- "a session takes at most 99·n+3 turns"
+-- the turn bound: the most counted turns of a session at one concentrator (PROTOCOL 8.20)
 unfoldable pub turnBound : Settings → ℕ
 turnBound g = 99 * g .n + 3
 
--- "the round, 1 to 32"
+-- the last round (PROTOCOL 1.20)
 abbrev pub roundLimit : ℕ
 roundLimit = 32
 
--- the round of a vote that has moved out of round 32
+-- the round of a vote that has moved out of round 32 (PROTOCOL 5.1)
 abbrev pub movedOutRound : ℕ
 movedOutRound = 33

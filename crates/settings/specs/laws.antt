@@ -2,3 +2,4 @@ pub mod Rules
 pub mod Thresholds
 pub mod Cases
 pub mod Unnamed
+pub mod Counting

@@ -110,7 +110,7 @@ impl Settings {
         })
     }
 
-    // n − ts, n being the sum of the weights: broadcasts and commits.
+    // W − ts, W being the sum of the weights: broadcasts and commits.
     pub fn quorum(self) -> u64
         ensures { λ r. ⌜ r ≡ quorum self ⌝ }
     {
@@ -124,7 +124,7 @@ impl Settings {
         self.ts as u64 + 1
     }
 
-    // n − ta, n being the sum of the weights: a move, and the votes decided 1 that a start with 0 and exits 2 and 3 ask for.
+    // W − ta, W being the sum of the weights: a move, and the votes decided 1 that a start with 0 and exits 2 and 3 ask for.
     pub fn vote_quorum(self) -> u64
         ensures { λ r. ⌜ r ≡ voteQuorum self ⌝ }
     {

@@ -1,6 +1,6 @@
 // The number of each refusal.
 
-// A setting or own number outside the rules, or not exactly n coin words.
+// Settings, weights, own number or coins outside the rules, or not exactly n weights or coin words.
 pub const SETTINGS: u64 = 1;
 // Under 12 bytes, or not 12 + 8·count.
 pub const LENGTH: u64 = 2;
@@ -14,16 +14,17 @@ pub const SENDER: u64 = 5;
 pub const FIELD: u64 = 6;
 // EST or AUX above 1, or COMMIT not rising.
 pub const VALUE: u64 = 7;
-// A turn or a restore lent under 140 bytes for the message, an opening, delivery or turn lent under 512 for its line, a report
-// lent under 16 words for either set.
+// A turn or a restore lent under 140 bytes for the message, an opening, delivery, turn or recording lent under 512 for its line, a
+// report lent under 16 words for either set.
 pub const SHORT: u64 = 8;
 // Wrong word count, or stored numbers that the rules refuse.
 pub const NO_STATE: u64 = 9;
-// Delivery or turn after closing.
+// Delivery, turn or recording after closing.
 pub const CLOSED: u64 = 10;
 // That place already holds a message.
 pub const HELD: u64 = 11;
 // No complete opening line, or a complete line of the journal that cannot be applied.
 pub const JOURNAL: u64 = 15;
-// A requester, vote or round outside the layout, a recorded bit above 1 or against the one there, or one in a printed session.
+// A bit that cannot be recorded: the session is printed, there is no such vote or round, the bit is above 1 or against the one
+// there; a request that cannot be made: the words are no box, or there is no such requester, vote or round.
 pub const COIN: u64 = 16;

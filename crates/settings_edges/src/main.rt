@@ -1,5 +1,5 @@
 // Openings with settings on the edge of the rules: for each a line `n ta ts open`, or `n ta ts 1`. Where weights are named,
-// or the kind of coins and the coin words (request N12), the line has them too.
+// or the kind of coins and the coin words, the line has them too (PROTOCOL 1.13).
 use libc::STDOUT_FILENO;
 ghost use Prim.Native.Nat.{_≤_};
 

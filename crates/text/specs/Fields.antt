@@ -1,5 +1,4 @@
--- A line as its fields.
--- The texts of the items of a list, one after the other, and a loop that writes them.
+-- A line as its fields, and the texts of the items of a list, one after the other.
 use Prim.Native.Nat.{ℕ, _+_}
 use mathlib.Core.Bool.{cond}
 use mathlib.Core.List.{List, [], _∷_, _++_}
@@ -17,7 +16,7 @@ unfoldable pub inFront : ℕ → List (List ℕ) → List (List ℕ)
 inFront c [] = []
 inFront c (f ∷ fs) = (c ∷ f) ∷ fs
 
--- "fields parted by tabs"; there is always a first one, be it empty
+-- one tab between any two fields (PROTOCOL 11.2, 15.2); there is always a first one, be it empty
 unfoldable pub fields : List ℕ → List (List ℕ)
 fields [] = [] ∷ []
 fields (c ∷ b) = cond (eqb c TAB) ([] ∷ fields b) (inFront c (fields b))

@@ -15,7 +15,7 @@ digitOf c =
     (cond (leb c 102) (c - 87)
     16)))
 
--- the form of a field: a decimal, or the number of its "lower-case hexadecimal digits"
+-- the form of a field: a decimal, or the number of its hexadecimal digits (PROTOCOL 11.3, 15.2)
 abbrev pub DECIMAL : ℕ
 DECIMAL = 10
 
@@ -46,8 +46,7 @@ valueOf form f = valueFrom (baseOf form) 0 f
 unfoldable pub complete : ℕ → ℕ → Bool
 complete form digits = cond (eqb form DECIMAL) (ltb 0 digits) (eqb digits form)
 
--- a field is a number of its form. No field takes a number of 2^64 or more: "not 1 to n", no sent message, "an N that opening refuses",
--- "a number too big for its bytes"; one in 16 hexadecimal digits is always below
+-- a field is a number of its form: a decimal is below 2^64 (PROTOCOL 11.12, 15.2), and one in 16 hexadecimal digits always is
 unfoldable pub right : ℕ → List ℕ → Bool
 right form f = complete form (length f) && (allDigits (baseOf form) f && ltb (valueOf form f) (2 ^ 64))
 
@@ -73,6 +72,6 @@ decimalIn (suc k) n = cond (ltb n 10) ((48 + n) ∷ []) (decimalIn k (n / 10) ++
 unfoldable pub decimalText : ℕ → List ℕ
 decimalText n = decimalIn 20 n
 
--- "16 lower-case hexadecimal digits"
+-- a pack in 16 hexadecimal digits (PROTOCOL 15.15)
 unfoldable pub hexText : ℕ → List ℕ
 hexText n = digits 16 16 n

@@ -1,4 +1,4 @@
--- A turn: its outcome, the words after it, and the lent bytes.
+-- A turn (PROTOCOL, section 8): its outcome, the words after it, and the lent bytes.
 use Prim.Native.Nat.{ℕ, _+_}
 use mathlib.Core.Bool.{Bool, _&&_, not, cond}
 use mathlib.Core.List.{List}
@@ -23,12 +23,12 @@ use Rattle.turn.specs.declared.Admitted.the-variants as admitted
 use Rattle.turn.specs.declared.Outcome.{Outcome}
 use Rattle.turn.specs.declared.Outcome.the-variants as outcome
 
--- "Moving enters the next round and sends its EST. Moving out of round 32 sends nothing"
+-- a move goes one round on and sends an EST there, but none in round 33 (PROTOCOL 5.11)
 unfoldable pub moveOutcome : List ℕ → ℕ → ℕ → View → Outcome
 moveOutcome s i r v = cond (ltb r roundLimit) (outcome.Sent (message.Est i (r + 1) (estimate (coin s i r) v))) outcome.MovedOut
 
--- "A turn answers with one of four outcomes: sent (with the message), moved out of round 32, in force, idle."
--- The outcome of an act of concentrator own in the state s. Starting and moving send the EST of the round that is entered.
+-- The outcome of an act of concentrator own in the state s: idle, sent, moved out of round 32 or in force (PROTOCOL 8.9). Starting and moving
+-- send the EST of the round that is entered.
 unfoldable pub outcomeOf : ℕ → List ℕ → Act → Outcome
 outcomeOf own s Idle = outcome.Idle
 outcomeOf own s InForce = outcome.InForce
@@ -49,7 +49,7 @@ sentLength (outcome.Sent m) = lengthOf m
 sentLength outcome.MovedOut = 0
 sentLength outcome.InForce = 0
 
--- "The count stored and reported is the number of turns since opening that did not answer idle"
+-- the count has every turn since the opening that was neither idle nor refused (PROTOCOL 8.19)
 unfoldable pub withTurnCounted : List ℕ → List ℕ
 withTurnCounted s = withTurnCount s (turnCount s + 1)
 
@@ -57,14 +57,14 @@ withTurnCounted s = withTurnCount s (turnCount s + 1)
 unfoldable pub entered : List ℕ → ℕ → ℕ → ℕ → List ℕ
 entered s i r b = cond (ltb roundLimit r) (withRound s i r) (withEstSent (withRound s i r) i r b)
 
--- "vote i is decided b if b equals the coin and no decision stands"
+-- a single value seen is decided where it is the coin and nothing was decided before (PROTOCOL 5.9, 5.10)
 unfoldable pub newDecision : List ℕ → ℕ → ℕ → View → Bool
 newDecision s i r v = not (decided s i) && decides (coin s i r) v
 
 unfoldable pub moveDecided : List ℕ → ℕ → ℕ → View → List ℕ
 moveDecided s i r v = cond (newDecision s i r v) (withDecision s i (estimate (coin s i r) v)) s
 
--- "Moving enters the next round and sends its EST."
+-- a move goes one round on and sends an EST there, but none in round 33 (PROTOCOL 8.16, 8.17)
 unfoldable pub moved : List ℕ → ℕ → ℕ → View → List ℕ
 moved s i r v = entered (moveDecided s i r v) i (r + 1) (estimate (coin s i r) v)
 
@@ -85,7 +85,7 @@ done s (Move i r v) = moved s i r v
 unfoldable pub applied : List ℕ → Act → List ℕ
 applied s a = cond (isDue a) (done (withTurnCounted s) a) s
 
--- "Turn 9, 10, 8.": the first refusal, or the session. "8 SHORT: a turn lent under 140 bytes"
+-- the refusals of a turn in their order: the first one, or the session. Its message needs 140 bytes (PROTOCOL 9.19, 10.16).
 unfoldable pub admits : List ℕ → ℕ → Admitted
 admits s room =
     cond (not (isState s)) (admitted.Refused NO-STATE)
@@ -93,7 +93,7 @@ admits s room =
     (cond (ltb room 140) (admitted.Refused SHORT)
     (admitted.Open (sessionOf s))))
 
--- the bytes after an outcome: "a success writes a message's own bytes .. and no others"; the values of a COMMIT are its set
+-- the bytes after an outcome: only those of the message are written (PROTOCOL 9.4); the values of a COMMIT are its set
 unfoldable pub bytesAfter : Session → List ℕ → Outcome → List ℕ → List ℕ
 bytesAfter x s (outcome.Refused k) out = out
 bytesAfter x s outcome.Idle out = out
@@ -101,25 +101,17 @@ bytesAfter x s (outcome.Sent m) out = atFront (encode m (x .own) (x .number) (co
 bytesAfter x s outcome.MovedOut out = out
 bytesAfter x s outcome.InForce out = out
 
--- outcome, words and bytes of a turn that is admitted or refused
-unfoldable pub outcomeFor : Admitted → List ℕ → Outcome
-outcomeFor (admitted.Refused k) s = outcome.Refused k
-outcomeFor (admitted.Open x) s = outcomeOf (x .own) s (due (x .settings) s)
+-- what a refusal gives by its number, or the session's turn
+unfoldable pub taking : {A : Type 0} → Admitted → (ℕ → A) → (Session → A) → A
+taking (admitted.Refused k) refused taken = refused k
+taking (admitted.Open x) refused taken = taken x
 
-unfoldable pub wordsFor : Admitted → List ℕ → List ℕ
-wordsFor (admitted.Refused k) s = s
-wordsFor (admitted.Open x) s = applied s (due (x .settings) s)
-
-unfoldable pub bytesFor : Admitted → List ℕ → List ℕ → List ℕ
-bytesFor (admitted.Refused k) s out = out
-bytesFor (admitted.Open x) s out = bytesAfter x s (outcomeOf (x .own) s (due (x .settings) s)) out
-
--- the answer, the words and the bytes of a turn lent the bytes out
+-- The answer, the words and the bytes of a turn lent the bytes out. A refusal changes no word and no lent byte (PROTOCOL 9.3).
 unfoldable pub turnOutcome : List ℕ → ℕ → Outcome
-turnOutcome s room = outcomeFor (admits s room) s
+turnOutcome s room = taking (admits s room) outcome.Refused (λ x. outcomeOf (x .own) s (due (x .settings) s))
 
 unfoldable pub turnWords : List ℕ → ℕ → List ℕ
-turnWords s room = wordsFor (admits s room) s
+turnWords s room = taking (admits s room) (λ k. s) (λ x. applied s (due (x .settings) s))
 
 unfoldable pub turnBytes : List ℕ → List ℕ → List ℕ
-turnBytes s out = bytesFor (admits s (length out)) s out
+turnBytes s out = taking (admits s (length out)) (λ k. out) (λ x. bytesAfter x s (outcomeOf (x .own) s (due (x .settings) s)) out)

@@ -12,11 +12,11 @@ ghost use Rattle.turn.specs.Due.{inForceRule, commitDue, commitOf, commi
 ghost use Rattle.exits.specs.Exits.{exitNow};
 ghost use Rattle.turn.specs.laws.Choosing.{Readable, Chosen, lastRules, laterRules};
 
-// Rule 1: the COMMITs of senders of weight n − ts hold the same set.
+// Rule 1: the COMMITs of senders of weight W − ts hold the same set.
 fn in_force_rule(s: &[u64], g: Settings) -> Act
     ensures { λ r. ⌜ r ≡ inForceRule g (now (s .entry)) ⌝ }
 {
-    if commits::set_leader(s, g.weights, g.n, g.quorum()) == 0 {
+    if commits::set_leader(s, g, g.quorum()) == 0 {
         return Act::Idle;
     }
     Act::InForce
@@ -25,9 +25,9 @@ fn in_force_rule(s: &[u64], g: Settings) -> Act
 // The COMMIT of a set that senders of weight ts + 1 hold, with the set beside it.
 fn repeated_commit(s: &[u64], g: Settings, set: &mut [u64; 16]) -> Act
     requires { ⌜ Readable g (now s) (now set) ⌝ }
-    ensures { λ r. ⌜ Chosen (commitOf (leadingSet (g .weights) (now (s .entry)) (g .n) (repeat g))) (leadingSet (g .weights) (now (s .entry)) (g .n) (repeat g)) r (now (set .exit)) ⌝ }
+    ensures { λ r. ⌜ Chosen (commitOf (leadingSet g (now (s .entry)) (repeat g))) (leadingSet g (now (s .entry)) (repeat g)) r (now (set .exit)) ⌝ }
 {
-    let p = commits::set_leader(s, g.weights, g.n, g.repeat());
+    let p = commits::set_leader(s, g, g.repeat());
     if p == 0 {
         return Act::Idle;
     }

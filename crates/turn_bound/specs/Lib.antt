@@ -1,4 +1,2 @@
 pub mod TurnBound
-pub mod Calls
-pub mod Lined
 pub mod laws

@@ -1,4 +1,4 @@
-pub mod TurnBound
+pub mod Steps
 pub mod Computing
 pub mod Sums
 pub mod Potential
@@ -13,4 +13,3 @@ pub mod Opened
 pub mod Count
 pub mod Stepped
 pub mod CallCount
-pub mod Lined

@@ -1,4 +1,4 @@
--- Rules 4 and 5 of the turn order, and the output of a broadcast.
+-- Rules 4 and 5 of the turn order, and the output of a broadcast: PROTOCOL, section 4, with counts in place of weights (13.4).
 -- The senders are 1 to n; `held p` tells whether a message is held from sender p, `value p` its value.
 use Prim.Native.Nat.{ℕ}
 use mathlib.Core.Bool.{Bool, _&&_, cond}
@@ -23,20 +23,20 @@ holders held value v n = count (λ p. held p && eqb (value p) v) n
 unfoldable pub leads : (ℕ → Bool) → (ℕ → ℕ) → ℕ → ℕ → ℕ → Bool
 leads held value n q p = held p && leb q (holders held value (value p) n)
 
--- a value that q senders hold: "of several, the lowest sender's"
+-- a value that q senders hold; among several that of the lowest-numbered sender (PROTOCOL 4.1)
 unfoldable pub leading : (ℕ → Bool) → (ℕ → ℕ) → ℕ → ℕ → Output
 leading held value n q = valueOf value (lowest (leads held value n q) n)
 
--- "A broadcast has output v when n−ts senders' READYs hold v."
+-- a broadcast has output v where READYs of v are a quorum (PROTOCOL 4.3)
 unfoldable pub output : Settings → List ℕ → ℕ → Output
 output g s i = leading (readyHeld s i) (readyValue s i) (g .n) (quorum g)
 
--- "a value with n−ts ECHOs, else one with ts+1 READYs (of several, the lowest sender's)"
+-- the leading value of the ECHOs at the quorum, or else of the READYs at the repeat threshold (PROTOCOL 4.5)
 unfoldable pub readyDue : Settings → List ℕ → ℕ → Output
 readyDue g s i =
     orOutput (leading (echoHeld s i) (echoValue s i) (g .n) (quorum g)) (leading (readyHeld s i) (readyValue s i) (g .n) (repeat g))
 
--- "READY, once for each instance"
+-- one READY in each instance (PROTOCOL 4.5)
 unfoldable pub readyAct : Settings → List ℕ → ℕ → Act
 readyAct g s i = cond (readySent s i) Idle (readyOf i (readyDue g s i))
 

@@ -1,4 +1,4 @@
--- The sets that COMMITs hold: rules 1 and 2 of the turn order.
+-- The sets that COMMITs hold, for rules 1 and 2 of the turn order: PROTOCOL, section 7, with counts in place of weights (13.4).
 use Prim.Native.Nat.{ℕ}
 use mathlib.Core.Bool.{Bool, _&&_}
 use mathlib.Core.List.{List}
@@ -19,6 +19,6 @@ setLeads s n k p = commitHeld s p && leb k (setHolders s n p)
 unfoldable pub setLeader : List ℕ → ℕ → ℕ → ℕ
 setLeader s n k = lowest (setLeads s n k) n
 
--- "a set held from .. senders (of several, the lowest sender's)"
+-- a set that k senders hold; among several that of the lowest-numbered sender (PROTOCOL 7.2)
 unfoldable pub leadingSet : List ℕ → ℕ → ℕ → List ℕ
 leadingSet s n k = setOf s (setLeader s n k)

@@ -1,4 +1,5 @@
--- Delivery: the verdict on a message, and the words after it. "A delivery names the link's concentrator and records one message."
+-- Delivery: the verdict on a message, and the words after it. A delivery records one message that came over a link, and does nothing else
+-- (PROTOCOL 3.7, 9.17, 9.18).
 use Prim.Native.Nat.{ℕ}
 use mathlib.Core.Bool.{not, cond}
 use mathlib.Core.List.{List}
@@ -12,7 +13,7 @@ use Rattle.delivery.specs.declared.Verdict.{Verdict}
 use Rattle.delivery.specs.declared.Verdict.the-variants.{Refused}
 use Rattle.unweighted.specs.Session.{sessionNumber, isState}
 
--- "Delivery 9, 10, 2 to 7, 11."
+-- the refusals of a delivery in their order, apart from 8 for its line: the first one, or the message (PROTOCOL 10.15)
 unfoldable pub verdict : List ℕ → ℕ → List ℕ → Verdict
 verdict s link b =
     cond (not (isState s)) (Refused NO-STATE)

@@ -1,4 +1,4 @@
--- "A turn does the first thing due in this order, lower instances first." The state s has the settings g.
+-- A turn does the first thing due by rules 1 to 6, the lowest instance first (PROTOCOL 8.1). The state s has the settings g.
 use Prim.Native.Nat.{ℕ}
 use mathlib.Core.Bool.{cond}
 use mathlib.Core.List.{List}
@@ -15,19 +15,19 @@ use Rattle.unweighted.specs.Votes.{votesDecidedOne, voteAct}
 use Rattle.unweighted.specs.Exits.{exitNow}
 use Rattle.unweighted.specs.Commits.{setLeader, leadingSet}
 
--- 1. "In force: n−ts senders' COMMITs hold the same set."
+-- 1. a set is in force where its COMMITs are a quorum (PROTOCOL 7.4)
 unfoldable pub inForceRule : Settings → List ℕ → Act
 inForceRule g s = cond (eqb (setLeader s (g .n) (quorum g)) 0) Idle InForce
 
--- 2. "the set the exits name, else a set held from ts+1 senders (of several, the lowest sender's)"; none is []
+-- 2. the named set, or else the lowest-numbered sender's among sets whose COMMITs reach the repeat threshold (PROTOCOL 7.2); none is []
 unfoldable pub commitDue : Settings → List ℕ → List ℕ
 commitDue g s = orSet (exitNow g s .names) (leadingSet s (g .n) (repeat g))
 
--- 2. "COMMIT, if none sent"
+-- 2. a COMMIT is due only if none was sent (PROTOCOL 7.1, 7.2)
 unfoldable pub commitRule : Settings → List ℕ → Act
 commitRule g s = cond (commitSent s) Idle (commitOf (commitDue g s))
 
--- 6. "Votes, unless Exit 1 holds."
+-- 6. no vote acts under Exit 1 (PROTOCOL 8.7)
 unfoldable pub votesRule : Settings → List ℕ → Act
 votesRule g s =
     cond (eqb (exitNow g s .number) 1) Idle

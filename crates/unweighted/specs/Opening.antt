@@ -1,4 +1,4 @@
--- Opening: its answer, and the words of a new state. The weights among the arguments have no part in them.
+-- Opening: its answer, and the words of a new state (PROTOCOL 9.14 to 9.16). The weights among the arguments have no part in them.
 use Prim.Native.Nat.{ℕ}
 use mathlib.Core.Bool.{cond, not}
 use mathlib.Core.List.{List}
@@ -14,9 +14,8 @@ use Rattle.opening.specs.Arguments.{Arguments}
 use Rattle.opening.specs.Opening.{withCoins}
 use Rattle.unweighted.specs.Settings.{validSettings, namedTa}
 
--- "Order: opening 9 (word count only), 1."; 0 is accepted
--- "1 SETTINGS: a setting or own number outside the rules above, or not exactly n coin words."; whether coins are printed or boxed is a setting
--- (request N12)
+-- the refusals of an opening in their order, apart from 8 for its line; 0 is accepted. Settings, own number, coin words or kind of coins against the
+-- rules, and another number of coin words than n, give 1 (PROTOCOL 10.14, 9.15).
 unfoldable pub openAnswer : (words : ℕ) → Arguments → ℕ
 openAnswer words o =
     cond (not (eqb words stateWords)) NO-STATE
@@ -37,7 +36,7 @@ withSettings s o =
     inputAt (o .input))
     boxedAt (o .boxed)
 
--- "Opening sets all of it.": what is not given is 0
+-- an opening sets every word: what is not given is 0 (PROTOCOL 9.16)
 unfoldable pub openWords : Arguments → List ℕ
 openWords o = withCoins (withSettings (blank stateWords) o) (o .coins) (o .n)
 

@@ -1,4 +1,4 @@
--- Recording a bit of the coin box (request N12): its answer, and the words after it.
+-- Recording a bit of the coin box: its answer, and the words after it (PROTOCOL 9.21 to 9.23).
 use Prim.Native.Nat.{ℕ}
 use mathlib.Core.Bool.{cond, not}
 use mathlib.Core.List.{List}
@@ -10,7 +10,7 @@ use Rattle.records.specs.Records.{closed}
 use Rattle.recording.specs.Recording.{recordable, withBit}
 use Rattle.unweighted.specs.Session.{isState}
 
--- "checked after 9 and 10 in recording"; 0 is accepted, a repeat too
+-- the refusals of a recording in their order, apart from 8 for its line; 0 is accepted, a repeat too (PROTOCOL 10.17)
 unfoldable pub recordAnswer : List ℕ → ℕ → ℕ → ℕ → ℕ
 recordAnswer s i r b =
     cond (not (isState s)) NO-STATE

@@ -1,4 +1,4 @@
--- The report: "The report gives the exit, its set, the turn count, and the set in force or none."
+-- The report gives the exit with its set, the count of turns and the set in force (PROTOCOL 9.25).
 use Prim.Native.Nat.{ℕ}
 use mathlib.Core.Bool.{_||_, not, cond}
 use mathlib.Core.List.{List, []}
@@ -17,7 +17,7 @@ use Rattle.unweighted.specs.Exits.{exitNow}
 use Rattle.unweighted.specs.Commits.{leadingSet}
 use Rattle.wire.specs.Message.{atFront}
 
--- "n−ts senders' COMMITs hold the same set. The set is in force; the session is closed here."; [] is none
+-- on a closed state, the set whose COMMITs are a quorum (PROTOCOL 7.7); [] is none
 unfoldable pub inForceSet : Settings → List ℕ → List ℕ
 inForceSet g s = cond (closed s) (leadingSet s (g .n) (quorum g)) []
 
@@ -31,7 +31,8 @@ figuresOf g s =
       turns = word s turnsAt;
     }
 
--- "Report 9, 8.": what a refusal gives by its number, else what the report gives; "a report lent under 16 words for either set"
+-- the refusals of a report in their order (PROTOCOL 9.24, 10.18): what a refusal gives by its number, else what the report gives. Each of the
+-- two sets needs 16 words.
 unfoldable pub giving : {A : Type 0} → List ℕ → ℕ → ℕ → (ℕ → A) → A → A
 giving s namedWords inForceWords refused done =
     cond (not (isState s)) (refused NO-STATE)

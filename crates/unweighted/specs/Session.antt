@@ -1,4 +1,4 @@
--- When a lent buffer holds a state: the refusal 9, NO STATE.
+-- When a lent buffer holds a state: the refusal 9, NO STATE (PROTOCOL 9.6).
 use Prim.Native.Nat.{ℕ, _%_, _^_}
 use mathlib.Core.Bool.{Bool, _&&_}
 use mathlib.Core.List.{List}
@@ -16,12 +16,12 @@ settingsOf s = record { n = word s nAt; ta = word s taAt; ts = word s tsAt }
 unfoldable pub sessionNumber : List ℕ → ℕ
 sessionNumber s = word s sessionAt % 2 ^ 32
 
--- the stored numbers beside the settings: coins that are printed or boxed (request N12); "more than 99·n+3 turns" is none
+-- the stored numbers beside the settings: own number, kind of coins, turns within the turn bound, rounds and COMMITs (PROTOCOL 9.6)
 unfoldable pub numbersRight : Settings → List ℕ → Bool
 numbersRight g s =
     numbered (g .n) (word s ownAt) && leb (word s boxedAt) 1 && leb (word s turnsAt) (turnBound g) && roundsRight s (g .n) && commitsRight s (g .n)
 
--- "wrong word count, stored settings or own number that opening would refuse (a stored ta of 255 too), ..": no such thing
+-- what makes words a state: how many they are, settings within the rules, where 255 is no ta, and the other stored numbers (PROTOCOL 9.6)
 unfoldable pub isState : List ℕ → Bool
 isState s =
     eqb (length s) stateWords && validSettings (word s nAt) (word s taAt) (word s tsAt) && numbersRight (settingsOf s) s

@@ -1,43 +1,43 @@
--- The rules on a session's settings, and the thresholds worked out from them.
+-- The rules on a session's settings, and the thresholds worked out from them: PROTOCOL, section 1, with counts in place of weights (13.4).
 use Prim.Native.Nat.{ℕ, _+_, _*_, _-_}
 use mathlib.Core.Bool.{Bool, _&&_, cond}
 use lib.Dec.{eqb, ltb, leb}
 use Rattle.settings.specs.Settings.{UNNAMED, largestTa}
 
--- "the session's own n, ta and ts"
+-- the settings of a session, from which its thresholds come (PROTOCOL 1.14 to 1.18)
 pub record Settings : Type 0 where
   pub n : ℕ
   pub ta : ℕ
   pub ts : ℕ
 
--- "n from 1 to 16, with ta ≤ ts and 2·ts + ta < n"
+-- n is 1 to 16, ta ≤ ts, and 2·ts + ta < n (PROTOCOL 1.1, 1.6)
 unfoldable pub validSettings : ℕ → ℕ → ℕ → Bool
 validSettings n ta ts = leb 1 n && leb n 16 && leb ta ts && ltb (2 * ts + ta) n
 
--- "255 shall mean the smaller of ts and n−1−2·ts"
+-- the ta that is meant by the one given: the largest that the rules allow, where it is unnamed (PROTOCOL 1.7)
 unfoldable pub namedTa : ℕ → ℕ → ℕ → ℕ
 namedTa n ta ts = cond (eqb ta UNNAMED) (largestTa n ts) ta
 
--- "n−ts senders' COMMITs", "n−ts ECHOs", "n−ts senders' READYs", "at least n−ts broadcasts"
+-- the quorum: ECHOs behind a READY, READYs behind an output, outputs behind Exit 1, COMMITs behind a set in force (PROTOCOL 1.14)
 unfoldable pub quorum : Settings → ℕ
 quorum g = g .n - g .ts
 
--- "ts+1 READYs", "a set held from ts+1 senders"
+-- the repeat threshold: READYs behind a READY, COMMITs behind a COMMIT (PROTOCOL 1.15)
 unfoldable pub repeat : Settings → ℕ
 repeat g = g .ts + 1
 
--- "s ≥ n−ta", "at least n−ta held AUXs carry accepted values"
+-- the vote quorum: AUXs behind a move, votes decided 1 behind a start with 0 and behind Exits 2 and 3 (PROTOCOL 1.16)
 unfoldable pub voteQuorum : Settings → ℕ
 voteQuorum g = g .n - g .ta
 
--- "held from ta+1 senders"
+-- the relay threshold: ESTs behind a relay (PROTOCOL 1.17)
 unfoldable pub relay : Settings → ℕ
 relay g = g .ta + 1
 
--- "accepted in a round when 2·ta+1 senders' ESTs hold it"
+-- the accept threshold: ESTs behind an accepted value (PROTOCOL 1.18)
 unfoldable pub accept : Settings → ℕ
 accept g = 2 * g .ta + 1
 
--- "a session takes at most 99·n+3 turns"
+-- the turn bound: the most counted turns of a session at one concentrator (PROTOCOL 8.20)
 unfoldable pub turnBound : Settings → ℕ
 turnBound g = 99 * g .n + 3

@@ -1,9 +1,10 @@
--- Request N11: "With all weights 1 every answer equals the unweighted one.", as a claim about the calls.
+-- With weights of 1 all is as without weights (PROTOCOL 13.4), as a claim about the calls.
 -- The unweighted rules are those of this crate's files Settings to Report: they count, and no weight is among what they read.
--- The calls stand without their lines of the journal: the bytes for a line are asked for after all else, and with enough of them a call is
+-- Answers stand without their lines of the journal: the bytes for a line are asked for after all else, and with enough of them a call is
 -- the one without (journal/Journal).
 use Prim.Native.Nat.{ℕ, _-_, _^_, _≤_}
-use mathlib.Core.List.{List, [], _∷_}
+use mathlib.Core.Bool.{true}
+use mathlib.Core.List.{List, [], _∷_, _++_}
 use mathlib.Core.Logic.{_≢_}
 use mathlib.Core.Path.{_≡_}
 use lib.ListN.{length}
@@ -17,7 +18,9 @@ use Rattle.delivery.specs.Delivery.{deliverAnswer, delivered}
 use Rattle.recording.specs.Recording.{recordAnswer, recordedWords}
 use Rattle.turn.specs.Turn.{turnOutcome, turnWords, turnBytes}
 use Rattle.report.specs.Report.{reportAnswer, reportNamed, reportInForce}
-use Rattle.turn_bound.specs.TurnBound.{Step, opening, delivery, turn, report, recording, after}
+use Rattle.journal.specs.Journal.{lineWords, turnRoom}
+use Rattle.calls.specs.Machine.{Call, opening, delivery, turn, report, restore, recording, place, words, traced}
+use Rattle.calls.specs.Engine.{OpeningGiven, engine}
 use Rattle.unweighted.specs.Opening as unweighted-opening
 use Rattle.unweighted.specs.Delivery as unweighted-delivery
 use Rattle.unweighted.specs.Recording as unweighted-recording
@@ -62,23 +65,32 @@ pub record Alike (s : List ℕ) : Type 0 where
 
 -- ---- lists of calls
 
--- each opening of a list of calls is given weights of 1
-unfoldable pub EachGivenOnes : List Step → Type 0
-EachGivenOnes [] = Unit
-EachGivenOnes (opening o ∷ cs) = GivenOnes o × EachGivenOnes cs
-EachGivenOnes (delivery link b ∷ cs) = EachGivenOnes cs
-EachGivenOnes (turn out ∷ cs) = EachGivenOnes cs
-EachGivenOnes (report ∷ cs) = EachGivenOnes cs
-EachGivenOnes (recording i r b ∷ cs) = EachGivenOnes cs
+-- a call that is no restore and, if it is an opening, is given weights of 1
+abbrev pub GivesOnes : Call engine → Type 0
+GivesOnes (opening p o) = GivenOnes (o .given)
+GivesOnes (delivery p m b) = Unit {0}
+GivesOnes (turn p l) = Unit {0}
+GivesOnes (report p r) = Unit {0}
+GivesOnes (restore p v r) = ⊥
+GivesOnes (recording p x) = Unit {0}
 
--- the words after a list of calls of an unweighted session, newest first, on the words s; a report writes none of them
-unfoldable pub unweightedAfter : List ℕ → List Step → List ℕ
-unweightedAfter s [] = s
-unweightedAfter s (opening o ∷ cs) = unweighted-opening.opened (unweightedAfter s cs) o
-unweightedAfter s (delivery link b ∷ cs) = unweighted-delivery.delivered (unweightedAfter s cs) link b
-unweightedAfter s (turn out ∷ cs) = unweighted-turn.turnWords (unweightedAfter s cs) (length out)
-unweightedAfter s (report ∷ cs) = unweightedAfter s cs
-unweightedAfter s (recording i r b ∷ cs) = unweighted-recording.recordedWords (unweightedAfter s cs) i r b
+-- each call at q of a list is such a one
+unfoldable pub EachGivenOnes : ℕ → List (Call engine) → Type 0
+EachGivenOnes q [] = Unit {0}
+EachGivenOnes q (c ∷ cs) = (place engine c ≡ q → GivesOnes c) × EachGivenOnes q cs
+
+-- the words that a call of an unweighted session leaves, with its line (journal/Journal); a restore is not among the calls
+abbrev pub unweightedLeft : Call engine → List ℕ → List ℕ
+unweightedLeft (opening p o) u = lineWords (o .line) u (unweighted-opening.opened u (o .given))
+unweightedLeft (delivery p m b) u = lineWords (b .line) u (unweighted-delivery.delivered u m (b .list))
+unweightedLeft (turn p l) u = unweighted-turn.turnWords u (turnRoom (length (l .message)) (l .line))
+unweightedLeft (report p r) u = u
+unweightedLeft (restore p v r) u = u
+unweightedLeft (recording p x) u = lineWords (x .line) u (unweighted-recording.recordedWords u (x .vote) (x .round) (x .bit))
+
+-- the words of q after a list of calls, newest first, where the session is unweighted
+unfoldable pub unweightedWords : (ℕ → List ℕ) → List (Call engine) → ℕ → List ℕ
+unweightedWords start cs q = traced engine start (λ c w u. unweightedLeft c u) (start q) cs q
 
 -- two runs side by side: w are the words of one with weights of 1, u those of the unweighted one
 pub record SideBySide (w u : List ℕ) : Type 0 where
@@ -111,7 +123,8 @@ pub record Unweighted : Type 0 where
   pub openings : (s : List ℕ) (o : Arguments) → GivenOnes o → OpensAlike s o
   -- every other call is the unweighted one on any words in which all weights are 1, foreign ones too
   pub calls : (s : List ℕ) → AllOne s → Alike s
-  -- after an accepted opening of any words and every list of calls, further openings among them, each given weights of 1, the run
-  -- and the unweighted run of the same calls stand side by side
-  pub runs : (s : List ℕ) (o : Arguments) → openAnswer (length s) o ≡ 0 → GivenOnes o → (cs : List Step) → EachGivenOnes cs →
-      SideBySide (after (opened s o) cs) (unweightedAfter (unweighted-opening.opened s o) cs)
+  -- after an accepted opening of any words at q, given weights of 1, and every list of calls, further openings at q among them, each given
+  -- weights of 1, but no restores there, the run at q and the unweighted run of the same calls stand side by side
+  pub runs : (start : ℕ → List ℕ) (q : ℕ) (o : OpeningGiven) → engine .opens (start q) o ≡ true → GivenOnes (o .given) →
+      (cs : List (Call engine)) → EachGivenOnes q cs →
+      SideBySide (words engine start (cs ++ (opening q o ∷ [])) q) (unweightedWords start (cs ++ (opening q o ∷ [])) q)

@@ -1,4 +1,4 @@
--- A turn: its outcome, the words after it, and the lent bytes.
+-- A turn (PROTOCOL, section 8): its outcome, the words after it, and the lent bytes.
 use Prim.Native.Nat.{ℕ}
 use mathlib.Core.Bool.{not, cond}
 use mathlib.Core.List.{List}
@@ -23,7 +23,7 @@ dueIn s = due (settingsOf s) s
 unfoldable pub outcomeIn : List ℕ → Outcome
 outcomeIn s = outcomeOf (word s ownAt) s (dueIn s)
 
--- the bytes after an outcome: "a success writes a message's own bytes .. and no others"; the values of a COMMIT are its set
+-- the bytes after an outcome: only those of the message are written (PROTOCOL 9.4); the values of a COMMIT are its set
 unfoldable pub bytesAfter : List ℕ → Outcome → List ℕ → List ℕ
 bytesAfter s (Refused k) out = out
 bytesAfter s Idle out = out
@@ -31,7 +31,8 @@ bytesAfter s (Sent m) out = atFront (encode m (word s ownAt) (sessionNumber s) (
 bytesAfter s MovedOut out = out
 bytesAfter s InForce out = out
 
--- "Turn 9, 10, 8.": what a refusal gives by its number, else what the turn gives; "8 SHORT: a turn lent under 140 bytes"
+-- the refusals of a turn in their order (PROTOCOL 9.19, 10.16): what a refusal gives by its number, else what the turn gives. Its message
+-- needs 140 bytes.
 unfoldable pub taking : {A : Type 0} → List ℕ → ℕ → (ℕ → A) → A → A
 taking s room refused done =
     cond (not (isState s)) (refused NO-STATE)

@@ -1,4 +1,4 @@
--- Rule 6 of the turn order: what is due in a vote. Votes use ta.
+-- Rule 6 of the turn order, what is due in a vote: PROTOCOL, section 5, with counts in place of weights (13.4). Votes use ta.
 use Prim.Native.Nat.{ℕ, min}
 use mathlib.Core.Bool.{Bool, _&&_, _||_, cond}
 use mathlib.Core.List.{List}
@@ -17,38 +17,39 @@ use Rattle.unweighted.specs.Settings.{Settings, voteQuorum, relay, accep
 unfoldable pub estCount : Settings → List ℕ → ℕ → ℕ → ℕ → ℕ
 estCount g s i r b = count (estHeld s i r b) (g .n)
 
--- "A value is accepted in a round when 2·ta+1 senders' ESTs hold it."
+-- a value is accepted in a round once its ESTs there reach the accept threshold (PROTOCOL 5.5)
 unfoldable pub accepted : Settings → List ℕ → ℕ → ℕ → ℕ → Bool
 accepted g s i r b = leb (accept g) (estCount g s i r b)
 
--- "s counts votes decided 1"
+-- how many votes are decided 1 (PROTOCOL 5.3)
 unfoldable pub votesDecidedOne : Settings → List ℕ → ℕ
 votesDecidedOne g s = count (decidedOne s) (g .n)
 
--- "Vote i starts with 1 if broadcast i has output, else with 0 once s ≥ n−ta"; its round is 0 before
+-- a vote whose round is 0 starts with 1 where its broadcast has output, otherwise with 0 where the votes decided 1 reach the vote quorum
+-- (PROTOCOL 5.3)
 unfoldable pub startAct : Settings → List ℕ → Bool → ℕ → ℕ → Act
 startAct g s hasOutput decidedOnes i =
     cond (eqb (round s i) 0)
     (cond hasOutput (Start i 1) (cond (leb (voteQuorum g) decidedOnes) (Start i 0) Idle))
     Idle
 
--- "a value not yet sent as EST and held from ta+1 senders is sent"
+-- a value that was not sent as EST is relayed once its ESTs reach the relay threshold (PROTOCOL 5.4)
 unfoldable pub relayValue : Settings → List ℕ → ℕ → ℕ → ℕ → Act
 relayValue g s i r b = cond (estSent s i r b) Idle (cond (leb (relay g) (estCount g s i r b)) (Relay i r b) Idle)
 
--- "0 before 1"
+-- in a round 0 goes before 1 (PROTOCOL 5.4)
 unfoldable pub relayRound : Settings → List ℕ → ℕ → ℕ → Act
 relayRound g s i r = orAct (relayValue g s i r 0) (relayValue g s i r 1)
 
--- "for any round up to the current one .. lowest round first"; the rounds end at 32
+-- the rounds from 1 to the vote's own, the lowest first; they end at 32 (PROTOCOL 5.4)
 unfoldable pub relayAct : Settings → List ℕ → ℕ → Act
 relayAct g s i = firstAct (relayRound g s i) (min (round s i) roundLimit)
 
--- "send 0 if 0 is accepted, else 1"
+-- AUX carries 0 where 0 is accepted, otherwise 1 where that is (PROTOCOL 5.6)
 unfoldable pub auxValue : Settings → List ℕ → ℕ → ℕ → Act
 auxValue g s i r = cond (accepted g s i r 0) (Aux i r 0) (cond (accepted g s i r 1) (Aux i r 1) Idle)
 
--- "AUX, once a round: when a value is accepted in the current round"
+-- one AUX in each round, once the round has an accepted value (PROTOCOL 5.6)
 unfoldable pub auxAct : Settings → List ℕ → ℕ → Act
 auxAct g s i = cond (auxSent s i (round s i)) Idle (auxValue g s i (round s i))
 
@@ -68,11 +69,11 @@ carried g s i r b = accepted g s i r b && ltb 0 (count (auxHeld s i r b) (g .n))
 unfoldable pub view : Settings → List ℕ → ℕ → ℕ → View
 view g s i r = viewOf (carried g s i r 0) (carried g s i r 1)
 
--- "when at least n−ta held AUXs carry accepted values"
+-- the AUXs with accepted values reach the vote quorum (PROTOCOL 5.7)
 unfoldable pub moveValue : Settings → List ℕ → ℕ → ℕ → Act
 moveValue g s i r = cond (leb (voteQuorum g) (carriers g s i r)) (Move i r (view g s i r)) Idle
 
--- "Move, after the own AUX"; "In a boxed session every move is due only once the host has recorded that round's bit in the state"
+-- a move comes after the AUX of its round was sent, and waits until a boxed coin is recorded (PROTOCOL 5.7, 5.8)
 unfoldable pub moveAct : Settings → List ℕ → ℕ → Act
 moveAct g s i =
     cond (auxSent s i (round s i) && coinKnown s i (round s i))
@@ -83,6 +84,6 @@ moveAct g s i =
 unfoldable pub roundAct : Settings → List ℕ → ℕ → Act
 roundAct g s i = cond (running s i) (orAct (auxAct g s i) (moveAct g s i)) Idle
 
--- "In each vote: start; then relay; then AUX; then move."
+-- the order in a vote: start, relay, AUX, move (PROTOCOL 5.2)
 unfoldable pub voteAct : Settings → List ℕ → Bool → ℕ → ℕ → Act
 voteAct g s hasOutput decidedOnes i = orAct (startAct g s hasOutput decidedOnes i) (orAct (relayAct g s i) (roundAct g s i))

@@ -1,11 +1,10 @@
--- Rule 6 of the turn order: what is due in a vote. Votes use ta. Senders and votes count by their weights (request N11).
+-- Rule 6 of the turn order, what is due in a vote: PROTOCOL, section 5. Votes use ta. Senders and votes count by their weights.
 use Prim.Native.Nat.{ℕ, min}
 use mathlib.Core.Bool.{Bool, true, false, _&&_, _||_, cond}
 use mathlib.Core.List.{List}
 use lib.Dec.{eqb, leb, ltb}
-use Rattle.settings.specs.Settings.{voteQuorum, relay, accept, roundLimit}
+use Rattle.settings.specs.Settings.{weighed, voteQuorum, relay, accept, roundLimit}
 use Rattle.settings.specs.declared.Settings.{Settings}
-use Rattle.quorum.specs.Weights.{weigh}
 use Rattle.records.specs.Records.{estHeld, auxHeld, round, estSent, auxSent, decidedOne, coinKnown}
 use Rattle.acts.specs.Acts.{orAct, firstAct}
 use Rattle.acts.specs.declared.Act.{Act}
@@ -15,32 +14,33 @@ use Rattle.acts.specs.declared.View.the-variants.{Only, Both}
 
 -- the weight of the senders whose ESTs of b are held in round r of vote i
 unfoldable pub estCount : Settings → List ℕ → ℕ → ℕ → ℕ → ℕ
-estCount g s i r b = weigh (g .weights) (estHeld s i r b) (g .n)
+estCount g s i r b = weighed g (estHeld s i r b)
 
--- "A value is accepted in a round when 2·ta+1 senders' ESTs hold it."
+-- a value is accepted in a round once its ESTs there reach the accept threshold (PROTOCOL 5.5)
 unfoldable pub accepted : Settings → List ℕ → ℕ → ℕ → ℕ → Bool
 accepted g s i r b = leb (accept g) (estCount g s i r b)
 
--- "s counts votes decided 1", each by its weight
+-- what the votes decided 1 weigh (PROTOCOL 5.3)
 unfoldable pub votesDecidedOne : Settings → List ℕ → ℕ
-votesDecidedOne g s = weigh (g .weights) (decidedOne s) (g .n)
+votesDecidedOne g s = weighed g (decidedOne s)
 
--- "Vote i starts with 1 if broadcast i has output, else with 0 once s ≥ n−ta"; its round is 0 before
+-- a vote whose round is 0 starts with 1 where its broadcast has output, otherwise with 0 where the votes decided 1 reach the vote quorum
+-- (PROTOCOL 5.3)
 unfoldable pub startAct : Settings → List ℕ → Bool → ℕ → ℕ → Act
 startAct g s hasOutput decidedOnes i =
     cond (eqb (round s i) 0)
     (cond hasOutput (Start i 1) (cond (leb (voteQuorum g) decidedOnes) (Start i 0) Idle))
     Idle
 
--- "a value not yet sent as EST and held from ta+1 senders is sent"
+-- a value that was not sent as EST is relayed once its ESTs reach the relay threshold (PROTOCOL 5.4)
 unfoldable pub relayValue : Settings → List ℕ → ℕ → ℕ → ℕ → Act
 relayValue g s i r b = cond (estSent s i r b) Idle (cond (leb (relay g) (estCount g s i r b)) (Relay i r b) Idle)
 
--- "0 before 1"
+-- in a round 0 goes before 1 (PROTOCOL 5.4)
 unfoldable pub relayRound : Settings → List ℕ → ℕ → ℕ → Act
 relayRound g s i r = orAct (relayValue g s i r 0) (relayValue g s i r 1)
 
--- "for any round up to the current one .. lowest round first"; the rounds end at 32
+-- the rounds from 1 to the vote's own, the lowest first; they end at 32 (PROTOCOL 5.4)
 unfoldable pub relayAct : Settings → List ℕ → ℕ → Act
 relayAct g s i = firstAct (relayRound g s i) (min (round s i) roundLimit)
 
@@ -48,11 +48,11 @@ relayAct g s i = firstAct (relayRound g s i) (min (round s i) roundLimit)
 unfoldable pub running : List ℕ → ℕ → Bool
 running s i = leb 1 (round s i) && leb (round s i) roundLimit
 
--- "send 0 if 0 is accepted, else 1"
+-- AUX carries 0 where 0 is accepted, otherwise 1 where that is (PROTOCOL 5.6)
 unfoldable pub auxValue : Settings → List ℕ → ℕ → ℕ → Act
 auxValue g s i r = cond (accepted g s i r 0) (Aux i r 0) (cond (accepted g s i r 1) (Aux i r 1) Idle)
 
--- "AUX, once a round: when a value is accepted in the current round"
+-- one AUX in each round, once the round has an accepted value (PROTOCOL 5.6)
 unfoldable pub auxAct : Settings → List ℕ → ℕ → Act
 auxAct g s i = cond (auxSent s i (round s i)) Idle (auxValue g s i (round s i))
 
@@ -62,17 +62,17 @@ carries g s i r p = (accepted g s i r 0 && auxHeld s i r 0 p) || (accepted g s i
 
 -- the weight of the senders whose held AUXs carry accepted values
 unfoldable pub carriers : Settings → List ℕ → ℕ → ℕ → ℕ
-carriers g s i r = weigh (g .weights) (carries g s i r) (g .n)
+carriers g s i r = weighed g (carries g s i r)
 
 -- the weight of the senders whose held AUXs carry b
 unfoldable pub auxCount : Settings → List ℕ → ℕ → ℕ → ℕ → ℕ
-auxCount g s i r b = weigh (g .weights) (auxHeld s i r b) (g .n)
+auxCount g s i r b = weighed g (auxHeld s i r b)
 
 -- b is carried: it is accepted, and an AUX of b is held
 unfoldable pub carried : Settings → List ℕ → ℕ → ℕ → ℕ → Bool
 carried g s i r b = accepted g s i r b && ltb 0 (auxCount g s i r b)
 
--- "If those carry just one value b .. If they carry both": z and o tell whether 0 and 1 are carried
+-- what a move sees, one value or both: z and o tell whether 0 and 1 are carried (PROTOCOL 5.9)
 abbrev pub viewOf : Bool → Bool → View
 viewOf true true = Both
 viewOf true false = Only 0
@@ -82,11 +82,11 @@ viewOf false o = Only 1
 unfoldable pub view : Settings → List ℕ → ℕ → ℕ → View
 view g s i r = viewOf (carried g s i r 0) (carried g s i r 1)
 
--- "when at least n−ta held AUXs carry accepted values"
+-- the AUXs with accepted values reach the vote quorum (PROTOCOL 5.7)
 unfoldable pub moveValue : Settings → List ℕ → ℕ → ℕ → Act
 moveValue g s i r = cond (leb (voteQuorum g) (carriers g s i r)) (Move i r (view g s i r)) Idle
 
--- "Move, after the own AUX"; request N12: where coins are boxed "every move is due only once the host has recorded that round's bit in the state"
+-- a move comes after the AUX of its round was sent, and waits until a boxed coin is recorded (PROTOCOL 5.7, 5.8)
 unfoldable pub moveAct : Settings → List ℕ → ℕ → Act
 moveAct g s i =
     cond (auxSent s i (round s i) && coinKnown s i (round s i))
@@ -97,7 +97,7 @@ moveAct g s i =
 unfoldable pub roundAct : Settings → List ℕ → ℕ → Act
 roundAct g s i = cond (running s i) (orAct (auxAct g s i) (moveAct g s i)) Idle
 
--- "In each vote: start; then relay; then AUX; then move."
+-- the order in a vote: start, relay, AUX, move (PROTOCOL 5.2)
 unfoldable pub voteAct : Settings → List ℕ → Bool → ℕ → ℕ → Act
 voteAct g s hasOutput decidedOnes i = orAct (startAct g s hasOutput decidedOnes i) (orAct (relayAct g s i) (roundAct g s i))
 
@@ -110,12 +110,12 @@ abbrev pub coinValue : Bool → ℕ
 coinValue true = 1
 coinValue false = 0
 
--- "If those carry just one value b, b is the new estimate", "If they carry both, the estimate is the coin."
+-- the estimate is the value seen, and with both seen the coin (PROTOCOL 5.9)
 abbrev pub estimate : Bool → View → ℕ
 estimate coin (Only b) = b
 estimate coin Both = coinValue coin
 
--- "vote i is decided b if b equals the coin": what a move would decide, if no decision stands
+-- a single value seen is decided where it is the coin: what a move would decide, if no decision stands (PROTOCOL 5.9)
 abbrev pub decides : Bool → View → Bool
 decides coin (Only b) = eqb b (coinValue coin)
 decides coin Both = false

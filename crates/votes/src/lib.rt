@@ -165,7 +165,7 @@ fn view(s: &[u64], g: Settings, i: u8, r: u8, a0: bool, a1: bool) -> acts::View
     view_of(zero, one)
 }
 
-// The move out of round r, where held AUXs of weight n − ta carry accepted values.
+// The move out of round r, where held AUXs of weight W − ta carry accepted values.
 fn move_value(s: &[u64], g: Settings, i: u8, r: u8, a0: bool, a1: bool) -> Act
     ensures { λ a. ⌜ a ≡ moveGiven g (now (s .entry)) i r a0 a1 ⌝ }
 {

@@ -17,8 +17,7 @@ be4 b i = be2 b i * 2 ^ 16 + be2 b (i + 2)
 unfoldable pub be8 : List ℕ → ℕ → ℕ
 be8 b i = be4 b i * 2 ^ 32 + be4 b (i + 4)
 
--- "The values start at byte 12 and run to the end, 8 bytes each, high byte first.": value k, from 1, of the part v that starts there;
--- 0 where v does not hold it
+-- value k, from 1, of the part v that starts at byte 12: eight bytes each, the most significant first (PROTOCOL 2.13); 0 where v does not hold it
 unfoldable pub valueAt : List ℕ → ℕ → ℕ
 valueAt v k = cond (leb 1 k && leb (8 * k) (length v)) (be8 v (8 * k - 8)) 0
 
@@ -32,7 +31,7 @@ unfoldable pub risesFrom : ℕ → List ℕ → Bool
 risesFrom x [] = true
 risesFrom x (y ∷ ys) = ltb x y && risesFrom y ys
 
--- "COMMIT values rise strictly."
+-- each value of a COMMIT is above the one before (PROTOCOL 2.6)
 unfoldable pub rises : List ℕ → Bool
 rises [] = true
 rises (x ∷ xs) = risesFrom x xs
@@ -49,7 +48,7 @@ bytes4 x = bytes2 (x / 2 ^ 16) ++ bytes2 x
 unfoldable pub bytes8 : ℕ → List ℕ
 bytes8 x = bytes4 (x / 2 ^ 32) ++ bytes4 x
 
--- "8 bytes each, high byte first": the bytes of values, one after the other
+-- the bytes of values, one after the other: eight each, the most significant first (PROTOCOL 2.13)
 unfoldable pub valueBytes : List ℕ → List ℕ
 valueBytes [] = []
 valueBytes (x ∷ xs) = bytes8 x ++ valueBytes xs

@@ -1,4 +1,4 @@
--- The layout of a message, and the bytes of one that is written.
+-- The layout of a message, and the bytes of one that is written: PROTOCOL, section 2.
 use Prim.Native.Nat.{ℕ, _+_, _*_}
 use mathlib.Core.Bool.{cond}
 use mathlib.Core.List.{List, [], _∷_, _++_}
@@ -9,11 +9,11 @@ use Rattle.wire.specs.declared.Message.{Message}
 use Rattle.wire.specs.declared.Message.the-variants.{Send, Echo, Ready, Est, Aux, Commit}
 use Rattle.wire.specs.declared.Header.{Header}
 
--- "Byte 0 is version 1."
+-- byte 0, the version (PROTOCOL 2.7)
 abbrev pub VERSION : ℕ
 VERSION = 1
 
--- "Byte 1 is the kind: 1 SEND, 2 ECHO, 3 READY, 4 EST, 5 AUX, 6 COMMIT."
+-- byte 1, the kind (PROTOCOL 2.1 to 2.6)
 abbrev pub SEND : ℕ
 SEND = 1
 
@@ -51,7 +51,7 @@ kindOf (Est i r v) = EST
 kindOf (Aux i r v) = AUX
 kindOf (Commit k) = COMMIT
 
--- "Byte 3 is the instance, 1 to n, and 0 in COMMIT."
+-- byte 3, the instance; a COMMIT has none, which is 0 (PROTOCOL 2.1 to 2.6)
 abbrev pub instanceOf : Message → ℕ
 instanceOf (Send i v) = i
 instanceOf (Echo i v) = i
@@ -60,7 +60,7 @@ instanceOf (Est i r v) = i
 instanceOf (Aux i r v) = i
 instanceOf (Commit k) = 0
 
--- "Byte 4 is the round, 1 to 32 in EST and AUX, else 0."
+-- byte 4, the round of an EST or AUX; the other kinds have 0 (PROTOCOL 2.1 to 2.6)
 abbrev pub roundOf : Message → ℕ
 roundOf (Send i v) = 0
 roundOf (Echo i v) = 0
@@ -69,7 +69,7 @@ roundOf (Est i r v) = r
 roundOf (Aux i r v) = r
 roundOf (Commit k) = 0
 
--- "Byte 5 is the count of values: 1 to n in COMMIT, else 1."
+-- byte 5, the number of values: one, or those of a COMMIT (PROTOCOL 2.1 to 2.6)
 abbrev pub countOf : Message → ℕ
 countOf (Send i v) = 1
 countOf (Echo i v) = 1
@@ -78,7 +78,7 @@ countOf (Est i r v) = 1
 countOf (Aux i r v) = 1
 countOf (Commit k) = k
 
--- "The length is 12 + 8·count."
+-- twelve bytes, and eight more for each value (PROTOCOL 2.14)
 abbrev pub lengthOf : Message → ℕ
 lengthOf m = 12 + 8 * countOf m
 
@@ -100,7 +100,7 @@ valuesOf (Est i r v) xs = v ∷ []
 valuesOf (Aux i r v) xs = v ∷ []
 valuesOf (Commit k) xs = take k xs
 
--- a header with the fields that differ from message to message: "Byte 0 is version 1", "Bytes 6 and 7 are 0"
+-- a header with the fields that differ from message to message; the version is 1, and bytes 6 and 7 are 0 (PROTOCOL 2.7, 2.11)
 abbrev pub headerWith : (kind sender instance round count session : ℕ) → Header
 headerWith kind sender instance round count session = record {
   version = VERSION;
@@ -121,11 +121,11 @@ headerFor m sender session = headerWith (kindOf m) sender (instanceOf m) (roundO
 unfoldable pub frontBytes : Header → List ℕ
 frontBytes h = h .version ∷ h .kind ∷ h .sender ∷ h .instance ∷ h .round ∷ h .count ∷ bytes2 (h .reserved)
 
--- bytes 0 to 11: "Bytes 8 to 11 are the session, high byte first."
+-- bytes 0 to 11; the last four are the session number, most significant byte first (PROTOCOL 2.12)
 unfoldable pub headerBytes : Header → List ℕ
 headerBytes h = frontBytes h ++ bytes4 (h .session)
 
--- a header and the values after it: "The values start at byte 12 and run to the end"
+-- a header and the values after it, which start at byte 12 (PROTOCOL 2.13)
 unfoldable pub messageBytes : Header → List ℕ → List ℕ
 messageBytes h xs = headerBytes h ++ valueBytes xs
 
@@ -133,6 +133,6 @@ messageBytes h xs = headerBytes h ++ valueBytes xs
 unfoldable pub encode : Message → (sender session : ℕ) → List ℕ → List ℕ
 encode m sender session xs = messageBytes (headerFor m sender session) (valuesOf m xs)
 
--- "a success writes a message's own bytes, .. and no others": out with w at its front
+-- out with w at its front: what stands behind it stays (PROTOCOL 9.4)
 unfoldable pub atFront : List ℕ → List ℕ → List ℕ
 atFront w out = w ++ drop (length w) out

@@ -1,4 +1,4 @@
--- What reading a message answers: the refusals 2 to 7 in their order, or the message.
+-- What reading a message answers: the refusals 2 to 7 in their order, or the message (PROTOCOL 2.16).
 use Prim.Native.Nat.{ℕ, _+_, _*_}
 use mathlib.Core.Bool.{Bool, false, cond, not, _&&_}
 use mathlib.Core.List.{List}
@@ -18,7 +18,7 @@ use Rattle.wire.specs.declared.Parsed.the-variants.{Refused, Taken}
 abbrev pub within : ℕ → ℕ → ℕ → Bool
 within lo hi x = leb lo x && leb x hi
 
--- not "under 12 bytes, or not 12 + 8·count"; the count is byte 5 as it stands, whatever the kind
+-- at least 12 bytes, and as many as byte 5 says, whatever the kind (PROTOCOL 2.16)
 unfoldable pub lengthRight : List ℕ → Bool
 lengthRight b = leb 12 (length b) && eqb (length b) (12 + 8 * getD b 5 0)
 
@@ -35,27 +35,27 @@ headerOf b = record {
   session = be4 b 8;
 }
 
--- not "version or kind unknown"
+-- the version is 1 and the kind one of the six (PROTOCOL 2.16)
 abbrev pub kindKnown : ℕ → ℕ → Bool
 kindKnown version kind = eqb version VERSION && within SEND COMMIT kind
 
--- not "byte 2 is not the link's concentrator, or that is not 1 to n"
+-- the sender is the link's number, and that is 1 to n (PROTOCOL 2.16)
 abbrev pub senderRight : ℕ → ℕ → ℕ → Bool
 senderRight n link sender = eqb sender link && within 1 n link
 
--- "Byte 3 is the instance, 1 to n", the round is 0 and the count 1
+-- the instance is 1 to n, the round 0 and the count 1 (PROTOCOL 2.1 to 2.3)
 abbrev pub broadcastFields : ℕ → Header → Bool
 broadcastFields n h = within 1 n (h .instance) && eqb (h .round) 0 && eqb (h .count) 1
 
--- "Byte 4 is the round, 1 to 32 in EST and AUX"
+-- of an EST or AUX: the instance is 1 to n, the round 1 to 32 and the count 1 (PROTOCOL 2.4, 2.5)
 abbrev pub voteFields : ℕ → Header → Bool
 voteFields n h = within 1 n (h .instance) && within 1 roundLimit (h .round) && eqb (h .count) 1
 
--- "Byte 5 is the count of values: 1 to n in COMMIT", whose instance and round are 0
+-- of a COMMIT: instance and round are 0, and it has 1 to n values (PROTOCOL 2.6)
 abbrev pub commitFields : ℕ → Header → Bool
 commitFields n h = eqb (h .instance) 0 && eqb (h .round) 0 && within 1 n (h .count)
 
--- bytes 3 to 7 against the layout, by kind: "Bytes 6 and 7 are 0." "In SEND the instance equals the sender."
+-- bytes 3 to 7 keep to the layout, by kind; 6 and 7 are 0, and a SEND's instance is its sender (PROTOCOL 2.1 to 2.6, 2.11)
 unfoldable pub fieldsRight : ℕ → Header → Bool
 fieldsRight n h =
     cond (eqb (h .reserved) 0)
@@ -72,7 +72,7 @@ fieldsRight n h =
 unfoldable pub takenIf : Bool → Message → Parsed
 takenIf right m = cond (not right) (Refused VALUE) (Taken m)
 
--- the message with the header h and the values in v, by kind: "EST and AUX carry 0 or 1. COMMIT values rise strictly."
+-- the message with the header h and the values in v, by kind: an EST or AUX has 0 or 1, a COMMIT values that rise (PROTOCOL 2.4 to 2.6)
 unfoldable pub readValues : Header → List ℕ → Parsed
 readValues h v =
     byKind (h .kind)

@@ -10,7 +10,7 @@ ghost use Prim.Native.Nat.{_+_, _*_, _<_, _≤_};
 ghost use mathlib.Core.List.{[], _∷_, _++_};
 ghost use lib.ListN.{length, drop};
 ghost use Rattle.wire.specs.Message.{countOf, lengthOf, headerWith, headerFor, frontBytes, headerBytes, messageBytes};
-ghost use Rattle.wire.specs.laws.Message.{fitting, counted, written, Wrote};
+ghost use Rattle.wire.specs.laws.Message.{fitting, countedValues, written, Wrote};
 
 // Byte 5.
 fn count_of(m: Message) -> u8
@@ -132,7 +132,7 @@ fn write_values(h: Header, values: &[u64], out: &mut [u8]) -> usize
 
 // The same with as many of the values as the header counts; nothing where there are fewer.
 fn write_counted(h: Header, values: &[u64], out: &mut [u8]) -> usize
-    ensures { λ r. ⌜ Wrote (counted h (now (values .entry)) (now (out .entry))) (now (out .entry)) r (now (out .exit)) ⌝ }
+    ensures { λ r. ⌜ Wrote (countedValues h (now (values .entry)) (now (out .entry))) (now (out .entry)) r (now (out .exit)) ⌝ }
 {
     let count = h.count as usize;
     if values.len() < count {

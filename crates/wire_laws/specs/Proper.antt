@@ -14,13 +14,12 @@ use Rattle.wire.specs.declared.Message.the-variants.{Send, Echo, Ready, Est, Au
 abbrev pub AllBytes : List ℕ → Type 0
 AllBytes b = (i : ℕ) → getD b i 0 < 256
 
--- "8 bytes each": each value fits
+-- a value has eight bytes: each fits (PROTOCOL 2.13)
 abbrev pub Fitting : List ℕ → Type 0
 Fitting [] = Unit
 Fitting (x ∷ xs) = (x < 2 ^ 64) × Fitting xs
 
--- the fields of a message from a sender among n: "Byte 3 is the instance, 1 to n", "In SEND the instance equals the sender", "Byte 4 is
--- the round, 1 to 32 in EST and AUX", "EST and AUX carry 0 or 1", "Byte 5 is the count of values: 1 to n in COMMIT"
+-- the fields of a message from a sender among n, by kind (PROTOCOL 2.1 to 2.6)
 abbrev pub Layout : (n sender : ℕ) → Message → Type 0
 Layout n sender (Send i v) = i ≡ sender
 Layout n sender (Echo i v) = (1 ≤ i) × (i ≤ n)
@@ -29,7 +28,7 @@ Layout n sender (Est i r v) = (1 ≤ i) × (i ≤ n) × (1 ≤ r) × (r ≤ roun
 Layout n sender (Aux i r v) = (1 ≤ i) × (i ≤ n) × (1 ≤ r) × (r ≤ roundLimit) × (v ≤ 1)
 Layout n sender (Commit k) = (1 ≤ k) × (k ≤ n)
 
--- a message that keeps to the layout, with the values xs beside a COMMIT: "COMMIT values rise strictly" (a single value does)
+-- a message that keeps to the layout, with the values xs beside a COMMIT, which rise, as a single value does (PROTOCOL 2.6)
 pub record Proper (n sender : ℕ) (m : Message) (xs : List ℕ) : Type 0 where
   pub layout : Layout n sender m
   pub held : besides m ≤ length xs

@@ -1,4 +1,4 @@
--- The statements of the theorems: what is written is read back, and only what is written is taken.
+-- The statements of the theorems: what is written is read back, and only what is written is taken (PROTOCOL 2.18).
 use Prim.Native.Nat.{ℕ, _+_, _≤_, _<_, _^_}
 use mathlib.Core.Path.{_≡_}
 use mathlib.Core.List.{List}

@@ -7,7 +7,7 @@ use crate::coin_box::BoxOpening;
 /// The words of a box, exactly.
 pub const BOX_WORDS: usize = 552;
 
-/// The functions of `include/pack_agreement.h` on a box.
+/// The functions of `include/pack_agreement.h` on a box. An answer travels as its number.
 pub mod calls {
     extern "C" {
         pub fn pack_box_open(

@@ -9,10 +9,10 @@ use crate::session::Opening;
 
 use calls::{pack_deliver, pack_open, pack_record, pack_report, pack_restore, pack_turn};
 
-/// "The state is a lent buffer of exactly 2,048 words of 64 bits."
+/// The words of a state (PROTOCOL 9.1).
 pub const STATE_WORDS: usize = 2_048;
 
-/// The functions of `include/pack_agreement.h` on a state.
+/// The functions of `include/pack_agreement.h` on a state. An answer travels as its number.
 pub mod calls {
     extern "C" {
         pub fn pack_open(

@@ -32,7 +32,7 @@ pub struct CoinBox {
 }
 
 impl CoinBox {
-    /// "opened, under 1 as a printed session is, with n, ta, ts, weights and n coin words".
+    /// Refused as 1 by the rules of a printed session (PROTOCOL 9.28).
     pub fn open(opening: &BoxOpening) -> Result<CoinBox, Refusal> {
         let settings = Settings::new(opening.n, opening.ta, opening.ts, opening.weights)?;
         if opening.coins.len() != usize::from(settings.n()) {
@@ -41,8 +41,8 @@ impl CoinBox {
         Ok(CoinBox { settings, coins: opening.coins.to_vec(), requesters: BTreeMap::new() })
     }
 
-    /// "Until ta+1 weight has requested a coin, every answer about it is `sealed`; from then on it is the bit", also the
-    /// answer to the request that completes the weight. "repeats count once".
+    /// Sealed until the requesters weigh ta+1, each counted once, then the bit, also for the request that completes the
+    /// weight (PROTOCOL 12.5, 12.6).
     pub fn request(&mut self, requester: u64, vote: u64, round: u64) -> Result<Reply, Refusal> {
         let requester = self.settings.number(requester).ok_or(Refusal::Coin)?;
         let vote = self.settings.number(vote).ok_or(Refusal::Coin)?;

@@ -15,8 +15,7 @@ pub(crate) enum Coins {
 }
 
 impl Coins {
-    /// n words; `boxed` is 0 for printed and 1 for boxed. "boxed sessions give coin words of 0 (another is 1), which are
-    /// not read".
+    /// n words; `boxed` is 0 for printed and 1 for boxed, with which all words are 0 (PROTOCOL 1.10).
     pub fn given(settings: &Settings, words: &[u32], boxed: u64) -> Result<Coins, Refusal> {
         if words.len() != usize::from(settings.n()) {
             return Err(Refusal::Settings);
@@ -37,14 +36,14 @@ impl Coins {
     }
 }
 
-/// "Bit r−1 of word i, lowest bit 0, is the coin of vote i in round r."
+/// The coin of vote i in round r: bit r − 1 of word i (PROTOCOL 1.9).
 pub(crate) fn coin_of(words: &[u32], vote: Number, round: Round) -> bool {
     words[usize::from(vote) - 1] >> (round - 1) & 1 == 1
 }
 
 impl Session {
-    /// Records the bit of a vote and round, reached or not, that a box told. A repeat is accepted. 16 is "a vote or round
-    /// outside the layout, a recorded bit above 1 or against one already there, or a bit recorded in a printed session".
+    /// Records the bit of a vote and round, reached or not, that a box told. A repeat is accepted. PROTOCOL 9.22
+    /// says what is refused as 16.
     pub fn record(&mut self, vote: u64, round: u64, bit: u64) -> Result<(), Refusal> {
         if self.closed {
             return Err(Refusal::Closed);

@@ -144,7 +144,7 @@ impl Message {
     }
 }
 
-/// LENGTH: "under 12 bytes, or not 12 + 8·count". The count is byte 5 as it stands.
+/// LENGTH (PROTOCOL 10.2). The count is byte 5 as it stands.
 fn split(bytes: &[u8]) -> Result<(&[u8; HEAD], &[u8]), Refusal> {
     let (head, tail) = bytes.split_first_chunk::<HEAD>().ok_or(Refusal::Length)?;
     if tail.len() == 8 * usize::from(head[5]) {
@@ -173,7 +173,7 @@ fn read_value(eight: &[u8]) -> u64 {
     eight.iter().fold(0, |value, &byte| value << 8 | u64::from(byte))
 }
 
-/// VALUE: "EST or AUX above 1, or COMMIT not rising". The fields fit, so there is a first value.
+/// VALUE (PROTOCOL 10.7). The fields fit, so there is a first value.
 fn build(kind: Kind, instance: Number, round: Round, values: &[u64]) -> Result<Message, Refusal> {
     let value = values[0];
     Ok(match kind {

@@ -1,4 +1,4 @@
-//! 01: "The report gives the exit, its set, the turn count, and the set in force or none."
+//! The report: exit, its set, count of turns, set in force (PROTOCOL 9.24, 9.25).
 
 use crate::exits::Exit;
 use crate::message::PackSet;

@@ -35,8 +35,8 @@ impl Settings {
     /// The last round in which a vote sends.
     pub const ROUND_LIMIT: Round = 32;
 
-    /// "n from 1 to 16, with ta ≤ ts and 2·ts + ta < n"; N11: n weights from 1 to 4, whose sum W stands for n in the
-    /// last of these. A ta that is not named is then worked out from the others.
+    /// n, ta, ts and n weights within the rules (PROTOCOL 1.1, 1.5, 1.6); W is the sum of the weights. A ta that is not
+    /// named is worked out from the others.
     pub fn new(n: u64, ta: u64, ts: u64, weights: &[u8]) -> Result<Settings, Refusal> {
         let n_fits = (1..=Self::MOST).contains(&n) && weights.len() as u64 == n;
         let weights_fit = weights.iter().all(|weight| (1..=Self::HEAVIEST).contains(weight));
@@ -146,7 +146,7 @@ impl Settings {
         2 * Weight::from(self.ta) + 1
     }
 
-    /// "a session takes at most 99·n+3 turns".
+    /// The most turns of a session (PROTOCOL 8.20).
     pub fn turn_limit(&self) -> u64 {
         99 * u64::from(self.n) + 3
     }
@@ -174,7 +174,7 @@ impl Settings {
     }
 }
 
-/// N8: "the smaller of ts and n−1−2·ts; if 2·ts ≥ n it is refused as 1", W standing for n.
+/// N8: the largest ta that the rules allow, none where 2·ts ≥ W (PROTOCOL 1.7).
 fn unnamed_ta(whole: Weight, ts: u64) -> Result<u64, Refusal> {
     match ts.checked_mul(2) {
         Some(twice) if twice < whole.into() => Ok(ts.min(u64::from(whole) - 1 - twice)),

@@ -27,7 +27,7 @@ impl Vote {
 }
 
 impl Session {
-    /// Rule 6: "Votes, unless Exit 1 holds."
+    /// Rule 6: no vote acts under Exit 1 (PROTOCOL 8.7).
     pub(crate) fn act_in_votes(&mut self) -> Option<Outcome> {
         if matches!(self.exit(), Exit::One(_)) {
             return None;
@@ -35,7 +35,7 @@ impl Session {
         self.settings.numbers().find_map(|instance| self.act_in_vote(instance))
     }
 
-    /// "In each vote: start; then relay; then AUX; then move."
+    /// The order in a vote (PROTOCOL 5.2).
     fn act_in_vote(&mut self, instance: Number) -> Option<Outcome> {
         self.start(instance)
             .or_else(|| self.send_relay(instance))
@@ -80,7 +80,7 @@ impl Session {
         Some(Message::Est { instance, round, value })
     }
 
-    /// "AUX, once a round: when a value is accepted in the current round, send 0 if 0 is accepted, else 1."
+    /// One AUX in each round: 0 where 0 is accepted, otherwise 1 (PROTOCOL 5.6).
     fn send_aux(&mut self, instance: Number) -> Option<Message> {
         let round = self.vote(instance).open_round()?;
         if self.vote(instance).aux_sent {
@@ -92,8 +92,8 @@ impl Session {
         Some(Message::Aux { instance, round, value })
     }
 
-    /// Move, after the own AUX: when held AUXs of at least W−ta carry accepted values. N12: "In a boxed session every move
-    /// is due only once the host has recorded that round's bit".
+    /// Move, after the own AUX: when held AUXs of at least W−ta carry accepted values (PROTOCOL 5.7). A boxed coin must
+    /// have been recorded (5.8).
     fn move_on(&mut self, instance: Number) -> Option<Outcome> {
         let round = self.vote(instance).open_round()?;
         if !self.vote(instance).aux_sent {
@@ -125,14 +125,14 @@ impl Session {
             .collect()
     }
 
-    /// "vote i is decided b if b equals the coin and no decision stands".
+    /// A single value seen is decided where it is the coin and nothing was decided before (PROTOCOL 5.9, 5.10).
     fn decide(&mut self, instance: Number, value: bool, coin: bool) {
         if value == coin {
             self.vote_mut(instance).decision.get_or_insert(value);
         }
     }
 
-    /// "Moving enters the next round and sends its EST. Moving out of round 32 sends nothing."
+    /// A move goes one round on and sends an EST there, but none in round 33 (PROTOCOL 5.11).
     fn enter_next(&mut self, instance: Number, round: Round, estimate: bool) -> Outcome {
         if round < Settings::ROUND_LIMIT {
             return Outcome::Sent(self.enter(instance, round + 1, estimate));

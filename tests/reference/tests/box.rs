@@ -100,8 +100,7 @@ fn numbers(seed: u64) -> impl FnMut(u64) -> u64 {
     }
 }
 
-/// "Two boxes that got the same requests in the same order and differ only in coins still sealed after them must have
-/// answered alike."
+/// No answer depends on a coin that is still sealed (PROTOCOL 12.8).
 #[test]
 fn sealed_coins_change_no_answer() {
     let (mut kept, mut differing) = (0, 0);

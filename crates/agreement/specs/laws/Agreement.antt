@@ -1,10 +1,10 @@
--- Demand 3 over lawful histories, proved: what exits name stays named, a set in force was named before, and two named sets are the same.
+-- Agreement over lawful histories, proved: what exits name stays named, a set in force was named before, and two named sets are the same.
 use Prim.Native.Nat.{ℕ}
 use mathlib.Core.List.{List, [], _∷_}
 use mathlib.Core.Logic.{inl, inr}
 use mathlib.Core.Path.{_≡_, sym, _∙_}
 use native.Mathlib.Omega.{arith}
-use Rattle.exits.specs.Exits.{Standing}
+use Rattle.exits.specs.Standing.{Standing}
 use Rattle.exits.specs.laws.Agree.{Compatible, exits-agree}
 use Rattle.exits.specs.laws.Fair.{named-only}
 use Rattle.agreement.specs.Evidence.{World, Sound, Honest}

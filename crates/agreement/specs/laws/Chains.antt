@@ -13,7 +13,11 @@ use Rattle.held.specs.laws.Held.{Message}
 use Rattle.agreement.specs.Moments.{Within, now, after}
 use Rattle.agreement.specs.laws.Moments.{within-cases}
 use Rattle.agreement.specs.laws.Runs.{Gone, Inv, inv-keep}
-use Rattle.agreement.specs.Calls.{Machine, Call, opening, delivery, turn, report, restore, recording, Moment, Journal, worldWith, place, left, words, bytes, journal, lastTurn, Departed}
+use Rattle.calls.specs.Machine.{Machine, Call, opening, delivery, turn, report, restore, recording, place, left, words}
+use Rattle.agreement.specs.Journals.{Moment, Journal, bytes, journal}
+use Rattle.agreement.specs.laws.Worlds.{worldWith}
+use Rattle.agreement.specs.EngineRestores.{lastTurn}
+use Rattle.agreement.specs.DemandThree.{Departed}
 use Rattle.agreement.specs.laws.Machine.{Reading, Ran}
 use Rattle.agreement.specs.laws.Openings.{did, tell, status, history}
 

@@ -10,7 +10,8 @@ use lib.Dec.{eqb}
 use borrow.Author.Tests.{eq-eqb, eqb-true}
 use Rattle.votes.specs.Votes.{coinValue}
 use Rattle.agreement.specs.Moments.{Within, now, after}
-use Rattle.agreement.specs.Calls.{Machine, Call, opening, delivery, turn, report, restore, recording, place, words, Recorded}
+use Rattle.calls.specs.Machine.{Machine, Call, opening, delivery, turn, report, restore, recording, place, words}
+use Rattle.agreement.specs.DemandThree.{Recorded}
 use Rattle.agreement.specs.laws.Machine.{Reading}
 use Rattle.agreement.specs.laws.Openings.{status, Known, opened-known, known-opened}
 

@@ -1,4 +1,4 @@
--- Every machine that keeps the laws meets demand 3: the claims of specs/Calls.antt.
+-- Every machine that keeps the laws meets the claims of specs/DemandThree.antt.
 use Prim.Native.Nat.{ℕ, _≤_}
 use mathlib.Core.Bool.{Bool}
 use mathlib.Core.List.{List, [], _∷_}
@@ -16,7 +16,10 @@ use Rattle.held.specs.laws.Held.{Message, COMMIT}
 use Rattle.agreement.specs.laws.Runs.{HeldFrom, OutputsHeld, Inv, Due, backing, shows-named, shows-force}
 use Rattle.agreement.specs.Agreement.{Shown}
 use Rattle.agreement.specs.laws.Agreement.{agreement, validity}
-use Rattle.agreement.specs.Calls.{Machine, Call, worldWith, place, words, journal, Shows, Opened, Conditions, PutIn, Earlier, OneSet, NamedFirst, OnlyInput, DemandThree}
+use Rattle.calls.specs.Machine.{Machine, Call, place, words}
+use Rattle.agreement.specs.laws.Worlds.{worldWith}
+use Rattle.agreement.specs.Journals.{journal}
+use Rattle.agreement.specs.DemandThree.{Shows, Opened, Conditions, PutIn, Earlier, OneSet, NamedFirst, OnlyInput, DemandThree}
 use Rattle.agreement.specs.laws.Machine.{Reading, Active, Laws}
 use Rattle.agreement.specs.laws.Coins.{Coined, coinsOf, agreeing-coined}
 use Rattle.agreement.specs.laws.Openings.{did, tell, status, history, opened-known, known-opened, TurnDid, did-turn}

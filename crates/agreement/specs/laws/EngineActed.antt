@@ -30,8 +30,8 @@ use Rattle.agreement.specs.History.{Act, echo, aux, move, Decision, zero
 use Rattle.held.specs.laws.Held.{Numbered}
 use Rattle.held.specs.laws.Keeping.{kept-holding, held-back}
 use Rattle.agreement.specs.laws.Runs.{Decides, Changed, Kept, Acted, CoinsAre}
-use Rattle.agreement.specs.Calls.{worldWith}
-use Rattle.agreement.specs.EngineCalls.{OpeningGiven, agreed, engine}
+use Rattle.agreement.specs.laws.Worlds.{worldWith}
+use Rattle.calls.specs.Engine.{OpeningGiven, agreed, engine}
 use Rattle.agreement.specs.laws.EngineSeen.{engineSeen}
 use Rattle.agreement.specs.laws.EngineReading.{Belongs, shownAct}
 

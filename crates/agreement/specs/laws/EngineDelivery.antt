@@ -37,7 +37,7 @@ use Rattle.agreement.specs.History.{Decision, zero, one}
 use Rattle.held.specs.laws.Held.{Message, meaning}
 use Rattle.held.specs.laws.Recording.{held-recorded}
 use Rattle.agreement.specs.laws.Runs.{Delivered, CoinsStay}
-use Rattle.agreement.specs.EngineCalls.{OpeningGiven, Agreed, Bytes, engine}
+use Rattle.calls.specs.Engine.{OpeningGiven, Agreed, Bytes, engine}
 use Rattle.agreement.specs.laws.Machine.{at, Delivery}
 use Rattle.agreement.specs.laws.EngineSeen.{engineSeen, coins-stay}
 use Rattle.agreement.specs.laws.EngineReading.{Belongs, Sets, Belonging, Says, engineReading}

@@ -1,7 +1,8 @@
--- The engine keeps the laws, so demand 3 holds of it.
+-- The engine keeps the laws, so agreement holds of it.
 use Prim.Native.Nat.{ℕ}
 use mathlib.Core.Bool.{Bool}
-use Rattle.agreement.specs.EngineCalls.{engine, EngineAgrees}
+use Rattle.calls.specs.Engine.{engine}
+use Rattle.agreement.specs.DemandThree.{EngineAgrees}
 use Rattle.agreement.specs.laws.Machine.{Laws}
 use Rattle.agreement.specs.laws.Demand.{demand-three}
 use Rattle.agreement.specs.laws.EngineReading.{engineReading}

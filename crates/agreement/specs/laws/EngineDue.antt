@@ -62,7 +62,7 @@ module _ (s : List ℕ) (ruled : Ruled (settingsOf s)) (size : length s ≡ 2048
 
   -- ---- broadcasts
 
-  echoes-held : (i v : ℕ) → Numbered i → quorum g ≤ holders (g .weights) (echoHeld s i) (echoValue s i) v (g .n) → HeldFrom W engineSeen s (whole W) (g .ts) (ECHO i v)
+  echoes-held : (i v : ℕ) → Numbered i → quorum g ≤ holders g (echoHeld s i) (echoValue s i) v → HeldFrom W engineSeen s (whole W) (g .ts) (ECHO i v)
   unfolding holders
   echoes-held i v n h =
       by-quorum W ruled (λ p. echoHeld s i p && eqb (echoValue s i p) v)
@@ -75,7 +75,7 @@ module _ (s : List ℕ) (ruled : Ruled (settingsOf s)) (size : length s ≡ 2048
   ready-held i v n m t =
       record { instance = n; there = and-left (readyHeld s i m) (eqb (readyValue s i m) v) t; same = eqb-true (readyValue s i m) v (and-right (readyHeld s i m) (eqb (readyValue s i m) v) t) }
 
-  ready-due : (i v : ℕ) → Numbered i → (quorum g ≤ holders (g .weights) (echoHeld s i) (echoValue s i) v (g .n)) ⊎ (repeat g ≤ holders (g .weights) (readyHeld s i) (readyValue s i) v (g .n)) → HeldFrom W engineSeen s (whole W) (g .ts) (ECHO i v) ⊎ HeldFrom W engineSeen s (g .ts + 1) 0 (READY i v)
+  ready-due : (i v : ℕ) → Numbered i → (quorum g ≤ holders g (echoHeld s i) (echoValue s i) v) ⊎ (repeat g ≤ holders g (readyHeld s i) (readyValue s i) v) → HeldFrom W engineSeen s (whole W) (g .ts) (ECHO i v) ⊎ HeldFrom W engineSeen s (g .ts + 1) 0 (READY i v)
   unfolding holders
   ready-due i v n (inl h) = inl (echoes-held i v n h)
   ready-due i v n (inr h) = inr (by-repeat W ruled (readies i v) (λ m lo hi t. ready-held i v n m t) h)
@@ -145,12 +145,12 @@ module _ (s : List ℕ) (ruled : Ruled (settingsOf s)) (size : length s ≡ 2048
         same = same-set s p q size (omega (arith, ruled .few)) (omega (arith, ruled .few)) (and-right (commitHeld s q) (sameSet s p q) t);
       }
 
-  copies-due : (p : ℕ) → SetHeld (g .weights) s (g .n) (repeat g) p → HeldFrom W engineSeen s (g .ts + 1) 0 (COMMIT (commitSet s p))
+  copies-due : (p : ℕ) → SetHeld g s (repeat g) p → HeldFrom W engineSeen s (g .ts + 1) 0 (COMMIT (commitSet s p))
   unfolding setHolders
   copies-due p x = by-repeat W ruled (holding p) (λ m lo hi t. commit-held p m (x .high) hi t) (x .enough)
 
-  -- n−ts senders hold the set of p
-  pub force-due : (p : ℕ) → SetHeld (g .weights) s (g .n) (quorum g) p → HeldFrom W engineSeen s (whole W) (g .ts) (COMMIT (commitSet s p))
+  -- a quorum of senders holds the set of p
+  pub force-due : (p : ℕ) → SetHeld g s (quorum g) p → HeldFrom W engineSeen s (whole W) (g .ts) (COMMIT (commitSet s p))
   unfolding setHolders
   force-due p x = by-quorum W ruled (holding p) (λ m lo hi t. commit-held p m (x .high) hi t) (x .enough)
 

@@ -17,8 +17,9 @@ use Rattle.restore.specs.Complete.{linesOf, joined}
 use Rattle.restore.specs.Restoring.{Point, firstLine, nextLine, Replay, wrong, right, appliedOr, further, replay, replayAnswer, replayWords, lentAnswer, accepted, restoreAnswer, restoredWords}
 use Rattle.restore.specs.laws.Written.{Without, AllWithout, lines-joined, joined-more, all-more, free-part, replay-one, replay-more}
 use Rattle.restore.specs.laws.WrittenLines.{EachByte, opening-without, delivery-without, turn-without, recording-without, first-reads, delivery-reads, turn-reads, recording-reads}
-use Rattle.agreement.specs.Calls.{Call, opening, delivery, turn, report, restore, recording, line}
-use Rattle.agreement.specs.EngineCalls.{OpeningGiven, Bytes, TurnLent, RestoreLent, BitGiven, engine}
+use Rattle.calls.specs.Machine.{Call, opening, delivery, turn, report, restore, recording}
+use Rattle.agreement.specs.Journals.{line}
+use Rattle.calls.specs.Engine.{OpeningGiven, Bytes, TurnLent, RestoreLent, BitGiven, engine}
 use Rattle.agreement.specs.laws.Machine.{Ran, by-opening, by-delivery, by-turn, by-recording, Torn, nothing, part}
 use Rattle.agreement.specs.laws.EngineOpening.{without-line, told, opened-first}
 use Rattle.agreement.specs.EngineRestores.{Last}

@@ -21,7 +21,7 @@ use Rattle.turn.specs.Turn.{withTurnCounted, entered, newDecision, moveDecided,
 use Rattle.turn.specs.Turn as turn
 use Rattle.turn.specs.laws.Told.{ActTold}
 use Rattle.turn.specs.laws.Frame.{Placed, told-placed, setting, coins, beyond, length-applied, applied-kept}
-use Rattle.agreement.specs.EngineCalls.{OpeningGiven}
+use Rattle.calls.specs.Engine.{OpeningGiven}
 use Rattle.agreement.specs.laws.Runs.{CoinsStay}
 use Rattle.agreement.specs.laws.EngineSeen.{engineSeen, coins-stay}
 use Rattle.agreement.specs.laws.EngineReading.{Belongs}

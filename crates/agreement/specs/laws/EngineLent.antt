@@ -12,7 +12,7 @@ use Rattle.turn.specs.Turn.{turnOutcome, turnBytes}
 use Rattle.turn.specs.declared.Outcome.the-variants as outcome
 use Rattle.journal.specs.Journal.{LINE-BYTES, turnRoom, acts}
 use Rattle.journal.specs.laws.Journal.{turn-enough, message-kept}
-use Rattle.agreement.specs.EngineCalls.{Bytes, TurnLent, SendsBytes}
+use Rattle.calls.specs.Engine.{Bytes, TurnLent, SendsBytes}
 
 unfoldable pub forMessage : TurnLent → List ℕ
 forMessage l = cond (ltb (l .line) LINE-BYTES) [] (l .message)

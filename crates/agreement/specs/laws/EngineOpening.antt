@@ -31,7 +31,7 @@ use Rattle.journal.specs.laws.Journal.{line-taken, line-words, line-stays}
 use Rattle.agreement.specs.History.{Decision, zero, one}
 use Rattle.held.specs.laws.Held.{Message, SEND, ECHO, READY, EST, AUX, COMMIT, holds}
 use Rattle.agreement.specs.laws.Runs.{Blank}
-use Rattle.agreement.specs.EngineCalls.{OpeningGiven, agreed, engine}
+use Rattle.calls.specs.Engine.{OpeningGiven, agreed, engine}
 use Rattle.agreement.specs.laws.Machine.{at}
 use Rattle.agreement.specs.laws.EngineSeen.{CoinShown, engineSeen}
 use Rattle.agreement.specs.laws.EngineReading.{Belongs, Sets, Belonging, engineReading}

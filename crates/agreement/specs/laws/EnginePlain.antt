@@ -1,11 +1,11 @@
--- In a session with printed coins the conditions as they were before there were recordings, and in lists without restores as they were before
--- there were any, give those of specs/Calls.antt: nothing that demand 3 says of such lists is lost.
+-- In a session with printed coins, conditions that ask nothing of recordings, and in lists without restores nothing of journals, give those of
+-- specs/DemandThree.antt.
 use Prim.Native.Nat.{ℕ}
 use mathlib.Core.Bool.{true}
 use mathlib.Core.List.{List}
 use mathlib.Core.Path.{_≡_, ap}
 use Rattle.journal.specs.Journal.{acts}
-use Rattle.agreement.specs.EngineCalls.{engine, Bytes, TurnLent, SendsBytes}
+use Rattle.calls.specs.Engine.{engine, Bytes, TurnLent, SendsBytes}
 use Rattle.agreement.specs.laws.Plain.{printed-conditions, plain-conditions}
 use Rattle.agreement.specs.Plain.{PrintedMeets, PlainMeets}
 

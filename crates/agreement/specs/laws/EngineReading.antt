@@ -24,7 +24,7 @@ use Rattle.turn.specs.declared.Admitted.{Admitted}
 use Rattle.turn.specs.declared.Admitted.the-variants as admitted
 use Rattle.held.specs.laws.Held.{Message, meaning}
 use Rattle.agreement.specs.History.{Act, send, echo, ready, start, relay, aux, move, commit}
-use Rattle.agreement.specs.EngineCalls.{OpeningGiven, Agreed, Bytes, TurnLent, engine}
+use Rattle.calls.specs.Engine.{OpeningGiven, Agreed, Bytes, TurnLent, engine}
 use Rattle.agreement.specs.laws.Machine.{Reading}
 use Rattle.agreement.specs.laws.EngineSeen.{engineSeen}
 use Rattle.agreement.specs.laws.EngineLent.{forMessage}

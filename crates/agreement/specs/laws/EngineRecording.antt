@@ -24,7 +24,7 @@ use Rattle.journal.specs.laws.Journal.{line-taken, line-words, line-stays}
 use Rattle.agreement.specs.Evidence.{World}
 use Rattle.agreement.specs.History.{Decision, zero, one}
 use Rattle.agreement.specs.laws.Runs.{Kept}
-use Rattle.agreement.specs.EngineCalls.{OpeningGiven, BitGiven, agreed, engine}
+use Rattle.calls.specs.Engine.{OpeningGiven, BitGiven, agreed, engine}
 use Rattle.agreement.specs.laws.Machine.{at, BitRecorded}
 use Rattle.agreement.specs.laws.Coins.{bit-value}
 use Rattle.agreement.specs.laws.EngineSeen.{CoinShown, engineSeen}

@@ -32,8 +32,8 @@ use Rattle.agreement.specs.Evidence.{World, whole}
 use Rattle.agreement.specs.History.{Act, Names}
 use Rattle.held.specs.laws.Held.{COMMIT}
 use Rattle.agreement.specs.laws.Runs.{HeldFrom, OutputsHeld}
-use Rattle.agreement.specs.Calls.{worldWith}
-use Rattle.agreement.specs.EngineCalls.{OpeningGiven, agreed, TurnLent, ReportNames, ReportEnforces, engine}
+use Rattle.agreement.specs.laws.Worlds.{worldWith}
+use Rattle.calls.specs.Engine.{OpeningGiven, agreed, TurnLent, ReportNames, ReportEnforces, engine}
 use Rattle.agreement.specs.laws.EngineSeen.{engineSeen}
 use Rattle.agreement.specs.laws.EngineLent.{forMessage}
 use Rattle.agreement.specs.laws.EngineReading.{Belongs, admittedAct, actOf}
@@ -113,17 +113,17 @@ module _ (o : OpeningGiven) (H : ℕ → Bool) (κ : ℕ → ℕ → Bool) (w : 
   -- a set that leads is that of a sender
   record Leads (g : Settings) : Type 0 where
     sender : ℕ
-    leads : setLeader (g .weights) w (g .n) (quorum g) ≢ 0
-    same : inForceSet g w ≡ commitSet w (setLeader (g .weights) w (g .n) (quorum g))
+    leads : setLeader g w (quorum g) ≢ 0
+    same : inForceSet g w ≡ commitSet w (setLeader g w (quorum g))
 
   leading : (g : Settings) → length (inForceSet g w) ≢ 0 → Leads g
   unfolding inForceSet leadingSet setOf
-  leading g ne = go (closed w) refl (ℕ-discrete (setLeader (g .weights) w (g .n) (quorum g)) 0)
+  leading g ne = go (closed w) refl (ℕ-discrete (setLeader g w (quorum g)) 0)
     where
-      go : (c : Bool) → closed w ≡ c → Dec (setLeader (g .weights) w (g .n) (quorum g) ≡ 0) → Leads g
+      go : (c : Bool) → closed w ≡ c → Dec (setLeader g w (quorum g) ≡ 0) → Leads g
       go false e d = absurd (ne (rw e))
-      go true e (yes z) = absurd (ne (rw (e, eq-eqb (setLeader (g .weights) w (g .n) (quorum g)) 0 z)))
-      go true e (no z) = record { sender = setLeader (g .weights) w (g .n) (quorum g); leads = z; same = rw (e, ne-eqb (setLeader (g .weights) w (g .n) (quorum g)) 0 z) }
+      go true e (yes z) = absurd (ne (rw (e, eq-eqb (setLeader g w (quorum g)) 0 z)))
+      go true e (no z) = record { sender = setLeader g w (quorum g); leads = z; same = rw (e, ne-eqb (setLeader g w (quorum g)) 0 z) }
 
   pub force-held : (X : List ℕ) → ReportEnforces w X → HeldFrom W engineSeen w (whole W) (W .settings .ts) (COMMIT X)
   unfolding figuresOf
@@ -132,7 +132,7 @@ module _ (o : OpeningGiven) (H : ℕ → Bool) (κ : ℕ → ℕ → Bool) (w : 
       (of (reported w 16 16 (h .figures) (h .given)))
     where
       with-leader : X ≡ inForceSet (settingsOf w) w → Leads (settingsOf w) → HeldFrom (record { settings = settingsOf w; honest = H; coin = W .coin }) engineSeen w (whole (record { settings = settingsOf w; honest = H; coin = W .coin })) (settingsOf w .ts) (COMMIT X)
-      with-leader same l = rw (same ∙ l .same) (force-due w ruled (x .size) H (W .coin) (setLeader (settingsOf w .weights) w (settingsOf w .n) (quorum (settingsOf w))) (leader-holds (settingsOf w .weights) w (settingsOf w .n) (quorum (settingsOf w)) (l .leads)))
+      with-leader same l = rw (same ∙ l .same) (force-due w ruled (x .size) H (W .coin) (setLeader (settingsOf w) w (quorum (settingsOf w))) (leader-holds (settingsOf w) w (quorum (settingsOf w)) (l .leads)))
 
       of : Reported w (h .figures) → HeldFrom (record { settings = settingsOf w; honest = H; coin = W .coin }) engineSeen w (whole (record { settings = settingsOf w; honest = H; coin = W .coin })) (settingsOf w .ts) (COMMIT X)
       of r =

@@ -12,8 +12,10 @@ use Rattle.journal.specs.Journal.{turnRoom}
 use Rattle.journal.specs.laws.Journal.{acts-outcome}
 use Rattle.restore.specs.Restoring.{MESSAGE-BYTES, lengthAgain, bytesAgain, replayAnswer, replayWords, replayBytes, lentAnswer, restoreAnswer, restoredWords, restoredBytes}
 use Rattle.agreement.specs.Moments.{Within, now}
-use Rattle.agreement.specs.Calls.{Moment, Journal, words, bytes, journal, lastTurn}
-use Rattle.agreement.specs.EngineCalls.{engine, OpeningGiven, Bytes, TurnLent}
+use Rattle.agreement.specs.Journals.{Moment, Journal, bytes, journal}
+use Rattle.calls.specs.Machine.{words}
+use Rattle.agreement.specs.EngineRestores.{lastTurn}
+use Rattle.calls.specs.Engine.{engine, OpeningGiven, Bytes, TurnLent}
 use Rattle.agreement.specs.laws.Openings.{opened-known}
 use Rattle.agreement.specs.laws.Coins.{coinsOf, agreeing-coined}
 use Rattle.agreement.specs.laws.Journals.{cut-at, complete-within}

@@ -56,8 +56,8 @@ use Rattle.agreement.specs.Evidence.{World}
 use Rattle.agreement.specs.History.{Act, commit, move}
 use Rattle.held.specs.laws.Held.{Message, EST, meaning}
 use Rattle.agreement.specs.laws.Runs as runs
-use Rattle.agreement.specs.Calls.{worldWith}
-use Rattle.agreement.specs.EngineCalls.{OpeningGiven, agreed, Bytes, engine}
+use Rattle.agreement.specs.laws.Worlds.{worldWith}
+use Rattle.calls.specs.Engine.{OpeningGiven, agreed, Bytes, engine}
 use Rattle.agreement.specs.laws.EngineSeen.{engineSeen}
 use Rattle.agreement.specs.laws.EngineLent.{SendsPlain}
 use Rattle.agreement.specs.laws.EngineReading.{Belongs, Sets, shownAct, Says}
@@ -144,13 +144,13 @@ module _ (o : OpeningGiven) (H : ℕ → Bool) (κ : ℕ → ℕ → Bool) (w : 
   unfolding rises risesFrom
   single m v l b e f = record { layout = l; held = omega arith; fits = rw e (f, tt); rising = rw e }
 
-  ready-fits : (i v : ℕ) → (quorum g ≤ holders (g .weights) (echoHeld w i) (echoValue w i) v (g .n)) ⊎ (repeat g ≤ holders (g .weights) (readyHeld w i) (readyValue w i) v (g .n)) → v < 2 ^ 64
+  ready-fits : (i v : ℕ) → (quorum g ≤ holders g (echoHeld w i) (echoValue w i) v) ⊎ (repeat g ≤ holders g (readyHeld w i) (readyValue w i) v) → v < 2 ^ 64
   unfolding echoValue readyValue
   ready-fits i v (inl h) =
-      let k = holders-some (g .weights) (echoHeld w i) (echoValue w i) (g .n) v (omega (arith, ruled-bounds g (x .ruled) .quorum-some)) in
+      let k = holders-some g (echoHeld w i) (echoValue w i) v (omega (arith, ruled-bounds g (x .ruled) .quorum-some)) in
       rw (← k .same) (x .fits (239 + 16 * i + k .at))
   ready-fits i v (inr h) =
-      let k = holders-some (g .weights) (readyHeld w i) (readyValue w i) (g .n) v (omega (arith, repeat-sum g)) in
+      let k = holders-some g (readyHeld w i) (readyValue w i) v (omega (arith, repeat-sum g)) in
       rw (← k .same) (x .fits (495 + 16 * i + k .at))
 
   estimate-bit : (k : Bool) (v : View) → ((b : ℕ) → v ≡ Only b → b ≤ 1) → estimate k v ≤ 1

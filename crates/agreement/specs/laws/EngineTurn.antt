@@ -23,7 +23,7 @@ use Rattle.session.specs.declared.Session.{Session}
 use Rattle.opening.specs.Arguments.{settingsBy}
 use Rattle.turn.specs.Due.{due}
 use Rattle.turn.specs.laws.Due.{due-told}
-use Rattle.turn.specs.Turn.{applied, moveOutcome, outcomeOf, admits, outcomeFor, wordsFor, bytesFor, sentLength, turnOutcome, turnWords, turnBytes}
+use Rattle.turn.specs.Turn.{applied, moveOutcome, outcomeOf, admits, taking, sentLength, turnOutcome, turnWords, turnBytes}
 use Rattle.turn.specs.laws.Told.{ActTold}
 use Rattle.turn.specs.laws.Admitting.{Admitting, admitting, admitted-ruled, admitted-turns}
 use Rattle.turn.specs.laws.Frame.{told-placed, length-applied, applied-kept}
@@ -39,8 +39,8 @@ use Rattle.turn.specs.laws.Stored.{room-enough}
 use Rattle.agreement.specs.Evidence.{World}
 use Rattle.agreement.specs.History.{Act, send}
 use Rattle.held.specs.laws.Keeping.{kept-holding, count-back, set-back}
-use Rattle.agreement.specs.Calls.{worldWith}
-use Rattle.agreement.specs.EngineCalls.{OpeningGiven, agreed, Bytes, TurnLent, SendsBytes, engine}
+use Rattle.agreement.specs.laws.Worlds.{worldWith}
+use Rattle.calls.specs.Engine.{OpeningGiven, agreed, Bytes, TurnLent, SendsBytes, engine}
 use Rattle.agreement.specs.laws.Runs.{CoinsAre, CoinsStay}
 use Rattle.agreement.specs.laws.Machine.{Turned}
 use Rattle.agreement.specs.laws.EngineSeen.{engineSeen}
@@ -69,7 +69,7 @@ module _ (o : OpeningGiven) (w : List ℕ) (x : Belongs o w) where
   -- a turn that is admitted is one of the session
   module _ (lent : List ℕ) where
     taken-as : (y : Session) → admits w (length lent) ≡ admitted.Open y → Taken w lent y
-    unfolding turnOutcome outcomeFor turnWords wordsFor turnBytes bytesFor
+    unfolding taking turnOutcome turnWords turnBytes
     taken-as y e =
         let h : Admitting w (length lent) y = admitting w (length lent) y e in
         record { admits = h; told = due-told (y .settings) w (admitted-ruled w (length lent) y h); answer = rw e; words = rw e; bytes = rw e }
@@ -81,11 +81,11 @@ module _ (o : OpeningGiven) (w : List ℕ) (x : Belongs o w) where
     taken y e = subst (Taken w lent) (taken-session y e) (taken-as y e)
 
     refused-words : (k : ℕ) → admits w (length lent) ≡ admitted.Refused k → turnWords w (length lent) ≡ w
-    unfolding turnWords wordsFor
+    unfolding taking turnWords
     refused-words k e = rw e
 
     refused-answer : (k : ℕ) → admits w (length lent) ≡ admitted.Refused k → turnOutcome w (length lent) ≡ outcome.Refused k
-    unfolding turnOutcome outcomeFor
+    unfolding taking turnOutcome
     refused-answer k e = rw e
 
     refused-silent : (k : ℕ) → admits w (length lent) ≡ admitted.Refused k → (b : Bytes) → SendsPlain w lent b → ⊥
@@ -211,12 +211,12 @@ idle-words own s (act.Move i r v) e = absurd (go (ltb r roundLimit) (outcome.Sen
     go false y f g = false≢true (sym f)
 
 pub turn-idle : (w : List ℕ) (l : TurnLent) → engine .acts w l ≡ false → engine .turned w l ≡ w
-unfolding turnOutcome outcomeFor turnWords wordsFor
-turn-idle w l e = go (admits w (turnRoom (length (l .message)) (l .line))) e
+unfolding taking turnOutcome turnWords
+turn-idle w l e = go (admits w (turnRoom (length (l .message)) (l .line))) refl
   where
-    go : (v : Admitted) → journal.acts (outcomeFor v w) ≡ false → wordsFor v w ≡ w
-    go (admitted.Refused k) f = refl
-    go (admitted.Open y) f = idle-words (y .own) w (due (y .settings) w) f
+    go : (v : Admitted) → admits w (turnRoom (length (l .message)) (l .line)) ≡ v → turnWords w (turnRoom (length (l .message)) (l .line)) ≡ w
+    go (admitted.Refused k) f = rw f
+    go (admitted.Open y) f = rw f (idle-words (y .own) w (due (y .settings) w) (rw f at e))
 
 -- ---- a message that was sent, again
 

@@ -12,7 +12,10 @@ use lib.Seq.{take-all, take-nil, take-append-le, take-append-add}
 use borrow.Author.Tests.{eqb-true, leb-true, leb-false, le-leb}
 use Rattle.agreement.specs.Moments.{Within, now, after}
 use Rattle.agreement.specs.laws.Moments.{within-tail, within-trans, within-cases, within-none}
-use Rattle.agreement.specs.Calls.{Machine, Call, opening, delivery, turn, report, restore, recording, Moment, Journal, place, words, newest, bytes, complete, wrote, Stands, journal, Opened, Sent, Departed, Recorded, Conditions, world}
+use Rattle.calls.specs.Machine.{Machine, Call, opening, delivery, turn, report, restore, recording, place, words}
+use Rattle.agreement.specs.Journals.{Moment, Journal, newest, bytes, complete, wrote, Stands, journal}
+use Rattle.agreement.specs.DemandThree.{Opened, Sent, Departed, Recorded, Conditions}
+use Rattle.agreement.specs.laws.Worlds.{world}
 use Rattle.agreement.specs.Evidence.{Honest}
 use Rattle.agreement.specs.laws.Machine.{Torn, nothing, part}
 

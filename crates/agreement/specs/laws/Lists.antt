@@ -16,7 +16,11 @@ use Rattle.held.specs.laws.Held.{Message, ECHO, AUX}
 use Rattle.agreement.specs.Moments.{Within, now, after}
 use Rattle.agreement.specs.laws.Moments.{within-tail, within-trans, within-cases, within-none}
 use Rattle.agreement.specs.laws.Runs.{Said, message, echo-of, aux-of, said-of, Gone, Credit, CoinsAre, due-guard, inv-blank, inv-fewer, inv-kept, inv-delivered, inv-acted}
-use Rattle.agreement.specs.Calls.{Machine, Call, opening, delivery, turn, report, restore, recording, Moment, Journal, world, worldWith, place, left, words, wrote, bytes, complete, journal, lastTurn, Sent, FallsBack, Conditions}
+use Rattle.calls.specs.Machine.{Machine, Call, opening, delivery, turn, report, restore, recording, place, left, words}
+use Rattle.agreement.specs.Journals.{Moment, Journal, wrote, bytes, complete, journal}
+use Rattle.agreement.specs.laws.Worlds.{world, worldWith}
+use Rattle.agreement.specs.EngineRestores.{lastTurn}
+use Rattle.agreement.specs.DemandThree.{Sent, FallsBack, Conditions}
 use Rattle.agreement.specs.laws.Machine.{Reading, Turned, Laws, by-opening, by-delivery, by-turn}
 use Rattle.agreement.specs.laws.Openings.{none-some, becomes, did, tell, status, history, Known, opened-known, known-opened}
 use Rattle.agreement.specs.laws.Coins.{Coined}

@@ -1,4 +1,4 @@
--- The laws that a machine must keep so that the claims of specs/Calls.antt hold of it. A machine comes with a reading of its words:
+-- The laws that a machine must keep so that the claims of specs/DemandThree.antt hold of it. A machine comes with a reading of its words:
 -- what they show, what a turn does, which words belong to a session, and what bytes say. The laws ask of words that belong to a session:
 --   opening    accepted: the settings are within the rules, the words belong to the session and show nothing held or decided.
 --   delivery   refused: the words stay. Accepted: the bytes say one message, and the words hold at most that one more.
@@ -22,7 +22,9 @@ use Rattle.agreement.specs.Evidence.{World, whole}
 use Rattle.agreement.specs.History.{Act, send, Names}
 use Rattle.held.specs.laws.Held.{Message, COMMIT}
 use Rattle.agreement.specs.laws.Runs.{message, Seen, HeldFrom, OutputsHeld, Due, Kept, Delivered, Acted, Blank, CoinsAre, CoinsStay}
-use Rattle.agreement.specs.Calls.{Machine, Call, line, worldWith}
+use Rattle.calls.specs.Machine.{Machine, Call}
+use Rattle.agreement.specs.Journals.{line}
+use Rattle.agreement.specs.laws.Worlds.{worldWith}
 
 -- w are the words after calls that wrote the lines t, each accepted, one after another; `last` has those before the last call, and what it was
 -- lent, where it is a turn

@@ -9,7 +9,8 @@ use lib.Dec.{eqb}
 use borrow.Author.Tests.{eq-eqb, eqb-true}
 use Rattle.agreement.specs.History.{Act, History, by}
 use Rattle.agreement.specs.Moments.{Within, now, after}
-use Rattle.agreement.specs.Calls.{Machine, Call, opening, delivery, turn, report, restore, recording, place, words, Opened}
+use Rattle.calls.specs.Machine.{Machine, Call, opening, delivery, turn, report, restore, recording, place, words}
+use Rattle.agreement.specs.DemandThree.{Opened}
 use Rattle.agreement.specs.laws.Machine.{Reading}
 
 pub none-some : {A : Type 0} (x : A) → none ≡ some x → ⊥

@@ -1,4 +1,4 @@
--- The conditions of printed sessions, with and without restores, give those of specs/Calls.antt.
+-- The conditions of printed sessions, with and without restores, give those of specs/DemandThree.antt.
 use Prim.Native.Nat.{ℕ}
 use mathlib.Core.Bool.{Bool, true, false, false≢true}
 use mathlib.Core.List.{List, _∷_}
@@ -7,7 +7,9 @@ use lib.Dec.{eqb}
 use borrow.Author.Tests.{eq-eqb}
 use Rattle.agreement.specs.Moments.{Within, now, after}
 use Rattle.agreement.specs.laws.Moments.{within-tail, within-trans}
-use Rattle.agreement.specs.Calls.{Machine, Call, delivery, turn, restore, place, words, journal, Stands, Sent, Conditions}
+use Rattle.calls.specs.Machine.{Machine, Call, delivery, turn, restore, place, words}
+use Rattle.agreement.specs.Journals.{journal, Stands}
+use Rattle.agreement.specs.DemandThree.{Sent, Conditions}
 use Rattle.agreement.specs.laws.Journals.{sent-step}
 use Rattle.agreement.specs.Plain.{NoRestore, Plain, Answered, Once, PrintedConditions, PlainConditions}
 

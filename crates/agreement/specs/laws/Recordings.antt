@@ -11,7 +11,11 @@ use Rattle.agreement.specs.Evidence.{World}
 use Rattle.agreement.specs.History.{Act, History}
 use Rattle.agreement.specs.Moments.{Within}
 use Rattle.agreement.specs.laws.Runs.{CoinsAre, inv-fewer, inv-kept}
-use Rattle.agreement.specs.Calls.{Machine, Call, recording, Moment, Journal, worldWith, words, bytes, journal, lastTurn, Opened}
+use Rattle.calls.specs.Machine.{Machine, Call, recording, words}
+use Rattle.agreement.specs.Journals.{Moment, Journal, bytes, journal}
+use Rattle.agreement.specs.laws.Worlds.{worldWith}
+use Rattle.agreement.specs.EngineRestores.{lastTurn}
+use Rattle.agreement.specs.DemandThree.{Opened}
 use Rattle.agreement.specs.laws.Machine.{Reading, Laws, by-recording}
 use Rattle.agreement.specs.laws.Openings.{none-some}
 use Rattle.agreement.specs.laws.Coins.{Coined}

@@ -11,7 +11,7 @@ use Rattle.acts.specs.declared.View.{View}
 use Rattle.acts.specs.declared.View.the-variants.{Only}
 use Rattle.votes.specs.Votes.{estimate, coinValue}
 use Rattle.broadcasts.specs.declared.Output.the-variants.{Value}
-use Rattle.exits.specs.Exits.{Standing}
+use Rattle.exits.specs.Standing.{Standing}
 use Rattle.held.specs.laws.Held.{Message, SEND, ECHO, READY, EST, AUX, COMMIT}
 use Rattle.agreement.specs.Evidence.{World, whole, Honest, Backed}
 use Rattle.agreement.specs.laws.Evidence.{backed-map}

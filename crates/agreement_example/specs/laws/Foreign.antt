@@ -7,18 +7,20 @@ use lib.ListN.{length}
 use Rattle.records.specs.Layout.{stateWords}
 use Rattle.records.specs.Words.{blank}
 use Rattle.opening.specs.Opening.{openWords}
-use Rattle.journal.specs.Journal.{LINE-BYTES}
 use Rattle.turn_bound.specs.laws.Computing.{calls}
 use Rattle.agreement.specs.Moments.{Within, now, after}
 use Rattle.agreement.specs.laws.Moments.{within-none}
-use Rattle.agreement.specs.Calls.{Call, opening, turn, words, journal, Sent}
-use Rattle.agreement.specs.EngineCalls.{engine, TurnLent}
-use Rattle.agreement_example.specs.Checking.{opens, listed}
+use Rattle.calls.specs.Machine.{Call, opening, turn, words}
+use Rattle.agreement.specs.Journals.{journal}
+use Rattle.agreement.specs.DemandThree.{Sent}
+use Rattle.calls.specs.Engine.{engine, TurnLent}
+use Rattle.calls.specs.Given.{turnWith}
+use Rattle.agreement_check.specs.Checking.{opens, listed}
 use Rattle.agreement_example.specs.laws.Computing.{checks}
-use Rattle.agreement_example.specs.Example.{Sized}
-use Rattle.agreement_example.specs.laws.Example.{passes, passes-example}
-use Rattle.agreement_example.specs.laws.Tracking.{AllSized}
-use Rattle.agreement_example.specs.laws.Tracks.{words-here, size-next, opens-sized, opened-sized, listed-honest}
+use Rattle.agreement_check.specs.Example.{Sized}
+use Rattle.agreement_check.specs.laws.Example.{passes, passes-example}
+use Rattle.agreement_check.specs.laws.Tracking.{AllSized}
+use Rattle.agreement_check.specs.laws.Tracks.{words-here, size-next, opens-sized, opened-sized, listed-honest}
 use Rattle.agreement_example.specs.Messages.{inputFive, turnOf}
 use Rattle.agreement_example.specs.Weighted.{session, firstTwo, openings, turns, toBoth, fromBoth, twice, withReadies, withAuxes, withLastAuxes, withSets, weightedCalls}
 use Rattle.agreement_example.specs.Foreign.{asFourth, asSecond, unsent, foreign, foreignCalls, OpenedAs, Uncredited, ForeignMeet}
@@ -57,7 +59,7 @@ opens-second = refl
 
 -- what the turn is lent
 abbrev lent : TurnLent
-lent = record { message = blank 140; line = LINE-BYTES }
+lent = turnWith (blank 140)
 
 taken : engine .accepts (engine .turned (openWords (asSecond .given)) lent) 2 unsent ≡ true
 unfolding calls checks

@@ -12,16 +12,20 @@ use Rattle.wire.specs.declared.Message.the-variants.{Send}
 use Rattle.agreement.specs.Evidence.{Honest}
 use Rattle.agreement.specs.Moments.{Within, now}
 use Rattle.agreement.specs.laws.Moments.{within-cases, within-none}
-use Rattle.agreement.specs.Calls.{Call, restore, turn, Journal, newest, world, journal, Departed, Conditions}
-use Rattle.agreement.specs.EngineCalls.{engine, Agreed, Bytes, TurnLent}
-use Rattle.agreement_example.specs.Messages.{inputFive, bytesOf, deliver}
+use Rattle.calls.specs.Machine.{Call, restore, turn}
+use Rattle.agreement.specs.Journals.{Journal, newest, journal}
+use Rattle.agreement.specs.laws.Worlds.{world}
+use Rattle.agreement.specs.DemandThree.{Departed, Conditions}
+use Rattle.calls.specs.Engine.{engine, Agreed, Bytes, TurnLent}
+use Rattle.calls.specs.Given.{bytesOf}
+use Rattle.agreement_example.specs.Messages.{inputFive, deliver}
 use Rattle.agreement_example.specs.One.{session, everyone}
 use Rattle.agreement_example.specs.PowerLost.{firstLine, from}
-use Rattle.agreement_example.specs.Checking.{Line, Entry, isOpened, wordsOf, linesOf, sameList, completeOf, restoreRight, run}
-use Rattle.agreement_example.specs.laws.Journals.{AllMatch}
-use Rattle.agreement_example.specs.laws.Tracks.{Tracks}
-use Rattle.agreement_example.specs.laws.Restores.{restores-there, restored-lines}
-use Rattle.agreement_example.specs.laws.Tracking.{run-tracks}
+use Rattle.agreement_check.specs.Checking.{Line, Entry, isOpened, wordsOf, linesOf, sameList, completeOf, restoreRight, run}
+use Rattle.agreement_check.specs.laws.Journals.{AllMatch}
+use Rattle.agreement_check.specs.laws.Tracks.{Tracks}
+use Rattle.agreement_check.specs.laws.Restores.{restores-there, restored-lines}
+use Rattle.agreement_check.specs.laws.Tracking.{run-tracks}
 use Rattle.turn_bound.specs.laws.Computing.{calls}
 use Rattle.agreement_example.specs.laws.Computing.{checks}
 use Rattle.agreement_example.specs.LineLost.{untilSent, untilGot, LineMissed}

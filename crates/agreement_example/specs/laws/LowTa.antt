@@ -8,13 +8,14 @@ use Rattle.broadcasts.specs.Broadcasts.{output}
 use Rattle.broadcasts.specs.declared.Output.the-variants.{Value}
 use Rattle.turn_bound.specs.laws.Computing.{calls}
 use Rattle.agreement.specs.Evidence.{liars}
-use Rattle.agreement.specs.Calls.{Call, world}
-use Rattle.agreement.specs.EngineCalls.{engine, Agreed}
+use Rattle.calls.specs.Machine.{Call}
+use Rattle.agreement.specs.laws.Worlds.{world}
+use Rattle.calls.specs.Engine.{engine, Agreed}
 use Rattle.agreement_example.specs.laws.Computing.{checks}
-use Rattle.agreement_example.specs.Checking.{isOpened, wordsOf, run}
-use Rattle.agreement_example.specs.Example.{FromAny}
-use Rattle.agreement_example.specs.laws.Example.{passesAt, passes-at}
-use Rattle.agreement_example.specs.laws.Tracking.{AllSized}
+use Rattle.agreement_check.specs.Checking.{isOpened, wordsOf, run}
+use Rattle.agreement_check.specs.Example.{FromAny}
+use Rattle.agreement_check.specs.laws.Example.{passesAt, passes-at}
+use Rattle.agreement_check.specs.laws.Tracking.{AllSized}
 use Rattle.agreement_example.specs.Messages.{inputFive}
 use Rattle.agreement_example.specs.Weighted.{firstTwo, turns, toBoth, fromBoth}
 use Rattle.agreement_example.specs.LowTa.{session, openings, equivocated, inEach, closing, lowTaCalls, OverTa, LowTaMeet}

@@ -10,9 +10,9 @@ use Rattle.session.specs.Session.{isState, sessionOf}
 use Rattle.wire.specs.Reading.{lengthRight, readMessage}
 use Rattle.delivery.specs.Delivery.{judged, verdict, answerOf, deliverAnswer}
 use Rattle.delivery.specs.declared.Verdict.the-variants.{Refused}
-use Rattle.agreement_example.specs.laws.Example.{passes, passes-example}
-use Rattle.agreement_example.specs.laws.Refusals.{refusals}
-use Rattle.agreement_example.specs.laws.Tracking.{AllSized}
+use Rattle.agreement_check.specs.laws.Example.{passes, passes-example}
+use Rattle.agreement_check.specs.laws.Refusals.{refusals}
+use Rattle.agreement_check.specs.laws.Tracking.{AllSized}
 use Rattle.agreement_example.specs.Messages.{inputFive}
 use Rattle.turn_bound.specs.laws.Computing.{calls}
 use Rattle.agreement_example.specs.laws.Computing.{checks}

@@ -5,9 +5,9 @@ use mathlib.Core.List.{List, [], _∷_}
 use mathlib.Core.Path.{_≡_, refl}
 use lib.ListN.{length}
 use Rattle.records.specs.Layout.{stateWords}
-use Rattle.agreement_example.specs.laws.Example.{passes, passes-example}
-use Rattle.agreement_example.specs.laws.Refusals.{refusals}
-use Rattle.agreement_example.specs.laws.Tracking.{AllSized}
+use Rattle.agreement_check.specs.laws.Example.{passes, passes-example}
+use Rattle.agreement_check.specs.laws.Refusals.{refusals}
+use Rattle.agreement_check.specs.laws.Tracking.{AllSized}
 use Rattle.agreement_example.specs.Messages.{inputFive}
 use Rattle.agreement_example.specs.One.{session, everyone}
 use Rattle.turn_bound.specs.laws.Computing.{calls}

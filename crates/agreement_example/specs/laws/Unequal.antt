@@ -5,8 +5,8 @@ use mathlib.Core.Path.{_≡_, refl}
 use Rattle.exits.specs.Exits.{insert, insertOutput, outputsOfS}
 use Rattle.turn_bound.specs.laws.Computing.{calls}
 use Rattle.agreement_example.specs.laws.Computing.{checks}
-use Rattle.agreement_example.specs.laws.Example.{passes, passes-example}
-use Rattle.agreement_example.specs.laws.Tracking.{AllSized}
+use Rattle.agreement_check.specs.laws.Example.{passes, passes-example}
+use Rattle.agreement_check.specs.laws.Tracking.{AllSized}
 use Rattle.agreement_example.specs.Four.{firstThree, turns, toAll, fromAll}
 use Rattle.agreement_example.specs.Unequal.{session, inputOf, openings, inEach, untilSends, untilReadies, untilAuxes, untilLastAuxes, unequalCalls, UnequalMeet}
 

@@ -9,13 +9,13 @@ use lib.Dec.{eqb}
 use Rattle.quorum.specs.laws.Bools.{and-left, and-right}
 use Rattle.turn_bound.specs.laws.Computing.{calls}
 use Rattle.agreement.specs.Moments.{Within, now, after}
-use Rattle.agreement.specs.Calls.{Call, place}
-use Rattle.agreement.specs.EngineCalls.{engine}
-use Rattle.agreement_example.specs.Checking.{listed}
+use Rattle.calls.specs.Machine.{Call, place}
+use Rattle.calls.specs.Engine.{engine}
+use Rattle.agreement_check.specs.Checking.{listed}
 use Rattle.agreement_example.specs.laws.Computing.{checks}
-use Rattle.agreement_example.specs.laws.Example.{passesAt, passes-at}
-use Rattle.agreement_example.specs.laws.Tracking.{AllSized}
-use Rattle.agreement_example.specs.laws.Tracks.{listed-honest}
+use Rattle.agreement_check.specs.laws.Example.{passesAt, passes-at}
+use Rattle.agreement_check.specs.laws.Tracking.{AllSized}
+use Rattle.agreement_check.specs.laws.Tracks.{listed-honest}
 use Rattle.agreement_example.specs.Messages.{inputFive}
 use Rattle.agreement_example.specs.Four.{session, firstThree}
 use Rattle.agreement_example.specs.Weighted.{firstTwo, turns, toBoth, fromBoth}

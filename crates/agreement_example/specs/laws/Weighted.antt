@@ -2,9 +2,9 @@
 use mathlib.Core.Bool.{true}
 use mathlib.Core.List.{[], _∷_}
 use mathlib.Core.Path.{_≡_, refl}
-use Rattle.agreement_example.specs.laws.Example.{passes, passes-example}
-use Rattle.agreement_example.specs.laws.Refusals.{refusals}
-use Rattle.agreement_example.specs.laws.Tracking.{AllSized}
+use Rattle.agreement_check.specs.laws.Example.{passes, passes-example}
+use Rattle.agreement_check.specs.laws.Refusals.{refusals}
+use Rattle.agreement_check.specs.laws.Tracking.{AllSized}
 use Rattle.agreement_example.specs.Messages.{inputFive}
 use Rattle.turn_bound.specs.laws.Computing.{calls}
 use Rattle.agreement_example.specs.laws.Computing.{checks}

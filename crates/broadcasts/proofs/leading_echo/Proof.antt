@@ -1,7 +1,7 @@
 -- The ECHOs of an instance stand at their own marks and values; where too few are held nobody leads.
 use Rattle.records.specs.Records.{echoHeld, echoValue}
 use Rattle.broadcasts.specs.laws.Leading.{heldCount}
-use Rattle.broadcasts.specs.laws.Cases.{leading-few}
+use Rattle.broadcasts.specs.laws.Cases.{leading-few, leading-counted}
 use borrow.Author.Needs.{needs}
 use Rattle.broadcasts.proofs.leading_echo.Statement.{statement}
 use Rattle.broadcasts.proofs.leading_echo.Tie as tie
@@ -33,7 +33,7 @@ leading-of-requires c κs = search needs
 
 returns-2 : tie.Need-returns-2
 unfolding echoHeld echoValue
-returns-2 c = search needs
+returns-2 c = search leading-counted
 
 pub leading-echo-spec : {M : Type 1} → statement M
 leading-echo-spec =

@@ -1,5 +1,6 @@
 -- The value of the lowest sender that leads.
 use Prim.Native.Nat.{_+_, _-_}
+use Rattle.settings.specs.laws.Counting.{counting}
 use Rattle.quorum.specs.laws.Lowest.{Passed, finding}
 use Rattle.records.specs.Words.{word, marked}
 use Rattle.broadcasts.specs.Leading.{leads}
@@ -9,7 +10,7 @@ use Rattle.broadcasts.proofs.leading_of.Statement.{statement}
 use Rattle.broadcasts.proofs.leading_of.Tie as tie
 
 abbrev Inv-loop : tie.InvT-loop
-Inv-loop s marks values n weights q p₀ p = Passed (leads weights (λ k. marked s marks k) (λ k. word s (values + k)) n q) n p
+Inv-loop s marks values n weights q p₀ p = Passed (leads (counting n weights) (λ k. marked s marks k) (λ k. word s (values + k)) q) n p
 
 abbrev μ-loop : tie.MeasureT-loop
 μ-loop s marks values n weights q p₀ p = n - p

@@ -1,4 +1,4 @@
--- The output is the value that n − ts READYs hold.
+-- The output is the value that READYs of weight W − ts hold.
 use Rattle.broadcasts.specs.Broadcasts.{output}
 use borrow.Author.Needs.{needs}
 use Rattle.broadcasts.proofs.output_of.Statement.{statement}

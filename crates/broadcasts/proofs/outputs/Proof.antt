@@ -8,10 +8,10 @@ use Rattle.broadcasts.proofs.outputs.Statement.{statement}
 use Rattle.broadcasts.proofs.outputs.Tie as tie
 
 abbrev Inv-loop : tie.InvT-loop
-Inv-loop s g values₀ n held₀ i₀ values held i = Outputs g s i held values
+Inv-loop s g values₀ n outputs₀ i₀ values outputs i = Outputs g s i outputs values
 
 abbrev μ-loop : tie.MeasureT-loop
-μ-loop s g values₀ n held₀ i₀ values held i = n - i
+μ-loop s g values₀ n outputs₀ i₀ values outputs i = n - i
 
 loop-holds : tie.Need-loop-holds Inv-loop μ-loop
 loop-holds c = outputs-start _ _ _ refl

@@ -1,4 +1,4 @@
--- A value with n − ts ECHOs, else one with ts + 1 READYs.
+-- A value with ECHOs of weight W − ts, else one with READYs of weight ts + 1.
 use Rattle.broadcasts.specs.laws.Cases.{due-cases}
 use borrow.Author.Needs.{needs}
 use Rattle.broadcasts.proofs.ready_due.Statement.{statement}

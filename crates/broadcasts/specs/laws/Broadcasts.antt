@@ -35,10 +35,10 @@ pub record Holder (held : ℕ → Bool) (value : ℕ → ℕ) (n v : ℕ) : Type
   pub same : value at ≡ v
 
 -- v is held from q senders, and no sender below its first holder holds a value that is
-pub record Led (w : ℕ) (held : ℕ → Bool) (value : ℕ → ℕ) (n q v : ℕ) : Type 0 where
-  pub enough : q ≤ holders w held value v n
-  pub holder : Holder held value n v
-  pub first : (p : ℕ) → 1 ≤ p → p < holder .at → held p ≡ true → holders w held value (value p) n < q
+pub record Led (g : Settings) (held : ℕ → Bool) (value : ℕ → ℕ) (q v : ℕ) : Type 0 where
+  pub enough : q ≤ holders g held value v
+  pub holder : Holder held value (g .n) v
+  pub first : (p : ℕ) → 1 ≤ p → p < holder .at → held p ≡ true → holders g held value (value p) < q
 
 -- valueOf, inverted
 value-at : (value : ℕ → ℕ) (p v : ℕ) → valueOf value p ≡ Value v → (p ≢ 0) × (value p ≡ v)
@@ -57,13 +57,13 @@ nothing-at value p e = go (eqb p 0) refl e
     go true t h = eqb-true p 0 t
     go false t h = absurd (let z : _≡_ {A = ℕ} 0 1 = cc in omega arith)
 
-module _ (w : ℕ) (held : ℕ → Bool) (value : ℕ → ℕ) (n : ℕ) where
+module _ (g : Settings) (held : ℕ → Bool) (value : ℕ → ℕ) where
   -- a value that someone holds has a holder
-  pub holders-some : (v : ℕ) → 1 ≤ holders w held value v n → Holder held value n v
+  pub holders-some : (v : ℕ) → 1 ≤ holders g held value v → Holder held value (g .n) v
   unfolding holders
-  holders-some v h = go (total-member (weightOf w) (λ p. held p && eqb (value p) v) n (omega arith))
+  holders-some v h = go (total-member (weightOf (g .weights)) (λ p. held p && eqb (value p) v) (g .n) (omega arith))
     where
-      go : Member n (λ p. held p && eqb (value p) v) → Holder held value n v
+      go : Member (g .n) (λ p. held p && eqb (value p) v) → Holder held value (g .n) v
       go m =
           record {
             at = m .at;
@@ -74,33 +74,33 @@ module _ (w : ℕ) (held : ℕ → Bool) (value : ℕ → ℕ) (n : ℕ) where
           }
 
   -- two values that together have more holders than there are senders are one
-  pub holders-same : (v u : ℕ) → wholeOf w n < holders w held value v n + holders w held value u n → v ≡ u
+  pub holders-same : (v u : ℕ) → wholeOf (g .weights) (g .n) < holders g held value v + holders g held value u → v ≡ u
   unfolding holders wholeOf
   holders-same v u h =
-      go (common-member (weightOf w) n (λ p. held p && eqb (value p) v) (λ p. held p && eqb (value p) u) (omega arith))
+      go (common-member (weightOf (g .weights)) (g .n) (λ p. held p && eqb (value p) v) (λ p. held p && eqb (value p) u) (omega arith))
     where
-      go : Common n (λ p. held p && eqb (value p) v) (λ p. held p && eqb (value p) u) → v ≡ u
+      go : Common (g .n) (λ p. held p && eqb (value p) v) (λ p. held p && eqb (value p) u) → v ≡ u
       go m =
           sym (eqb-true (value (m .at)) v (and-right (held (m .at)) (eqb (value (m .at)) v) (m .left)))
           ∙ eqb-true (value (m .at)) u (and-right (held (m .at)) (eqb (value (m .at)) u) (m .right))
 
   module _ (q : ℕ) where
-    leads-enough : (p : ℕ) → leads w held value n q p ≡ true → (held p ≡ true) × (q ≤ holders w held value (value p) n)
+    leads-enough : (p : ℕ) → leads g held value q p ≡ true → (held p ≡ true) × (q ≤ holders g held value (value p))
     unfolding leads
     leads-enough p e = (
-      and-left (held p) (leb q (holders w held value (value p) n)) e,
-      leb-true q (holders w held value (value p) n) (and-right (held p) (leb q (holders w held value (value p) n)) e),
+      and-left (held p) (leb q (holders g held value (value p))) e,
+      leb-true q (holders g held value (value p)) (and-right (held p) (leb q (holders g held value (value p))) e),
     )
 
-    leads-few : (p : ℕ) → leads w held value n q p ≡ false → held p ≡ true → holders w held value (value p) n < q
+    leads-few : (p : ℕ) → leads g held value q p ≡ false → held p ≡ true → holders g held value (value p) < q
     unfolding leads
-    leads-few p e h = leb-false q (holders w held value (value p) n) (rw h at e)
+    leads-few p e h = leb-false q (holders g held value (value p)) (rw h at e)
 
-    pub leading-value : (v : ℕ) → leading w held value n q ≡ Value v → Led w held value n q v
+    pub leading-value : (v : ℕ) → leading g held value q ≡ Value v → Led g held value q v
     unfolding leading
-    leading-value v e = go (lowest (leads w held value n q) n) refl e
+    leading-value v e = go (lowest (leads g held value q) (g .n)) refl e
       where
-        at : (p : ℕ) → Lowest (leads w held value n q) n p → value p ≡ v → (held p ≡ true) × (q ≤ holders w held value (value p) n) → Led w held value n q v
+        at : (p : ℕ) → Lowest (leads g held value q) (g .n) p → value p ≡ v → (held p ≡ true) × (q ≤ holders g held value (value p)) → Led g held value q v
         at p x s l =
             record {
               enough = rw s at (l .1);
@@ -108,60 +108,60 @@ module _ (w : ℕ) (held : ℕ → Bool) (value : ℕ → ℕ) (n : ℕ) where
               first = λ k a b h. leads-few k (x .first k a b) h;
             }
 
-        go : (p : ℕ) → lowest (leads w held value n q) n ≡ p → valueOf value p ≡ Value v → Led w held value n q v
+        go : (p : ℕ) → lowest (leads g held value q) (g .n) ≡ p → valueOf value p ≡ Value v → Led g held value q v
         go p t h =
             let was : (p ≢ 0) × (value p ≡ v) = value-at value p v h in
-            let x : Lowest (leads w held value n q) n p = lowest-is (leads w held value n q) n p t (was .0) in
+            let x : Lowest (leads g held value q) (g .n) p = lowest-is (leads g held value q) (g .n) p t (was .0) in
             at p x (was .1) (leads-enough p (x .holds))
 
-    pub leading-nothing : leading w held value n q ≡ Nothing → (p : ℕ) → 1 ≤ p → p ≤ n → held p ≡ true → holders w held value (value p) n < q
+    pub leading-nothing : leading g held value q ≡ Nothing → (p : ℕ) → 1 ≤ p → p ≤ g .n → held p ≡ true → holders g held value (value p) < q
     unfolding leading
-    leading-nothing e p a b h = leads-few p (lowest-none (leads w held value n q) n (nothing-at value (lowest (leads w held value n q) n) e) p a b) h
+    leading-nothing e p a b h = leads-few p (lowest-none (leads g held value q) (g .n) (nothing-at value (lowest (leads g held value q) (g .n)) e) p a b) h
 
     -- a value held from q senders leads, or another does
-    pub leading-some : (v : ℕ) → 1 ≤ q → q ≤ holders w held value v n → leading w held value n q ≡ Nothing → ⊥
+    pub leading-some : (v : ℕ) → 1 ≤ q → q ≤ holders g held value v → leading g held value q ≡ Nothing → ⊥
     leading-some v a h e = go (holders-some v (omega arith))
       where
-        go : Holder held value n v → ⊥
+        go : Holder held value (g .n) v → ⊥
         go x =
-            let few : holders w held value (value (x .at)) n < q = leading-nothing e (x .at) (x .low) (x .high) (x .holds) in
-            let same : holders w held value (value (x .at)) n < q → holders w held value v n < q = λ l. rw (x .same) at l in
+            let few : holders g held value (value (x .at)) < q = leading-nothing e (x .at) (x .low) (x .high) (x .holds) in
+            let same : holders g held value (value (x .at)) < q → holders g held value v < q = λ l. rw (x .same) at l in
             omega (arith, same few)
 
     -- a value held from more than half of the senders is the one that leads
-    pub leading-unique : (v : ℕ) → wholeOf w n < q + q → q ≤ holders w held value v n → leading w held value n q ≡ Value v
-    leading-unique v a h = go (leading w held value n q) refl
+    pub leading-unique : (v : ℕ) → wholeOf (g .weights) (g .n) < q + q → q ≤ holders g held value v → leading g held value q ≡ Value v
+    leading-unique v a h = go (leading g held value q) refl
       where
-        go : (o : Output) → leading w held value n q ≡ o → o ≡ Value v
+        go : (o : Output) → leading g held value q ≡ o → o ≡ Value v
         go (Value u) e = ap Value (holders-same u v (omega (arith, leading-value u e .enough)))
         go Nothing e = absurd (leading-some v (omega arith) h e)
 
 module _ (g : Settings) (s : List ℕ) (i : ℕ) where
-  -- n − ts senders' READYs hold the output
-  pub output-holders : (v : ℕ) → output g s i ≡ Value v → Led (g .weights) (readyHeld s i) (readyValue s i) (g .n) (quorum g) v
+  -- READYs of weight W − ts hold the output
+  pub output-holders : (v : ℕ) → output g s i ≡ Value v → Led g (readyHeld s i) (readyValue s i) (quorum g) v
   unfolding output
-  output-holders v e = leading-value (g .weights) (readyHeld s i) (readyValue s i) (g .n) (quorum g) v e
+  output-holders v e = leading-value g (readyHeld s i) (readyValue s i) (quorum g) v e
 
-  -- a value that n − ts senders' READYs hold is the output: within the rules there is no other
-  pub output-unique : (v : ℕ) → Ruled g → quorum g ≤ holders (g .weights) (readyHeld s i) (readyValue s i) v (g .n) → output g s i ≡ Value v
+  -- a value that READYs of weight W − ts hold is the output: within the rules there is no other (PROTOCOL 4.3)
+  pub output-unique : (v : ℕ) → Ruled g → quorum g ≤ holders g (readyHeld s i) (readyValue s i) v → output g s i ≡ Value v
   unfolding output
-  output-unique v r h = leading-unique (g .weights) (readyHeld s i) (readyValue s i) (g .n) (quorum g) v (omega (arith, quorum-sum g r, r .sum)) h
+  output-unique v r h = leading-unique g (readyHeld s i) (readyValue s i) (quorum g) v (omega (arith, quorum-sum g r, r .sum)) h
 
-  -- a READY rests on n − ts ECHOs or on ts + 1 READYs
-  pub ready-rests : (v : ℕ) → readyDue g s i ≡ Value v → (quorum g ≤ holders (g .weights) (echoHeld s i) (echoValue s i) v (g .n)) ⊎ (repeat g ≤ holders (g .weights) (readyHeld s i) (readyValue s i) v (g .n))
+  -- a READY rests on ECHOs of weight W − ts or on READYs of weight ts + 1 (PROTOCOL 4.5)
+  pub ready-rests : (v : ℕ) → readyDue g s i ≡ Value v → (quorum g ≤ holders g (echoHeld s i) (echoValue s i) v) ⊎ (repeat g ≤ holders g (readyHeld s i) (readyValue s i) v)
   unfolding readyDue
-  ready-rests v e = go (leading (g .weights) (echoHeld s i) (echoValue s i) (g .n) (quorum g)) refl e
+  ready-rests v e = go (leading g (echoHeld s i) (echoValue s i) (quorum g)) refl e
     where
-      go : (o : Output) → leading (g .weights) (echoHeld s i) (echoValue s i) (g .n) (quorum g) ≡ o → orOutput o (leading (g .weights) (readyHeld s i) (readyValue s i) (g .n) (repeat g)) ≡ Value v → (quorum g ≤ holders (g .weights) (echoHeld s i) (echoValue s i) v (g .n)) ⊎ (repeat g ≤ holders (g .weights) (readyHeld s i) (readyValue s i) v (g .n))
-      go (Value w) t h = inl (leading-value (g .weights) (echoHeld s i) (echoValue s i) (g .n) (quorum g) v (t ∙ h) .enough)
-      go Nothing t h = inr (leading-value (g .weights) (readyHeld s i) (readyValue s i) (g .n) (repeat g) v h .enough)
+      go : (o : Output) → leading g (echoHeld s i) (echoValue s i) (quorum g) ≡ o → orOutput o (leading g (readyHeld s i) (readyValue s i) (repeat g)) ≡ Value v → (quorum g ≤ holders g (echoHeld s i) (echoValue s i) v) ⊎ (repeat g ≤ holders g (readyHeld s i) (readyValue s i) v)
+      go (Value w) t h = inl (leading-value g (echoHeld s i) (echoValue s i) (quorum g) v (t ∙ h) .enough)
+      go Nothing t h = inr (leading-value g (readyHeld s i) (readyValue s i) (repeat g) v h .enough)
 
 -- the array within the rules
-module _ (g : Settings) (s : List ℕ) (held : ℕ) (values : List ℕ) (r : Ruled g) (x : Outputs g s (g .n) held values) where
+module _ (g : Settings) (s : List ℕ) (outputs : ℕ) (values : List ℕ) (r : Ruled g) (x : Outputs g s (g .n) outputs values) where
   -- it says the output of each broadcast
-  pub outputs-each : (i : ℕ) → 1 ≤ i → i ≤ g .n → outputAt held values i ≡ output g s i
+  pub outputs-each : (i : ℕ) → 1 ≤ i → i ≤ g .n → outputAt outputs values i ≡ output g s i
   outputs-each i a b = x .each i a b (omega arith)
 
   -- its marks are the broadcasts that have output
-  pub outputs-marks : (i : ℕ) → 1 ≤ i → i ≤ g .n → mark held i ≡ present (output g s i)
-  outputs-marks i a b = sym (at-present held values i (omega arith)) ∙ ap present (outputs-each i a b)
+  pub outputs-marks : (i : ℕ) → 1 ≤ i → i ≤ g .n → mark outputs i ≡ present (output g s i)
+  outputs-marks i a b = sym (at-present outputs values i (omega arith)) ∙ ap present (outputs-each i a b)

@@ -9,13 +9,13 @@ use Rattle.broadcasts.specs.declared.Output.the-variants.{Value, Nothing
 
 -- the marks and values with output o of broadcast i
 abbrev pub storedMarks : ℕ → ℕ → Output → ℕ
-storedMarks held i (Value v) = withMark held i
-storedMarks held i Nothing = held
+storedMarks outputs i (Value v) = withMark outputs i
+storedMarks outputs i Nothing = outputs
 
 abbrev pub storedValues : List ℕ → ℕ → Output → List ℕ
 storedValues values i (Value v) = put values (i - 1) v
 storedValues values i Nothing = values
 
-pub record Stored (held : ℕ) (values : List ℕ) (i : ℕ) (o : Output) (held′ : ℕ) (values′ : List ℕ) : Type 0 where
-  pub new-marks : held′ ≡ storedMarks held i o
+pub record Stored (outputs : ℕ) (values : List ℕ) (i : ℕ) (o : Output) (outputs′ : ℕ) (values′ : List ℕ) : Type 0 where
+  pub new-marks : outputs′ ≡ storedMarks outputs i o
   pub new-values : values′ ≡ storedValues values i o

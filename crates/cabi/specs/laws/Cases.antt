@@ -19,7 +19,7 @@ use Rattle.wire.specs.Message.{lengthOf}
 use Rattle.wire.specs.declared.Message.{Message}
 use Rattle.wire.specs.declared.Message.the-variants as message
 use Rattle.turn.specs.Due.{due}
-use Rattle.turn.specs.Turn.{sentLength, moveOutcome, outcomeOf, admits, outcomeFor, turnOutcome}
+use Rattle.turn.specs.Turn.{sentLength, moveOutcome, outcomeOf, admits, taking, turnOutcome}
 use Rattle.turn.specs.laws.Told.{ActTold}
 use Rattle.turn.specs.laws.Due.{due-told}
 use Rattle.turn.specs.laws.Admitting.{admitting, admitted-ruled}
@@ -45,7 +45,9 @@ use Rattle.restore.specs.Complete.{linesOf, joined}
 use Rattle.restore.specs.Restoring.{Replay, wrong, right, replay, lengthAgain, replayAnswer, lentAnswer, restoreAnswer}
 use Rattle.restore.specs.declared.Restored.{Restored}
 use Rattle.restore.specs.declared.Restored.the-variants as restore
-use Rattle.cabi.specs.Answers.{entryNumber, outcomeNumber, figuresNumber, reportNumber, restoredNumber, bitValue, replyNumber}
+use Rattle.cabi.specs.Answers.{entryNumber, outcomeNumber, figuresNumber, reportNumber}
+use Rattle.cabi.specs.Restored.{restoredNumber}
+use Rattle.cabi.specs.Replies.{bitValue, replyNumber}
 
 -- the length of a line that is written, and of a message that is given again
 abbrev pub lineLength : Entry → ℕ
@@ -76,12 +78,12 @@ act-few own g s (Move i r v) t = go (ltb r 32)
     go false = omega arith
 
 pub sent-few : (s : List ℕ) (room : ℕ) → sentLength (turnOutcome s room) ≤ 140
-unfolding turnOutcome outcomeFor
+unfolding taking turnOutcome
 sent-few s room = go (admits s room) refl
   where
-    go : (v : Admitted) → admits s room ≡ v → sentLength (outcomeFor v s) ≤ 140
-    go (admitted.Refused k) e = omega arith
-    go (admitted.Open x) e = act-few (x .own) (x .settings) s (due (x .settings) s) (due-told (x .settings) s (admitted-ruled s room x (admitting s room x e)))
+    go : (v : Admitted) → admits s room ≡ v → sentLength (turnOutcome s room) ≤ 140
+    go (admitted.Refused k) e = rw e (omega arith)
+    go (admitted.Open x) e = rw e (act-few (x .own) (x .settings) s (due (x .settings) s) (due-told (x .settings) s (admitted-ruled s room x (admitting s room x e))))
 
 module _ (o : Outcome) (h : sentLength o ≤ 140) (m : Message) (e : o ≡ turn.Sent m) (l : ℕ) (f : l ≡ lengthOf m) where
   length-few : l ≤ 140

@@ -48,8 +48,8 @@ in-force-few : (g : Settings) (s : List ℕ) → length (inForceSet g s) ≤ 16
 unfolding inForceSet leadingSet
 in-force-few g s = go (closed s)
   where
-    go : (b : Bool) → length (cond b (setOf s (setLeader (g .weights) s (g .n) (quorum g))) []) ≤ 16
-    go true = set-few s (setLeader (g .weights) s (g .n) (quorum g))
+    go : (b : Bool) → length (cond b (setOf s (setLeader g s (quorum g))) []) ≤ 16
+    go true = set-few s (setLeader g s (quorum g))
     go false = omega arith
 
 pub record Small (f : Figures) : Type 0 where

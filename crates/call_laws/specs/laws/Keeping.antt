@@ -19,7 +19,7 @@ use Rattle.delivery.specs.laws.Answers.{answer-refused}
 use Rattle.delivery.specs.Delivery.{deliverAnswer, delivered}
 use Rattle.recording.specs.Recording.{recordAnswer, recordedWords}
 use Rattle.turn.specs.Due.{due}
-use Rattle.turn.specs.Turn.{outcomeFor, outcomeOf, wordsFor, bytesFor, admits, turnOutcome, turnWords, turnBytes}
+use Rattle.turn.specs.Turn.{outcomeOf, taking, admits, turnOutcome, turnWords, turnBytes}
 use Rattle.turn.specs.declared.Admitted.{Admitted}
 use Rattle.turn.specs.declared.Admitted.the-variants as turn-admitted
 use Rattle.turn.specs.declared.Outcome.{Outcome}
@@ -29,14 +29,16 @@ use Rattle.journal.specs.Journal.{deliverNumber, deliverEntry, deliveredWords, 
 use Rattle.journal.specs.Lines.{turnLine}
 use Rattle.journal.specs.laws.Journal.{line-stays}
 use Rattle.journal.specs.declared.Entry.the-variants as journal
-use Rattle.report.specs.Report.{answerFor, namedFor, inForceFor, reportAnswer, reportNamed, reportInForce}
+use Rattle.report.specs.Report.{giving, reportAnswer, reportNamed, reportInForce}
 use Rattle.report.specs.Report as reporting
 use Rattle.report.specs.declared.Admitted as report-admission
 use Rattle.report.specs.declared.Admitted.the-variants as report-admitted
 use Rattle.restore.specs.Complete.{linesOf, joined}
 use Rattle.restore.specs.Restoring.{Replay, wrong, right, replay, replayAnswer, replayWords, replayBytes, lentAnswer, restoreAnswer, restoredWords, restoredBytes}
 use Rattle.restore.specs.declared.Restored.the-variants as restore
-use Rattle.cabi.specs.Answers.{entryNumber, outcomeNumber, reportNumber, restoredNumber, replyNumber}
+use Rattle.cabi.specs.Answers.{entryNumber, outcomeNumber}
+use Rattle.cabi.specs.Restored.{restoredNumber}
+use Rattle.cabi.specs.Replies.{replyNumber}
 use Rattle.call_laws.specs.Parts.{Refused}
 use Rattle.call_laws.specs.Keeping.{OpeningKeeps, DeliveryKeeps, RecordingKeeps, TurnKeeps, ReportKeeps, RestoreKeeps, BoxOpeningKeeps, RequestKeeps, RefusalsKeep}
 use Rattle.call_laws.specs.laws.Turns.{taken, act-taken}
@@ -88,27 +90,27 @@ not-taken turn.MovedOut h = absurd (h refl)
 not-taken turn.InForce h = absurd (h refl)
 
 turn-keeps : TurnKeeps
-unfolding turnOutcome turnWords turnRoom turnedMessage turnedLine turnBytes outcomeFor wordsFor bytesFor
+unfolding turnOutcome turnWords turnRoom turnedMessage turnedLine turnBytes taking
 turn-keeps s message line h = go (ltb (length line) 512) (admits s (cond (ltb (length line) 512) 0 (length message))) refl h
   where
-    bytes : (b : Bool) (k : ℕ) → admits s (cond b 0 (length message)) ≡ turn-admitted.Refused k → cond b message (bytesFor (admits s (length message)) s message) ≡ message
+    bytes : (b : Bool) (k : ℕ) → admits s (cond b 0 (length message)) ≡ turn-admitted.Refused k → cond b message (turnBytes s message) ≡ message
     bytes true k e = refl
     bytes false k e = rw e
 
-    go : (b : Bool) (v : Admitted) → admits s (cond b 0 (length message)) ≡ v → Refused (outcomeNumber (outcomeFor v s)) →
-        (wordsFor v s ≡ s) × (cond b message (bytesFor (admits s (length message)) s message) ≡ message) × (cond (acts (outcomeFor v s)) (atFront turnLine line) line ≡ line)
-    go b (turn-admitted.Refused k) e r = (refl, bytes b k e, refl)
-    go b (turn-admitted.Open x) e r = absurd (false≢true (sym (not-taken (outcomeOf (x .own) s (due (x .settings) s)) r) ∙ act-taken (x .own) s (due (x .settings) s)))
+    go : (b : Bool) (v : Admitted) → admits s (cond b 0 (length message)) ≡ v → Refused (outcomeNumber (turnOutcome s (cond b 0 (length message)))) →
+        (turnWords s (cond b 0 (length message)) ≡ s) × (cond b message (turnBytes s message) ≡ message) × (cond (acts (turnOutcome s (cond b 0 (length message)))) (atFront turnLine line) line ≡ line)
+    go b (turn-admitted.Refused k) e r = (rw e, bytes b k e, rw e)
+    go b (turn-admitted.Open x) e r = absurd (false≢true (sym (not-taken (outcomeOf (x .own) s (due (x .settings) s)) (rw e at r)) ∙ act-taken (x .own) s (due (x .settings) s)))
 
 -- ---- report
 
 report-keeps : ReportKeeps
-unfolding reportAnswer reportNamed reportInForce answerFor namedFor inForceFor
-report-keeps s named inForce h = go (reporting.admits s (length named) (length inForce)) h
+unfolding giving reportAnswer reportNamed reportInForce
+report-keeps s named inForce h = go (reporting.admits s (length named) (length inForce)) refl
   where
-    go : (v : report-admission.Admitted) → Refused (reportNumber (answerFor v s)) → (namedFor v s named ≡ named) × (inForceFor v s inForce ≡ inForce)
-    go (report-admitted.Refused k) r = (refl, refl)
-    go (report-admitted.Open g) r = absurd (r (omega arith))
+    go : (v : report-admission.Admitted) → reporting.admits s (length named) (length inForce) ≡ v → (reportNamed s named (length inForce) ≡ named) × (reportInForce s (length named) inForce ≡ inForce)
+    go (report-admitted.Refused k) e = (rw e, rw e)
+    go (report-admitted.Open g) e = absurd ((rw e at h) (omega arith))
 
 -- ---- restore
 

@@ -9,6 +9,7 @@ use lib.Dec.{eqb, ltb}
 use lib.ListN.{length}
 use borrow.Author.Tests.{eqb-false}
 use Rattle.settings.specs.Refusals.{SHORT, NO-STATE, CLOSED, COIN}
+use Rattle.settings.specs.declared.Settings.{Settings}
 use Rattle.records.specs.Records.{closed, coin}
 use Rattle.session.specs.Session.{isState, sessionOf, settingsOf}
 use Rattle.opening.specs.Given.{weightsWord}
@@ -16,7 +17,7 @@ use Rattle.opening.specs.Arguments.{Arguments}
 use Rattle.coin_box.specs.Box.{boxOpenAnswer, asks, unsealed, requestWords, requestReply}
 use Rattle.coin_box.specs.declared.Reply.the-variants as box
 use Rattle.turn.specs.Due.{due}
-use Rattle.turn.specs.Turn.{sentLength, outcomeOf, turnOutcome, outcomeFor, admits}
+use Rattle.turn.specs.Turn.{sentLength, outcomeOf, turnOutcome, taking, admits}
 use Rattle.turn.specs.declared.Admitted.{Admitted}
 use Rattle.turn.specs.declared.Admitted.the-variants as turn-admitted
 use Rattle.turn.specs.declared.Outcome.{Outcome}
@@ -24,7 +25,7 @@ use Rattle.turn.specs.declared.Outcome.the-variants as turn
 use Rattle.journal.specs.Journal.{lineEntry, openNumber, openEntry, deliverNumber, deliverEntry, recordNumber, recordEntry}
 use Rattle.journal.specs.declared.Entry.the-variants as journal
 use Rattle.report.specs.laws.Report.{reported}
-use Rattle.report.specs.Report.{answerFor, reportAnswer}
+use Rattle.report.specs.Report.{giving, reportAnswer}
 use Rattle.report.specs.Report as reporting
 use Rattle.report.specs.declared.Admitted.the-variants as report-admitted
 use Rattle.report.specs.declared.Figures.{Figures}
@@ -95,12 +96,12 @@ shut-back s room = of (isState s) (closed s) (ltb room 140)
     of true false false = tt
 
 turn-back : (s : List ℕ) (room : ℕ) → OutcomeBack (turnOutcome s room)
-unfolding turnOutcome outcomeFor ShutBack
-turn-back s room = of (admits s room) (shut-back s room) (sent-few s room)
+unfolding taking turnOutcome ShutBack
+turn-back s room = of (admits s room) refl (shut-back s room)
   where
-    of : (v : Admitted) → ShutBack v → sentLength (outcomeFor v s) ≤ 140 → OutcomeBack (outcomeFor v s)
-    of (turn-admitted.Refused k) b few = b
-    of (turn-admitted.Open x) b few = outcome-back (outcomeOf (x .own) s (due (x .settings) s)) few (act-taken (x .own) s (due (x .settings) s))
+    of : (v : Admitted) → admits s room ≡ v → ShutBack v → OutcomeBack (turnOutcome s room)
+    of (turn-admitted.Refused k) e b = rw e b
+    of (turn-admitted.Open x) e b = rw e (outcome-back (outcomeOf (x .own) s (due (x .settings) s)) (rw e at (sent-few s room)) (act-taken (x .own) s (due (x .settings) s)))
 
 -- ---- report
 
@@ -110,13 +111,13 @@ RefusedBack (report.Refused k) = Refusal k k
 RefusedBack (report.Given f) = Unit {0}
 
 refused-back : (s : List ℕ) (named inForce : ℕ) → RefusedBack (reportAnswer s named inForce)
-unfolding RefusedBack reportAnswer answerFor reporting.admits
-refused-back s named inForce = of (isState s) (ltb named 16 || ltb inForce 16)
+unfolding RefusedBack giving reportAnswer reporting.admits
+refused-back s named inForce = of (isState s) (ltb named 16 || ltb inForce 16) _
   where
-    of : (t b : Bool) → RefusedBack (answerFor (cond (not t) (report-admitted.Refused NO-STATE) (cond b (report-admitted.Refused SHORT) (report-admitted.Open (settingsOf s)))) s)
-    of false b = refusal-back NO-STATE (omega arith) (omega arith)
-    of true true = refusal-back SHORT (omega arith) (omega arith)
-    of true false = tt
+    of : (t b : Bool) (f : Settings → Figures) → RefusedBack (giving (cond (not t) (report-admitted.Refused NO-STATE) (cond b (report-admitted.Refused SHORT) (report-admitted.Open (settingsOf s)))) report.Refused (λ g. report.Given (f g)))
+    of false b f = refusal-back NO-STATE (omega arith) (omega arith)
+    of true true f = refusal-back SHORT (omega arith) (omega arith)
+    of true false f = tt
 
 figures-back : (f : Figures) → Small f → ReportBack (report.Given f)
 figures-back f h =

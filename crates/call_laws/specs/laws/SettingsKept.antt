@@ -23,7 +23,7 @@ use Rattle.delivery.specs.declared.Verdict.the-variants.{Refused, Accepted}
 use Rattle.recording.specs.Recording.{recordAnswer, recordedWords}
 use Rattle.recording.specs.laws.Recording.{Recordable, accepted, refused-same, accepted-marks, other-word}
 use Rattle.turn.specs.Due.{due}
-use Rattle.turn.specs.Turn.{admits, wordsFor, turnWords}
+use Rattle.turn.specs.Turn.{admits, taking, turnWords}
 use Rattle.turn.specs.laws.Admitting.{admitting, admitted-ruled}
 use Rattle.turn.specs.laws.Due.{due-told}
 use Rattle.turn.specs.laws.Frame.{Kept, setting, beyond, told-placed, applied-kept}
@@ -67,14 +67,14 @@ kept a (inr (inl e)) = beyond (omega arith)
 kept a (inr (inr e)) = beyond (omega arith)
 
 turn-keeps : (s : List ℕ) (room a : ℕ) → SettingWord a → word (turnWords s room) a ≡ word s a
-unfolding turnWords wordsFor
+unfolding taking turnWords
 turn-keeps s room a h = go (admits s room) refl
   where
-    go : (y : Admitted) → admits s room ≡ y → word (wordsFor y s) a ≡ word s a
-    go (admitted.Refused k) e = refl
+    go : (y : Admitted) → admits s room ≡ y → word (turnWords s room) a ≡ word s a
+    go (admitted.Refused k) e = rw e
     go (admitted.Open x) e =
         let r = admitted-ruled s room x (admitting s room x e) in
-        applied-kept s (due (x .settings) s) (told-placed (x .settings) s r (due (x .settings) s) (due-told (x .settings) s r)) a (kept a h)
+        rw e (applied-kept s (due (x .settings) s) (told-placed (x .settings) s r (due (x .settings) s) (due-told (x .settings) s r)) a (kept a h))
 
 -- the coin words stand elsewhere
 coin-apart : (a i : ℕ) → SettingWord a → 1 ≤ i → i ≤ 16 → a ≢ coinAt i

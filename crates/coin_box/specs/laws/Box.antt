@@ -118,7 +118,7 @@ module _ (s : List ℕ) (p i r : ℕ) where
   pub mark-stays : (k q : ℕ) → marked s k q ≡ true → marked next k q ≡ true
   mark-stays k q h = by-cases (λ t. marked t k q ≡ true) h (λ e. marked-kept s (requestsAt i r) p k q h)
 
-  -- "from then on": what is unsealed stays so, whatever is requested
+  -- what is unsealed stays so, whatever is requested (PROTOCOL 12.6)
   pub unsealed-stays : (j q : ℕ) → unsealed s j q ≡ true → unsealed next j q ≡ true
   unfolding unsealed requested
   unsealed-stays j q e =
@@ -154,7 +154,7 @@ module _ (s : List ℕ) (p i r : ℕ) where
   unfolding requestWords
   refused-kept e = rw e
 
-  -- "repeats count once": one who has its mark changes nothing
+  -- asking again adds nothing: one who has its mark changes nothing (PROTOCOL 12.5)
   pub repeat-kept : marked s (requestsAt i r) p ≡ true → next ≡ s
   repeat-kept h = by-cases (λ t. t ≡ s) refl (λ e. marked-same s (requestsAt i r) p h)
 

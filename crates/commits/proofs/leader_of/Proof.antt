@@ -1,5 +1,6 @@
 -- After p steps no sender of 1 to p leads.
 use Prim.Native.Nat.{_-_}
+use Rattle.settings.specs.laws.Counting.{counting}
 use Rattle.quorum.specs.laws.Lowest.{Passed, finding}
 use Rattle.commits.specs.Commits.{setLeads}
 use Rattle.commits.specs.laws.Cases.{commit-cases}
@@ -8,7 +9,7 @@ use Rattle.commits.proofs.leader_of.Statement.{statement}
 use Rattle.commits.proofs.leader_of.Tie as tie
 
 abbrev Inv-loop : tie.InvT-loop
-Inv-loop s weights n k p₀ p = Passed (λ q. setLeads weights s n k q) n p
+Inv-loop s weights n k p₀ p = Passed (λ q. setLeads (counting n weights) s k q) n p
 
 abbrev μ-loop : tie.MeasureT-loop
 μ-loop s weights n k p₀ p = n - p

@@ -1,20 +1,14 @@
--- Where too few COMMITs are held no set leads.
-use Rattle.commits.specs.laws.Cases.{commit-cases}
+-- Of the settings only n and the weights are read.
+use Rattle.commits.specs.laws.Cases.{leader-counted}
 use borrow.Author.Needs.{needs}
 use Rattle.commits.proofs.set_leader.Statement.{statement}
 use Rattle.commits.proofs.set_leader.Tie as tie
 
-commits-held-requires : tie.Need-commits-held-requires
-commits-held-requires c κs = search needs
+leader-if-held-requires : tie.Need-leader-if-held-requires
+leader-if-held-requires c κs = search needs
 
 returns : tie.Need-returns
-returns c = search commit-cases
-
-leader-of-requires : tie.Need-leader-of-requires
-leader-of-requires c κs = search needs
-
-returns-2 : tie.Need-returns-2
-returns-2 c = search needs
+returns c = search leader-counted
 
 pub set-leader-spec : {M : Type 1} → statement M
-set-leader-spec = tie.close (tie.spec commits-held-requires returns leader-of-requires returns-2)
+set-leader-spec = tie.close (tie.spec leader-if-held-requires returns)

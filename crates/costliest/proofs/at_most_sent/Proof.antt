@@ -1,5 +1,5 @@
--- `at_most_sent` states the theorem of specs/laws/Sent.antt.
-use Rattle.costliest.specs.laws.Sent.{at-most-sent}
+-- `at_most_sent` states the theorem of specs/laws/SentCalls.antt.
+use Rattle.costliest.specs.laws.SentCalls.{at-most-sent}
 use Rattle.costliest.proofs.at_most_sent.Statement.{statement}
 use Rattle.costliest.proofs.at_most_sent.Tie as tie
 

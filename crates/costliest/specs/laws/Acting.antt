@@ -1,5 +1,5 @@
 -- Turns after all messages are held: each acts, until nothing is due.
-use Prim.Native.Nat.{ℕ, zero, suc, _+_, _-_, _^_, _≤_}
+use Prim.Native.Nat.{ℕ, zero, suc, _+_, _≤_}
 use mathlib.Core.Bool.{Bool, true, false, _&&_, true≢false}
 use mathlib.Core.List.{List}
 use mathlib.Core.Logic.{_⊎_, inl, inr}
@@ -27,17 +27,17 @@ use Rattle.session.specs.declared.Stored.the-variants.{Held}
 use Rattle.turn.specs.laws.Told.{ActTold}
 use Rattle.turn.specs.Due.{due}
 use Rattle.turn.specs.laws.Due.{due-told}
-use Rattle.turn.specs.Turn.{applied, admits, wordsFor, turnWords}
+use Rattle.turn.specs.Turn.{applied, admits, taking, turnWords}
 use Rattle.turn.specs.Turn as turn-specs
 use Rattle.turn.specs.laws.Frame.{Placed, told-placed, Kept, setting, beyond, length-applied, applied-idle, applied-other, applied-kept, applied-turns}
-use Rattle.turn_bound.specs.TurnBound.{Step, after}
 use Rattle.turn_bound.specs.laws.Raising.{counted-mark}
 use Rattle.turn_bound.specs.laws.Sound.{sound-state}
 use Rattle.turn_bound.specs.laws.Turning.{turn-sound}
 use Rattle.held.specs.laws.Held.{COMMIT}
 use Rattle.held.specs.laws.Keeping.{kept-holding, held-back}
 use Rattle.held.specs.laws.Staying.{Stays, stays-kept}
-use Rattle.costliest.specs.Calls.{each, turns}
+use Rattle.costliest.specs.Calls.{Calls, each, turns}
+use Rattle.costliest.specs.laws.Words.{after, turn-after}
 use Rattle.costliest.specs.laws.Saying.{settings, Good, ruled}
 use Rattle.costliest.specs.laws.Hearing.{Prepared, heard-stable}
 
@@ -58,7 +58,7 @@ module _ (n c : ℕ) (low : 1 ≤ n) (few : n ≤ 16) (s : List ℕ) (x : Good n
   is-stored = rw (sound-state (settings n) (ruled n c low few) s (x .sound))
 
   pub turn-words : turnWords s (length (blank 140)) ≡ applied s a
-  unfolding turnWords wordsFor admits sessionOf sessionWith
+  unfolding taking turnWords admits sessionOf sessionWith
   turn-words = rw (sound-state (settings n) (ruled n c low few) s (x .sound), x .unclosed, length-blank 140, x .sound .settings)
 
   same : (j : ℕ) → Kept j → word (applied s a) j ≡ word s j
@@ -87,8 +87,8 @@ module _ (n : ℕ) (two : 2 ≤ n) (low : 1 ≤ n) (few : n ≤ 16) (s : List �
   unfolding setHolders quorum
   not-in-force h =
       let p = h .sender in
-      let same : setHolders (2 ^ n - 1) s n p ≡ count (λ q. commitHeld s q && sameSet s p q) n = ones-count n (λ q. commitHeld s q && sameSet s p q) few in
-      let all : setHolders (2 ^ n - 1) s n p ≡ n = omega (arith, h .holds .enough, count-le (λ q. commitHeld s q && sameSet s p q) n, ones-whole n few) in
+      let same : setHolders (settings n) s p ≡ count (λ q. commitHeld s q && sameSet s p q) n = ones-count n (λ q. commitHeld s q && sameSet s p q) few in
+      let all : setHolders (settings n) s p ≡ n = omega (arith, h .holds .enough, count-le (λ q. commitHeld s q && sameSet s p q) n, ones-whole n few) in
       let there : commitHeld s 2 ≡ true = and-left (commitHeld s 2) (sameSet s p 2) (count-all (λ q. commitHeld s q && sameSet s p q) n 2 (sym same ∙ all) (omega arith) two) in
       let one = x .allowed 2 (COMMIT (commitSet s 2)) (record { low = omega arith; high = omega arith }) (record { there = there; same = refl }) in
       omega (arith, one .1)
@@ -132,10 +132,10 @@ module _ (n : ℕ) (two : 2 ≤ n) (low : 1 ≤ n) (few : n ≤ 16) (begin : Lis
       at true d (inr e) = absurd (true≢false (sym d ∙ e))
       at false d e = record { ready = next-ready s (y .ready); acted = inr (rw (applied-idle s (due (settings n) s) d) d) }
 
-  pub turns-turning : (k : ℕ) (cs : List Step) → Prepared n low few begin (after begin cs) → Turning (word (after begin cs) turnsAt) k (after begin (turns k cs))
-  unfolding turns each after
+  pub turns-turning : (k : ℕ) (cs : Calls) → Prepared n low few begin (after begin cs) → Turning (word (after begin cs) turnsAt) k (after begin (turns k cs))
+  unfolding turns each
   turns-turning zero cs y = record { ready = y; acted = inl (omega arith) }
   turns-turning (suc k) cs y = of (turns-turning k cs y)
     where
-      of : Turning (word (after begin cs) turnsAt) k (after begin (turns k cs)) → Turning (word (after begin cs) turnsAt) (suc k) (turnWords (after begin (turns k cs)) (length (blank 140)))
-      of z = rw (turn-words n 1 low few (after begin (turns k cs)) (z .ready .good)) (next-turn (word (after begin cs) turnsAt) k (after begin (turns k cs)) z)
+      of : Turning (word (after begin cs) turnsAt) k (after begin (turns k cs)) → Turning (word (after begin cs) turnsAt) (suc k) (after begin (turns (suc k) cs))
+      of z = rw (turn-after begin (blank 140) (turns k cs), turn-words n 1 low few (after begin (turns k cs)) (z .ready .good)) (next-turn (word (after begin cs) turnsAt) k (after begin (turns k cs)) z)

@@ -30,18 +30,17 @@ use Rattle.opening.specs.Given.{coinsGiven}
 use Rattle.opening.specs.Opening.{openAnswer, openWords, opened}
 use Rattle.opening.specs.laws.Opening.{first-zero, first-session, first-flags, first-boxed}
 use Rattle.turn.specs.Due.{inForceRule, due}
-use Rattle.turn.specs.Turn.{applied, turnWords}
-use Rattle.turn_bound.specs.TurnBound.{Step, after}
-use Rattle.turn_bound.specs.laws.TurnBound.{acting, TurnCount}
+use Rattle.turn.specs.Turn.{applied}
+use Rattle.calls.specs.Machine.{words}
 use Rattle.turn_bound.specs.laws.Opened.{opened-sound}
 use Rattle.turn_bound.specs.laws.Sound.{sound-bound}
 use Rattle.turn_bound.specs.laws.Turning.{turn-sound}
-use Rattle.turn_bound.specs.laws.Count.{turn-count}
 use Rattle.held.specs.laws.Held.{Message, SEND, ECHO, READY, EST, AUX, COMMIT, Numbered, holds}
 use Rattle.opening.specs.laws.Ones.{ones-word}
-use Rattle.costliest.specs.Calls.{coinWords, opens, packs, each, say, turns, commit, heard, acted, costly, costliestCalls}
-use Rattle.costliest.specs.Statement.{Costliest, wholeSession}
-use Rattle.turn_bound.specs.laws.Lined.{lined-opened, lined-turns}
+use Rattle.costliest.specs.Calls.{Calls, coinWords, opens, packs, each, turns, commit, heard, acted, costly, costliestCalls}
+use Rattle.costliest.specs.Statement.{Costliest}
+use Rattle.costliest.specs.laws.Words.{after, turn-after}
+use Rattle.costliest.specs.laws.Session.{takes}
 use Rattle.costliest.specs.laws.Saying.{settings, Allowed, Good, ruled}
 use Rattle.costliest.specs.laws.Hearing.{Brings, Prepared, heard-ready, commits-bringing}
 use Rattle.costliest.specs.laws.Idle.{idle-count}
@@ -110,7 +109,7 @@ module _ (n : ℕ) (two : 2 ≤ n) (low : 1 ≤ n) (few : n ≤ 16) (s : List �
   -- ---- all turns but the last
 
   prepared : Prepared n low few first (after first (heard n))
-  unfolding after
+  unfolding words
   prepared = heard-ready n low few first first-good
 
   turning : Turning n two low few first (word (after first (heard n)) turnsAt) (99 * n + 2) (after first (acted n))
@@ -127,7 +126,7 @@ module _ (n : ℕ) (two : 2 ≤ n) (low : 1 ≤ n) (few : n ≤ 16) (s : List �
 
   -- ---- the last
 
-  abbrev last : List Step
+  abbrev last : Calls
   last = each (λ p. commit n (p + 1)) (n - 1) (acted n)
 
   -- COMMITs of all are welcome from here on
@@ -162,11 +161,11 @@ module _ (n : ℕ) (two : 2 ≤ n) (low : 1 ≤ n) (few : n ≤ 16) (s : List �
   set-of p lo hi =
       good .allowed p (COMMIT (commitSet (after first last) p)) (record { low = lo; high = omega arith }) (record { there = all-committed p lo hi; same = refl }) .0
 
-  leads : setLeads (2 ^ n - 1) (after first last) n n 1 ≡ true
+  leads : setLeads (settings n) (after first last) n 1 ≡ true
   unfolding setLeads setHolders
   leads =
       and-both (commitHeld (after first last) 1) _ (all-committed 1 (omega arith) low)
-      (le-leb n (setHolders (2 ^ n - 1) (after first last) n 1) (omega (
+      (le-leb n (setHolders (settings n) (after first last) 1) (omega (
         arith,
         ones-count n (λ q. commitHeld (after first last) q && sameSet (after first last) 1 q) few ∙ all-count (λ q. commitHeld (after first last) q && sameSet (after first last) 1 q) n
             (λ q lo hi. and-both (commitHeld (after first last) q) (sameSet (after first last) 1 q) (all-committed q lo hi)
@@ -177,43 +176,32 @@ module _ (n : ℕ) (two : 2 ≤ n) (low : 1 ≤ n) (few : n ≤ 16) (s : List �
   unfolding quorum
   quorum-all = omega (arith, ones-whole n few)
 
-  leader : setLeader (2 ^ n - 1) (after first last) n n ≢ 0
+  leader : setLeader (settings n) (after first last) n ≢ 0
   unfolding setLeader
-  leader z = true≢false (sym leads ∙ lowest-none (setLeads (2 ^ n - 1) (after first last) n n) n z 1 (omega arith) low)
+  leader z = true≢false (sym leads ∙ lowest-none (setLeads (settings n) (after first last) n) n z 1 (omega arith) low)
 
   rule : inForceRule (settings n) (after first last) ≡ InForce
   unfolding inForceRule
-  rule = rw (quorum-all, ne-eqb (setLeader (2 ^ n - 1) (after first last) n n) 0 leader)
+  rule = rw (quorum-all, ne-eqb (setLeader (settings n) (after first last) n) 0 leader)
 
   in-force : isDue (due (settings n) (after first last)) ≡ true
   unfolding due orAct
   in-force = rw rule
 
-  -- deliveries are no turns
-  same-acting : (k : ℕ) (cs : List Step) → acting first (each (λ p. commit n (p + 1)) k cs) ≡ acting first cs
-  unfolding each commit say acting
-  same-acting zero cs = refl
-  same-acting (suc k) cs = same-acting k cs
-
-  counts : (cs : List Step) → word (after first cs) turnsAt ≡ acting first cs
-  unfolding TurnCount
-  counts cs = turn-count s (opens n) accepted cs .stored
-
-  exactly : acting first (costly n) ≡ 99 * n + 3
-  unfolding costly turns each after
+  exactly : word (after first (costly n)) turnsAt ≡ 99 * n + 3
+  unfolding costly turns each
   exactly =
-      let a : acting first last ≡ acting first (acted n) = same-acting (n - 1) (acted n) in
-      let same : turnWords (after first last) (length (blank 140)) ≡ applied (after first last) (due (settings n) (after first last)) = turn-words n n low few (after first last) good in
+      let a : word (after first last) turnsAt ≡ word (after first (acted n)) turnsAt = brings .count in
+      let same : after first (costly n) ≡ applied (after first last) (due (settings n) (after first last)) = turn-after first (blank 140) last ∙ turn-words n n low few (after first last) good in
       let one = turn-acts n n low few (after first last) good in-force in
-      let final : word (turnWords (after first last) (length (blank 140))) turnsAt ≡ word (after first last) turnsAt + 1 = ap (λ (t : List ℕ). word t turnsAt) same ∙ one in
-      let most = sound-bound (settings n) (ruled n n low few) _ (turn-sound (settings n) (ruled n n low few) (after first last) (good .sound) (blank 140) .sound) in
-      omega (arith, counts (costly n), counts last, counts (acted n), enough, final, most, turn-bound-sum (settings n))
+      let final : word (after first (costly n)) turnsAt ≡ word (after first last) turnsAt + 1 = ap (λ (t : List ℕ). word t turnsAt) same ∙ one in
+      let sound = turn-sound (settings n) (ruled n n low few) (after first last) (good .sound) (blank 140) .sound in
+      let most = sound-bound (settings n) (ruled n n low few) _ (rw (← turn-after first (blank 140) last) at sound) in
+      omega (arith, a, enough, final, most, turn-bound-sum (settings n))
 
 pub costliest : Costliest
-unfolding Costliest wholeSession costliestCalls
-costliest n two few s size =
-    let taken = accepted n two (omega arith) few s size in
-    record {
-      is-opened = lined-opened s (opens n) taken;
-      exactly = rw (ne-eqb n 1 (λ e. omega arith)) (lined-turns s (opens n) taken (costly n) ∙ exactly n two (omega arith) few s size);
-    }
+unfolding Costliest costliestCalls
+costliest n two few start size =
+    let low : 1 ≤ n = omega arith in
+    let taken = accepted n two low few (start 1) size in
+    takes n start taken (99 * n + 3) (rw (ne-eqb n 1 (λ e. omega arith)) (exactly n two low few (start 1) size))

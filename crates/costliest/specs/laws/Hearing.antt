@@ -3,34 +3,37 @@ use Prim.Native.Nat.{ℕ, zero, suc, _+_, _-_, _≤_}
 use mathlib.Core.Bool.{true}
 use mathlib.Core.List.{List, []}
 use mathlib.Core.Logic.{inl, inr}
-use mathlib.Core.Path.{_≡_, refl, subst}
+use mathlib.Core.Path.{_≡_, refl, subst, _∙_}
 use native.Mathlib.Omega.{arith}
 use native.Mathlib.Decide.{decLe}
-use Rattle.records.specs.Layout.{voteAt, estMark, auxMark}
-use Rattle.records.specs.Words.{marked}
+use Rattle.records.specs.Layout.{turnsAt, voteAt, estMark, auxMark}
+use Rattle.records.specs.Words.{word, marked}
 use Rattle.commits.specs.Commits.{commitHeld}
 use Rattle.wire.specs.Bytes.{risesFrom, rises}
-use Rattle.wire.specs.Message.{valuesOf}
+use Rattle.wire.specs.Message.{valuesOf, encode}
 use Rattle.wire.specs.declared.Message as wire-message
 use Rattle.wire.specs.declared.Message.the-variants as wire
-use Rattle.wire_laws.specs.Proper.{Proper}
+use Rattle.wire_laws.specs.Proper.{Layout, Proper}
+use Rattle.delivery.specs.Delivery.{delivered}
 use Rattle.delivery.specs.laws.Frame.{MarkWord, markWordOf, markOf}
 use Rattle.delivery.specs.laws.Held.{NotCommit}
-use Rattle.turn_bound.specs.TurnBound.{Step, after}
+use Rattle.turn_bound.specs.laws.Delivering.{delivery-sound}
 use Rattle.held.specs.laws.Held.{meaning}
 use Rattle.held.specs.laws.Staying.{Stays, stays-same, stays-then}
-use Rattle.costliest.specs.Calls.{each, packs, say, sends, readies, ests, auxs, commit, heard}
-use Rattle.costliest.specs.laws.Saying.{Allowed, Good, Said, say-mark, say-commit, commit-proper}
+use Rattle.costliest.specs.Calls.{Calls, each, packs, say, sends, readies, ests, auxs, commit, heard}
+use Rattle.costliest.specs.laws.Words.{after, say-after}
+use Rattle.costliest.specs.laws.Saying.{settings, Allowed, Good, ruled, Said, say-mark, say-commit, commit-proper}
 
 module _ (n : ℕ) (low : 1 ≤ n) (few : n ≤ 16) (first : List ℕ) where
-  -- the calls of f keep all that is held, and leave F
-  pub record Brings (c : ℕ) (F : List ℕ → Type 0) (f : List Step → List Step) (cs : List Step) : Type 0 where
+  -- the calls of f keep all that is held, and the count of turns, and leave F
+  pub record Brings (c : ℕ) (F : List ℕ → Type 0) (f : Calls → Calls) (cs : Calls) : Type 0 where
     pub good : Good n c (after first (f cs))
     pub keeps : Stays (after first cs) (after first (f cs))
     pub fact : F (after first (f cs))
+    pub count : word (after first (f cs)) turnsAt ≡ word (after first cs) turnsAt
 
-  abbrev pub Bringing : ℕ → (List ℕ → Type 0) → (List Step → List Step) → Type 0
-  Bringing c F f = (cs : List Step) → Good n c (after first cs) → Brings c F f cs
+  abbrev pub Bringing : ℕ → (List ℕ → Type 0) → (Calls → Calls) → Type 0
+  Bringing c F f = (cs : Calls) → Good n c (after first cs) → Brings c F f cs
 
   abbrev Stable : (List ℕ → Type 0) → Type 0
   Stable F = (s t : List ℕ) → Stays s t → F s → F t
@@ -39,16 +42,16 @@ module _ (n : ℕ) (low : 1 ≤ n) (few : n ≤ 16) (first : List ℕ) where
   abbrev Each : (ℕ → List ℕ → Type 0) → ℕ → List ℕ → Type 0
   Each F k s = (i : ℕ) → 1 ≤ i → i ≤ k → F i s
 
-  each-bringing : (c : ℕ) (F : ℕ → List ℕ → Type 0) (f : ℕ → List Step → List Step) (k : ℕ) → ((i : ℕ) → 1 ≤ i → i ≤ k → Stable (F i)) → ((i : ℕ) → 1 ≤ i → i ≤ k → Bringing c (F i) (f i)) → Bringing c (Each F k) (each f k)
+  each-bringing : (c : ℕ) (F : ℕ → List ℕ → Type 0) (f : ℕ → Calls → Calls) (k : ℕ) → ((i : ℕ) → 1 ≤ i → i ≤ k → Stable (F i)) → ((i : ℕ) → 1 ≤ i → i ≤ k → Bringing c (F i) (f i)) → Bringing c (Each F k) (each f k)
   unfolding each
-  each-bringing c F f zero st h cs x = record { good = x; keeps = stays-same (after first cs); fact = λ i a b. absurd (omega arith) }
+  each-bringing c F f zero st h cs x = record { good = x; keeps = stays-same (after first cs); fact = λ i a b. absurd (omega arith); count = refl }
   each-bringing c F f (suc k) st h cs x = of (each-bringing c F f k (λ i a b. st i a (omega arith)) (λ i a b. h i a (omega arith)) cs x)
     where
       of : Brings c (Each F k) (each f k) cs → Brings c (Each F (suc k)) (λ ds. f (suc k) (each f k ds)) cs
       of y = last (h (suc k) (omega arith) (omega arith) (each f k cs) (y .good))
         where
           last : Brings c (F (suc k)) (f (suc k)) (each f k cs) → Brings c (Each F (suc k)) (λ ds. f (suc k) (each f k ds)) cs
-          last z = record { good = z .good; keeps = stays-then (y .keeps) (z .keeps); fact = λ i a b. at i a b (decLe i k) }
+          last z = record { good = z .good; keeps = stays-then (y .keeps) (z .keeps); fact = λ i a b. at i a b (decLe i k); count = z .count ∙ y .count }
             where
               at : (i : ℕ) → 1 ≤ i → i ≤ suc k → Dec (i ≤ k) → F i (after first (f (suc k) (each f k cs)))
               at i a b (yes l) = st i a b _ _ (z .keeps) (y .fact i a l)
@@ -58,14 +61,14 @@ module _ (n : ℕ) (low : 1 ≤ n) (few : n ≤ 16) (first : List ℕ) where
   each-stable F k h s t y f i a b = h i a b s t y (f i a b)
 
   -- two after one another
-  both-bringing : (c : ℕ) (F G : List ℕ → Type 0) (f g : List Step → List Step) → Stable F → Bringing c F f → Bringing c G g → Bringing c (λ s. F s × G s) (λ cs. g (f cs))
+  both-bringing : (c : ℕ) (F G : List ℕ → Type 0) (f g : Calls → Calls) → Stable F → Bringing c F f → Bringing c G g → Bringing c (λ s. F s × G s) (λ cs. g (f cs))
   both-bringing c F G f g st p q cs x = of (p cs x)
     where
       of : Brings c F f cs → Brings c (λ s. F s × G s) (λ ds. g (f ds)) cs
       of y = last (q (f cs) (y .good))
         where
           last : Brings c G g (f cs) → Brings c (λ s. F s × G s) (λ ds. g (f ds)) cs
-          last z = record { good = z .good; keeps = stays-then (y .keeps) (z .keeps); fact = (st _ _ (z .keeps) (y .fact), z .fact) }
+          last z = record { good = z .good; keeps = stays-then (y .keeps) (z .keeps); fact = (st _ _ (z .keeps) (y .fact), z .fact); count = z .count ∙ y .count }
 
   -- ---- one message
 
@@ -75,19 +78,30 @@ module _ (n : ℕ) (low : 1 ≤ n) (few : n ≤ 16) (first : List ℕ) where
   marked-stable : (k q : ℕ) → MarkWord k → Stable (Marked k q)
   marked-stable k q w s t y e = y .marks k w q e
 
+  -- its fields fit a byte each
+  said-after : (p : ℕ) → p ≤ n → (m : wire-message.Message) → Layout n p m → (cs : Calls) → after first (say p m cs) ≡ delivered (after first cs) p (encode m p 7 packs)
+  said-after p hi (wire.Send i v) l cs = say-after first p (wire.Send i v) cs (omega arith) (omega (arith, l)) (omega arith) (omega arith)
+  said-after p hi (wire.Echo i v) l cs = say-after first p (wire.Echo i v) cs (omega arith) (omega (arith, l .1)) (omega arith) (omega arith)
+  said-after p hi (wire.Ready i v) l cs = say-after first p (wire.Ready i v) cs (omega arith) (omega (arith, l .1)) (omega arith) (omega arith)
+  said-after p hi (wire.Est i r v) l cs = say-after first p (wire.Est i r v) cs (omega arith) (omega (arith, l .1)) (omega (arith, l .3)) (omega arith)
+  said-after p hi (wire.Aux i r v) l cs = say-after first p (wire.Aux i r v) cs (omega arith) (omega (arith, l .1)) (omega (arith, l .3)) (omega arith)
+  said-after p hi (wire.Commit k) l cs = say-after first p (wire.Commit k) cs (omega arith) (omega arith) (omega arith) (omega (arith, l .1))
+
+  same-count : (c : ℕ) (cs : Calls) → Good n c (after first cs) → (p : ℕ) (m : wire-message.Message) → word (delivered (after first cs) p (encode m p 7 packs)) turnsAt ≡ word (after first cs) turnsAt
+  same-count c cs x p m = delivery-sound (settings n) (ruled n c low few) (after first cs) (x .sound) p (encode m p 7 packs) .count
+
   say-bringing : (c p : ℕ) → 1 ≤ p → p ≤ n → (m : wire-message.Message) → Proper n p m packs → NotCommit m → Allowed n c p (meaning m packs) → Allowed n c p (meaning m (valuesOf m packs)) → Bringing c (Marked (markWordOf p m) (markOf p m)) (say p m)
-  unfolding say after
   say-bringing c p lo hi m proper k a may cs x = of (say-mark n c low few (after first cs) x p lo hi m proper k a may)
     where
       of : Said n c low few (after first cs) x p lo hi m proper (λ t. marked t (markWordOf p m) (markOf p m) ≡ true) → Brings c (Marked (markWordOf p m) (markOf p m)) (say p m) cs
-      of y = record { good = y .good; keeps = y .keeps; fact = y .fact }
+      of y = let e = said-after p hi m (proper .layout) cs in record { good = rw e (y .good); keeps = rw e (y .keeps); fact = rw e (y .fact); count = rw e (same-count c cs x p m) }
 
   commit-bringing : (c p : ℕ) → 1 ≤ p → p ≤ n → p ≤ c → Bringing c (λ s. commitHeld s p ≡ true) (commit n p)
-  unfolding commit say after
+  unfolding commit
   commit-bringing c p lo hi l cs x = of (say-commit n c low few (after first cs) x p lo hi l)
     where
       of : Said n c low few (after first cs) x p lo hi (wire.Commit n) (commit-proper n c low few (after first cs) x p lo hi) (λ t. commitHeld t p ≡ true) → Brings c (λ s. commitHeld s p ≡ true) (commit n p) cs
-      of y = record { good = y .good; keeps = y .keeps; fact = y .fact }
+      of y = let e = said-after p hi (wire.Commit n) (low, omega arith) cs in record { good = rw e (y .good); keeps = rw e (y .keeps); fact = rw e (y .fact); count = rw e (same-count c cs x p (wire.Commit n)) }
 
   -- ---- the messages of the session
 

@@ -67,7 +67,7 @@ module _ (n : ℕ) (two : 2 ≤ n) (few : n ≤ 16) (low : 1 ≤ n) (begin : Lis
       x .allowed p (READY i (readyValue s i p)) (record { low = l; high = omega arith })
       (record { instance = record { low = lo; high = omega arith }; there = h .readied i lo hi p l k; same = refl })
 
-  holders-all : (i : ℕ) → 1 ≤ i → i ≤ n → holders (g .weights) (readyHeld s i) (readyValue s i) i n ≡ n
+  holders-all : (i : ℕ) → 1 ≤ i → i ≤ n → holders g (readyHeld s i) (readyValue s i) i ≡ n
   unfolding holders readyHeld
   holders-all i lo hi =
       ones-count n (λ p. readyHeld s i p && eqb (readyValue s i p) i) few
@@ -76,12 +76,12 @@ module _ (n : ℕ) (two : 2 ≤ n) (few : n ≤ 16) (low : 1 ≤ n) (begin : Lis
 
   ready-done : isDue (readyRule g s) ≡ false → (i : ℕ) → 1 ≤ i → i ≤ n → readySent s i ≡ true
   unfolding readyRule readyAct readyDue repeat
-  ready-done e i lo hi = of (leading (g .weights) (echoHeld s i) (echoValue s i) n (quorum g)) (leading (g .weights) (readyHeld s i) (readyValue s i) n 1) refl (first-idle (readyAct g s) n e i lo hi)
+  ready-done e i lo hi = of (leading g (echoHeld s i) (echoValue s i) (quorum g)) (leading g (readyHeld s i) (readyValue s i) 1) refl (first-idle (readyAct g s) n e i lo hi)
     where
-      of : (u v : Output) → leading (g .weights) (readyHeld s i) (readyValue s i) n 1 ≡ v → isDue (cond (readySent s i) Idle (readyOf i (orOutput u v))) ≡ false → readySent s i ≡ true
+      of : (u v : Output) → leading g (readyHeld s i) (readyValue s i) 1 ≡ v → isDue (cond (readySent s i) Idle (readyOf i (orOutput u v))) ≡ false → readySent s i ≡ true
       of (Value a) v f d = passed-test (readySent s i) (Ready i a) refl d
       of Nothing (Value a) f d = passed-test (readySent s i) (Ready i a) refl d
-      of Nothing Nothing f d = absurd (leading-some (g .weights) (readyHeld s i) (readyValue s i) n 1 i (omega arith) (omega (arith, holders-all i lo hi)) f)
+      of Nothing Nothing f d = absurd (leading-some g (readyHeld s i) (readyValue s i) 1 i (omega arith) (omega (arith, holders-all i lo hi)) f)
 
   output-is : (i : ℕ) → 1 ≤ i → i ≤ n → output g s i ≡ Value i
   unfolding quorum
@@ -198,28 +198,28 @@ module _ (n : ℕ) (two : 2 ≤ n) (few : n ≤ 16) (low : 1 ≤ n) (begin : Lis
 
   -- ---- COMMIT
 
-  leads-one : setLeads (g .weights) s n 1 1 ≡ true
+  leads-one : setLeads g s 1 1 ≡ true
   unfolding setLeads setHolders
   leads-one =
       and-both (commitHeld s 1) _ (h .committed)
-      (le-leb 1 (setHolders (g .weights) s n 1) (omega (arith, ones-weight n 1 (omega arith) low few, member-total (weightOf (2 ^ n - 1)) (λ q. commitHeld s q && sameSet s 1 q) n 1 (omega arith) low (and-both (commitHeld s 1) (sameSet s 1 1) (h .committed) (set-same s 1 1 size (omega arith) (omega arith) refl)))))
+      (le-leb 1 (setHolders g s 1) (omega (arith, ones-weight n 1 (omega arith) low few, member-total (weightOf (2 ^ n - 1)) (λ q. commitHeld s q && sameSet s 1 q) n 1 (omega arith) low (and-both (commitHeld s 1) (sameSet s 1 1) (h .committed) (set-same s 1 1 size (omega arith) (omega arith) refl)))))
 
-  leader-there : setLeader (g .weights) s n 1 ≢ 0
+  leader-there : setLeader g s 1 ≢ 0
   unfolding setLeader
-  leader-there z = true≢false (sym leads-one ∙ lowest-none (setLeads (g .weights) s n 1) n z 1 (omega arith) low)
+  leader-there z = true≢false (sym leads-one ∙ lowest-none (setLeads g s 1) n z 1 (omega arith) low)
 
-  set-there : 1 ≤ length (leadingSet (g .weights) s n 1)
+  set-there : 1 ≤ length (leadingSet g s 1)
   unfolding leadingSet setOf commitHeld
-  set-there = of (leader-holds (g .weights) s n 1 leader-there)
+  set-there = of (leader-holds g s 1 leader-there)
     where
-      of : SetHeld (g .weights) s n 1 (setLeader (g .weights) s n 1) → 1 ≤ length (cond (eqb (setLeader (g .weights) s n 1) 0) [] (commitSet s (setLeader (g .weights) s n 1)))
+      of : SetHeld g s 1 (setLeader g s 1) → 1 ≤ length (cond (eqb (setLeader g s 1) 0) [] (commitSet s (setLeader g s 1)))
       of y =
-          rw (ne-eqb (setLeader (g .weights) s n 1) 0 leader-there)
-          (omega (arith, set-length s (setLeader (g .weights) s n 1) size (omega (arith, y .high)), ltb-true 0 (commitCount s (setLeader (g .weights) s n 1)) (y .held)))
+          rw (ne-eqb (setLeader g s 1) 0 leader-there)
+          (omega (arith, set-length s (setLeader g s 1) size (omega (arith, y .high)), ltb-true 0 (commitCount s (setLeader g s 1)) (y .held)))
 
   commit-done : isDue (commitRule g s) ≡ false → commitSent s ≡ true
   unfolding commitRule commitDue repeat commitOf orSet
-  commit-done e = of (exitNow g s .names) (leadingSet (g .weights) s n 1) set-there e
+  commit-done e = of (exitNow g s .names) (leadingSet g s 1) set-there e
     where
       of : (xs ys : List ℕ) → 1 ≤ length ys → isDue (cond (commitSent s) Idle (commitOf (orSet xs ys))) ≡ false → commitSent s ≡ true
       of xs [] l d = absurd (omega arith)
@@ -282,6 +282,6 @@ module _ (n : ℕ) (two : 2 ≤ n) (few : n ≤ 16) (low : 1 ≤ n) (begin : Lis
     unfolding potential
     nearly-full = omega (arith, flags-two, parts-full n (omega arith))
 
-  -- "99·n+3" but one
+  -- the turn bound but one (PROTOCOL 8.20)
   pub idle-count : isDue (due g s) ≡ false → 99 * n + 2 ≤ word s 6
   idle-count e = omega (arith, x .sound .turns, nearly-full (idle-done e))

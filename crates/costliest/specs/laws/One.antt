@@ -44,8 +44,7 @@ use Rattle.turn.specs.laws.Admitting.{admitted-settings}
 use Rattle.turn.specs.laws.Turn.{Way, refused, taken, way}
 use Rattle.delivery.specs.Delivery.{delivered}
 use Rattle.recording.specs.Recording.{recordedWords}
-use Rattle.turn_bound.specs.TurnBound.{Step, opening, delivery, turn, report, recording, after, current}
-use Rattle.turn_bound.specs.laws.TurnBound.{acting}
+use Rattle.turn_bound.specs.laws.Steps.{Step, opening, delivery, turn, report, recording, after, current, acting}
 use Rattle.turn_bound.specs.laws.Sums.{share-few, zero-count}
 use Rattle.turn_bound.specs.laws.Potential.{instancePart, potential}
 use Rattle.turn_bound.specs.laws.Sound.{Sound}
@@ -53,7 +52,7 @@ use Rattle.turn_bound.specs.laws.Delivering.{Delivered, delivery-sound}
 use Rattle.turn_bound.specs.laws.Recorded.{Recorded, recording-sound}
 use Rattle.turn_bound.specs.laws.Opened.{opened-ruled}
 use Rattle.turn_bound.specs.laws.Count.{going, opening-going, refused-words}
-use Rattle.turn_bound.specs.laws.CallCount.{calls-stepped}
+use Rattle.turn_bound.specs.laws.CallCount.{calls-begun}
 use Rattle.costliest.specs.Statement.{AtMostFive}
 
 -- the vote has not begun
@@ -116,7 +115,7 @@ module _ (s : List ℕ) (q : Quiet s) where
   due-no-vote : NoVote (due alone s)
   unfolding due inForceRule commitRule commitOf sendRule
   due-no-vote =
-      all-or NoVote (inForceRule alone s) _ (all-cond NoVote (eqb (setLeader 1 s 1 (quorum alone)) 0) Idle InForce (λ e. tt) (λ e. tt))
+      all-or NoVote (inForceRule alone s) _ (all-cond NoVote (eqb (setLeader alone s (quorum alone)) 0) Idle InForce (λ e. tt) (λ e. tt))
       (all-or NoVote (commitRule alone s) _ (all-cond NoVote (commitSent s) Idle (commitOf (commitDue alone s)) (λ e. tt) (λ e. set (commitDue alone s)))
       (all-or NoVote (sendRule s) _ (all-cond NoVote (sendSent s) Idle (Send (word s 5)) (λ e. tt) (λ e. tt))
       (all-or NoVote (echoRule alone s) _ (echo-rule-holds NoVote alone s tt (λ i a b e f. tt))
@@ -253,8 +252,8 @@ module _ (s : List ℕ) (o : Arguments) (e : openAnswer (length s) o ≡ 0) wher
 
 pub at-most-five : AtMostFive
 unfolding AtMostFive
-at-most-five s cs e one lit =
-    let x = calls-stepped s cs e in
+at-most-five start cs q y e one lit =
+    let x = calls-begun start cs q y e in
     let n : current (settingsBy (x .arguments)) (opened (x .first) (x .arguments)) (x .steps) .n ≡ 1 = ap (λ (g : Settings). g .n) (x .settings) ∙ one in
     let w : current (settingsBy (x .arguments)) (opened (x .first) (x .arguments)) (x .steps) .weights ≡ 1 = ap (λ (g : Settings). g .weights) (x .settings) ∙ lit in
     rw (x .count) at (few-turns (x .first) (x .arguments) (x .opens) (x .steps) n w)

@@ -1,14 +1,14 @@
 -- Each act sends one message, but the move out of round 32 and the closing; a message has 20 bytes, but for the COMMIT.
 use Prim.Native.Nat.{ℕ, zero, suc, _+_, _*_, _-_, _≤_, _<_}
-use mathlib.Core.Bool.{Bool, true, false, cond, true≢false}
-use mathlib.Core.List.{List, [], _∷_}
+use mathlib.Core.Bool.{Bool, true, false, true≢false}
+use mathlib.Core.List.{List}
 use mathlib.Core.Logic.{_≢_, inl}
 use mathlib.Core.Path.{_≡_, refl, sym, ap, subst, _∙_}
 use native.Mathlib.Omega.{arith}
 use native.Mathlib.Decide.{decLt, ℕ-discrete}
 use lib.Dec.{eqb}
 use lib.ListN.{length}
-use borrow.Author.Tests.{eqb-true, ne-eqb, lt-ltb, le-ltb}
+use borrow.Author.Tests.{ne-eqb, lt-ltb, le-ltb}
 use Rattle.settings.specs.Rules.{Ruled}
 use Rattle.settings.specs.declared.Settings.{Settings}
 use Rattle.quorum.specs.Marks.{mark, withMark}
@@ -26,8 +26,6 @@ use Rattle.records.specs.Records.{decidedZero, decidedOne}
 use Rattle.acts.specs.Acts.{isDue}
 use Rattle.acts.specs.declared.Act.{Act}
 use Rattle.acts.specs.declared.Act.the-variants.{Idle, InForce, Commit, Send, Echo, Ready, Start, Relay, Aux, Move}
-use Rattle.opening.specs.Arguments.{Arguments, settingsBy}
-use Rattle.opening.specs.Opening.{openAnswer, opened}
 use Rattle.turn.specs.laws.Told.{ActTold, CommitTold, Rests, on-exit, on-copies}
 use Rattle.turn.specs.Due.{due}
 use Rattle.turn.specs.Turn.{outcomeOf, moveOutcome, sentLength, applied, turnOutcome, turnWords}
@@ -42,8 +40,6 @@ use Rattle.wire.specs.declared.Message.the-variants as message
 use Rattle.acts.specs.declared.View.{View}
 use Rattle.delivery.specs.Delivery.{delivered}
 use Rattle.recording.specs.Recording.{recordedWords}
-use Rattle.turn_bound.specs.TurnBound.{Step, opening, delivery, turn, report, recording, after, current}
-use Rattle.turn_bound.specs.laws.TurnBound.{acting}
 use Rattle.turn_bound.specs.laws.Sums.{share-few, sum-grows, sum-one}
 use Rattle.turn_bound.specs.laws.Potential.{instancePart, potential}
 use Rattle.turn_bound.specs.laws.Rounds.{Entry}
@@ -51,8 +47,8 @@ use Rattle.turn_bound.specs.laws.Raising.{counted-mark, start-entry, move-entry
 use Rattle.turn_bound.specs.laws.Sound.{Sound}
 use Rattle.turn_bound.specs.laws.Delivering.{Delivered, delivery-sound}
 use Rattle.turn_bound.specs.laws.Recorded.{Recorded, recording-sound}
-use Rattle.turn_bound.specs.laws.Count.{Going, going, opening-going, refused-words}
-use Rattle.costliest.specs.Statement.{sentOne, summed, Sends, AtMostSent}
+use Rattle.turn_bound.specs.laws.Count.{Going}
+use Rattle.costliest.specs.Statement.{sentOne}
 
 -- ---- acts that send nothing
 
@@ -240,10 +236,10 @@ module _ (g : Settings) (ruled : Ruled g) (own : ℕ) (s : List ℕ) (h : Sound 
   act-sends (Aux i r b) d t = voting (Aux i r b) _ refl refl (λ z. omega arith) (still-votes (Aux i r b) (λ j lo hi z. omega (arith, ruled .few, t .0 .low)))
   act-sends (Move i r v) d t = moving i r v t (decLt r 32)
 
--- ---- a list of calls
+-- ---- a call
 
 -- m messages of b bytes are no more than the turns that are counted in w could send
-record SentWithin (n : ℕ) (w : List ℕ) (m b : ℕ) : Type 0 where
+pub record SentWithin (n : ℕ) (w : List ℕ) (m b : ℕ) : Type 0 where
   messages : m + withoutMessage n w ≤ word w turnsAt
   bytes : b + 20 * withoutMessage n w ≤ 20 * word w turnsAt + longer n w
 
@@ -281,7 +277,7 @@ module _ (g : Settings) (ruled : Ruled g) (s : List ℕ) (h : Sound g s) (m b : 
       let none = idle-sends own s a e in
       rw (applied-idle s a e, none .0, none .1) none-sent
 
-  turn-within : (lent : List ℕ) → SentWithin (g .n) (turnWords s (length lent)) (sentOne (turnOutcome s (length lent)) + m) (sentLength (turnOutcome s (length lent)) + b)
+  pub turn-within : (lent : List ℕ) → SentWithin (g .n) (turnWords s (length lent)) (sentOne (turnOutcome s (length lent)) + m) (sentLength (turnOutcome s (length lent)) + b)
   turn-within lent = of (way s lent)
     where
       of : Way s lent → SentWithin (g .n) (turnWords s (length lent)) (sentOne (turnOutcome s (length lent)) + m) (sentLength (turnOutcome s (length lent)) + b)
@@ -291,57 +287,26 @@ module _ (g : Settings) (ruled : Ruled g) (s : List ℕ) (h : Sound g s) (m b : 
           let told : ActTold g s (due (y .settings) s) = subst (λ (z : Settings). ActTold z s (due (y .settings) s)) same (t .told) in
           rw (t .words, t .answer) (act-within (y .own) (t .admits .unclosed) (due (y .settings) s) told (isDue (due (y .settings) s)) refl)
 
-  delivery-within : (link : ℕ) (bytes : List ℕ) → SentWithin (g .n) (delivered s link bytes) m b
+  pub delivery-within : (link : ℕ) (bytes : List ℕ) → SentWithin (g .n) (delivered s link bytes) m b
   delivery-within link bytes = of (delivery-sound g ruled s h link bytes)
     where
       of : Delivered g s (delivered s link bytes) → SentWithin (g .n) (delivered s link bytes) m b
       of y = within-same (g .n) (ruled .few) s (delivered s link bytes) m b (y .same flagsAt (inl (omega arith))) (y .count) (λ j lo hi. y .same (roundAt j) (inl (omega (arith, ruled .few)))) x
 
-  recording-within : (i r bit : ℕ) → SentWithin (g .n) (recordedWords s i r bit) m b
+  pub recording-within : (i r bit : ℕ) → SentWithin (g .n) (recordedWords s i r bit) m b
   recording-within i r bit = of (recording-sound g ruled s h i r bit)
     where
       of : Recorded g s (recordedWords s i r bit) → SentWithin (g .n) (recordedWords s i r bit) m b
       of y = within-same (g .n) (ruled .few) s (recordedWords s i r bit) m b (y .same flagsAt (λ z. omega arith)) (y .count) (λ j lo hi. y .same (roundAt j) (λ z. omega arith)) x
 
-opening-within : (w : List ℕ) (o : Arguments) → openAnswer (length w) o ≡ 0 → SentWithin (o .n) (opened w o) 0 0
-opening-within w o e =
-    let y = opening-going w o e in
-    let few = without-potential (opened w o) (o .n) in
+-- nothing was sent yet
+pub fresh-within : (g : Settings) (w : List ℕ) (k : ℕ) → Going g w k → SentWithin (g .n) w 0 0
+fresh-within g w k y =
+    let few = without-potential w (g .n) in
     record { messages = omega (arith, y .sound .turns, few); bytes = omega (arith, y .sound .turns, few) }
 
-module _ (s : List ℕ) (o : Arguments) (e : openAnswer (length s) o ≡ 0) where
-  abbrev first : List ℕ
-  first = opened s o
-
-  abbrev now : List Step → Settings
-  now cs = current (settingsBy o) first cs
-
-  all-going : (cs : List Step) → Going (now cs) (after first cs) (acting first cs)
-  all-going cs = going (settingsBy o) first (opening-going s o e) cs
-
-  sent-within : (cs : List Step) → SentWithin (now cs .n) (after first cs) (summed sentOne first cs) (summed sentLength first cs)
-  unfolding current after summed
-  sent-within [] = opening-within s o e
-  sent-within (opening p ∷ cs) = at (eqb (openAnswer (length (after first cs)) p) 0) refl (sent-within cs)
-    where
-      at : (b : Bool) → eqb (openAnswer (length (after first cs)) p) 0 ≡ b → SentWithin (now cs .n) (after first cs) (summed sentOne first cs) (summed sentLength first cs) →
-          SentWithin (cond b (settingsBy p) (now cs) .n) (opened (after first cs) p) (cond b 0 (summed sentOne first cs)) (cond b 0 (summed sentLength first cs))
-      at true d x = opening-within (after first cs) p (eqb-true (openAnswer (length (after first cs)) p) 0 d)
-      at false d x = rw (refused-words (after first cs) p d) x
-  sent-within (delivery link b ∷ cs) = let y = all-going cs in delivery-within (now cs) (y .ruled) (after first cs) (y .sound) _ _ (sent-within cs) link b
-  sent-within (turn lent ∷ cs) = let y = all-going cs in turn-within (now cs) (y .ruled) (after first cs) (y .sound) _ _ (sent-within cs) lent
-  sent-within (report ∷ cs) = sent-within cs
-  sent-within (recording i r b ∷ cs) = let y = all-going cs in recording-within (now cs) (y .ruled) (after first cs) (y .sound) _ _ (sent-within cs) i r b
-
-  few-sent : (cs : List Step) → Sends (now cs .n) first cs
-  few-sent cs =
-      let y = all-going cs in
-      let x = sent-within cs in
-      record {
-        messages = omega (arith, x .messages, y .sound .turns, potential-sent (after first cs) (now cs .n));
-        bytes = omega (arith, x .bytes, y .sound .turns, potential-sent (after first cs) (now cs .n), longer-few (now cs .n) (after first cs), y .ruled .some);
-      }
-
-pub at-most-sent : AtMostSent
-unfolding AtMostSent
-at-most-sent s o e cs = few-sent s o e cs
+pub few-sent : (g : Settings) (w : List ℕ) (k m b : ℕ) → Going g w k → SentWithin (g .n) w m b → (m ≤ 98 * g .n + 2) × (b ≤ 1968 * g .n + 32)
+few-sent g w k m b y x = (
+  omega (arith, x .messages, y .sound .turns, potential-sent w (g .n)),
+  omega (arith, x .bytes, y .sound .turns, potential-sent w (g .n), longer-few (g .n) w, y .ruled .some),
+)

@@ -1,26 +1,27 @@
 -- The paths of src/lib.rt.
 use Prim.Native.Nat.{ℕ, zero, suc, _+_, _*_, _-_, _<_, _≤_}
-use mathlib.Core.Bool.{Bool, true, false, cond}
 use mathlib.Core.List.{List, [], _∷_}
 use mathlib.Core.Path.{_≡_, refl, sym, ap, _∙_}
 use native.Mathlib.Omega.{arith}
 use native.Mathlib.Decide.{decLe, ℕ-discrete}
-use lib.Dec.{eqb, ltb}
 use lib.ListN.{length, getD}
 use mir.Val.{Fits}
 use mir.Syntax.{w64}
 use borrow.Author.Tests.{eq-eqb, ne-eqb, lt-ltb, le-ltb, le-leb, lt-leb}
 use Rattle.records.specs.laws.Fill.{length-blank}
-use Rattle.wire.specs.Message.{lengthOf, besides, encode, atFront}
+use Rattle.wire.specs.Message.{instanceOf, roundOf, countOf, lengthOf, besides, encode, atFront}
 use Rattle.wire.specs.laws.Message.{written, Wrote}
 use Rattle.wire.specs.declared.Message.{Message}
 use Rattle.wire.specs.declared.Message.the-variants.{Send, Echo, Ready, Est, Aux, Commit}
 use Rattle.wire.proofs.Laws.{length-encode, written-whole}
+use Rattle.calls.specs.Given.{lowBytes, bytesOf, turnWith}
 use Rattle.costliest.specs.Calls.{coinWords, opens, packs}
+use Rattle.costliest.specs.laws.Bytes.{encode-low}
 use Rattle.costliest_calls.specs.Numbered.{openingNumbers, settingAt}
 use Rattle.costliest_calls.specs.Answers.{callNumber, callBytes, callRefusal, costliestAnswer, costliestBytes}
-use Rattle.costliest_calls.specs.laws.Sections.{Few, stepOf, valuesBeside, joined, laterCall, callOfMany, callOfOne, callOf}
+use Rattle.costliest_calls.specs.laws.Sections.{Few, engineCall, Small, callOf}
 use Rattle.costliest_calls.specs.laws.Numbering.{call-at}
+use Rattle.costliest_calls.specs.laws.Small.{call-small}
 use Rattle.costliest_calls.specs.declared.Call.{Call}
 use Rattle.costliest_calls.specs.declared.Call.the-variants.{Nothing, Delivery, Turn}
 
@@ -50,53 +51,53 @@ pub ruleset refusal-cases = (no-one, too-many, too-short, taken)
 -- ---- `write_call`
 
 module _ (c : Call) (out : List ℕ) where
-  pub none-number : c ≡ Nothing → 0 ≡ callNumber (stepOf c)
-  unfolding callNumber stepOf
+  pub none-number : c ≡ Nothing → 0 ≡ callNumber (engineCall c)
+  unfolding callNumber engineCall
   none-number e = rw e
 
-  pub none-bytes : c ≡ Nothing → out ≡ callBytes (stepOf c) out
-  unfolding callBytes stepOf
+  pub none-bytes : c ≡ Nothing → out ≡ callBytes (engineCall c) out
+  unfolding callBytes engineCall
   none-bytes e = rw e
 
-  pub turn-number : c ≡ Turn → 9175552 ≡ callNumber (stepOf c)
-  unfolding callNumber stepOf
+  pub turn-number : c ≡ Turn → 9175552 ≡ callNumber (engineCall c)
+  unfolding callNumber engineCall turnWith
   turn-number e = rw (e, length-blank)
 
-  pub turn-bytes : c ≡ Turn → out ≡ callBytes (stepOf c) out
-  unfolding callBytes stepOf
+  pub turn-bytes : c ≡ Turn → out ≡ callBytes (engineCall c) out
+  unfolding callBytes engineCall
   turn-bytes e = rw e
 
--- a message with at most 16 values beside it has 140 bytes at most
-few-bytes : (m : Message) → besides m ≤ 16 → lengthOf m ≤ 140
-few-bytes (Send i v) h = omega arith
-few-bytes (Echo i v) h = omega arith
-few-bytes (Ready i v) h = omega arith
-few-bytes (Est i r v) h = omega arith
-few-bytes (Aux i r v) h = omega arith
-few-bytes (Commit k) h = omega arith
+besides-count : (m : Message) → besides m ≤ countOf m
+besides-count (Send i v) = omega arith
+besides-count (Echo i v) = omega arith
+besides-count (Ready i v) = omega arith
+besides-count (Est i r v) = omega arith
+besides-count (Aux i r v) = omega arith
+besides-count (Commit k) = omega arith
 
-module _ (c : Call) (link : ℕ) (m : Message) (e : c ≡ Delivery link m) (few : valuesBeside c ≤ 16)
+module _ (c : Call) (link : ℕ) (m : Message) (e : c ≡ Delivery link m) (few : Small c)
     (out : List ℕ) (room : 140 ≤ length out) (r : ℕ) (after : List ℕ) (w : Wrote (written m link 7 (1 ∷ 2 ∷ 3 ∷ 4 ∷ 5 ∷ 6 ∷ 7 ∷ 8 ∷ 9 ∷ 10 ∷ 11 ∷ 12 ∷ 13 ∷ 14 ∷ 15 ∷ 16 ∷ []) out) out r after) where
-  beside : besides m ≤ 16
-  unfolding valuesBeside
-  beside = rw e at few
+  is-small : (link ≤ 32) × (instanceOf m ≤ 32) × (roundOf m ≤ 32) × (countOf m ≤ 16)
+  unfolding Small
+  is-small = rw e at few
+
+  -- 140 bytes at most
+  few-bytes : lengthOf m ≤ 140
+  few-bytes = omega (arith, is-small .3)
 
   enough : besides m ≤ length packs
   unfolding packs
-  enough = beside
+  enough = omega (arith, besides-count m, is-small .3)
 
   is-wrote : Wrote (written m link 7 packs out) out r after
   unfolding packs
   is-wrote = w
 
   whole : written m link 7 packs out ≡ encode m link 7 packs
-  whole = written-whole m link 7 packs out enough (omega (arith, few-bytes m beside))
-
-  size-is : r ≡ length (encode m link 7 packs)
-  size-is = is-wrote .answer ∙ ap length whole
+  whole = written-whole m link 7 packs out enough (omega (arith, few-bytes))
 
   size-few : r ≤ 140
-  size-few = omega (arith, size-is, length-encode m link 7 packs enough, few-bytes m beside)
+  size-few = omega (arith, is-wrote .answer ∙ ap length whole, length-encode m link 7 packs enough, few-bytes)
 
   pub size-fits : Fits w64 (65536 * r)
   size-fits = record { fits = omega (arith, size-few) }
@@ -107,55 +108,23 @@ module _ (c : Call) (link : ℕ) (m : Message) (e : c ≡ Delivery link m) (few 
   pub linked-fits : link < 256 → Fits w64 (256 + 65536 * r + 4294967296 * link)
   linked-fits l = record { fits = omega (arith, size-few) }
 
-  pub delivery-number : 256 + 65536 * r + 4294967296 * link ≡ callNumber (stepOf c)
-  unfolding callNumber stepOf
+  -- the bytes as they are delivered
+  bytes-are : written m link 7 packs out ≡ lowBytes (encode m link 7 packs)
+  bytes-are =
+      whole ∙ sym (encode-low m link 7 packs (omega (arith, is-small .0)) (omega (arith, is-small .1)) (omega (arith, is-small .2)) (omega (arith, is-small .3)))
+
+  size-is : r ≡ length (lowBytes (encode m link 7 packs))
+  size-is = is-wrote .answer ∙ ap length bytes-are
+
+  pub delivery-number : 256 + 65536 * r + 4294967296 * link ≡ callNumber (engineCall c)
+  unfolding callNumber engineCall bytesOf
   delivery-number = rw (e, ← size-is)
 
-  pub delivery-bytes : after ≡ callBytes (stepOf c) out
-  unfolding callBytes stepOf
-  delivery-bytes = is-wrote .bytes ∙ ap (λ (b : List ℕ). atFront b out) whole ∙ rw e
+  pub delivery-bytes : after ≡ callBytes (engineCall c) out
+  unfolding callBytes engineCall bytesOf
+  delivery-bytes = is-wrote .bytes ∙ ap (λ (b : List ℕ). atFront b out) bytes-are ∙ rw e
 
 pub ruleset write-cases = (none-number, none-bytes, turn-number, turn-bytes, size-fits, sized-fits, linked-fits, delivery-number, delivery-bytes)
-
--- ---- a call of the session has at most 16 values beside it
-
-joined-few : (m : ℕ) (g h : ℕ → Call) → ((j : ℕ) → valuesBeside (g j) ≤ 16) → ((j : ℕ) → valuesBeside (h j) ≤ 16) → (j : ℕ) → valuesBeside (joined m g h j) ≤ 16
-unfolding joined
-joined-few m g h a b j = go (ltb j m)
-  where
-    go : (t : Bool) → valuesBeside (cond t (g j) (h (j - m))) ≤ 16
-    go true = a j
-    go false = b (j - m)
-
-many-few : (n : ℕ) → n ≤ 16 → (j : ℕ) → valuesBeside (callOfMany n j) ≤ 16
-unfolding callOfMany laterCall valuesBeside
-many-few n few =
-    joined-few _ _ _ (λ j. omega arith)
-    (joined-few _ _ _ (λ j. omega arith)
-    (joined-few _ _ _ (λ j. omega arith)
-    (joined-few _ _ _ (λ j. omega arith)
-    (joined-few _ _ _ (λ j. omega arith)
-    (joined-few _ _ _ (λ j. omega arith)
-    (joined-few _ _ _ (λ j. omega arith)
-    (joined-few _ _ _ (λ j. omega arith)
-    (λ j. omega arith))))))))
-
-cond-few : (t : Bool) (a b : Call) → valuesBeside a ≤ 16 → valuesBeside b ≤ 16 → valuesBeside (cond t a b) ≤ 16
-cond-few true a b x y = x
-cond-few false a b x y = y
-
-one-few : (k : ℕ) → valuesBeside (callOfOne k) ≤ 16
-unfolding callOfOne valuesBeside
-one-few k =
-    cond-few (eqb k 2) _ _ (omega arith)
-    (cond-few (eqb k 4) _ _ (omega arith)
-    (cond-few (eqb k 6) _ _ (omega arith)
-    (cond-few (eqb k 8) _ _ (omega arith)
-    (cond-few (ltb k 10) _ _ (omega arith) (omega arith)))))
-
-call-few : (n : ℕ) → n ≤ 16 → (k : ℕ) → valuesBeside (callOf n k) ≤ 16
-unfolding callOf valuesBeside
-call-few n few k = cond-few (eqb k 0) _ _ (omega arith) (cond-few (eqb n 1) _ _ (one-few k) (many-few n few (k - 1)))
 
 -- ---- `pack_costliest_call`
 
@@ -184,11 +153,11 @@ module _ (n k : ℕ) (lent : List ℕ) (x : ℕ) (e : x ≡ callRefusal n (lengt
   refused-bytes ne = rw (← e, ne-eqb x 0 ne)
 
   module _ (c : Call) (f : c ≡ callOf n k) (z : x ≡ 0) where
-    pub call-answer : (r : ℕ) → r ≡ callNumber (stepOf c) → r ≡ costliestAnswer n k (length lent)
+    pub call-answer : (r : ℕ) → r ≡ callNumber (engineCall c) → r ≡ costliestAnswer n k (length lent)
     unfolding costliestAnswer
     call-answer r q = rw (← e, eq-eqb x 0 z, ← call-at n k, ← f) q
 
-    pub call-bytes : (after : List ℕ) → after ≡ callBytes (stepOf c) lent → after ≡ costliestBytes n k lent
+    pub call-bytes : (after : List ℕ) → after ≡ callBytes (engineCall c) lent → after ≡ costliestBytes n k lent
     unfolding costliestBytes
     call-bytes after q = rw (← e, eq-eqb x 0 z, ← call-at n k, ← f) q
 
@@ -199,10 +168,10 @@ module _ (n room x : ℕ) (e : x ≡ callRefusal n room) (z : x ≡ 0) where
   pub accepted-room : 140 ≤ room
   accepted-room = accepted n room (sym e ∙ z) .room-enough
 
-  pub accepted-beside : (k : ℕ) (c : Call) → c ≡ callOf n k → valuesBeside c ≤ 16
-  accepted-beside k c f = rw f (call-few n (accepted-few .most) k)
+  pub accepted-small : (k : ℕ) (c : Call) → c ≡ callOf n k → Small c
+  accepted-small k c f = rw f (call-small n accepted-few k)
 
-pub ruleset pack-cases = (refused-answer, refused-bytes, call-answer, call-bytes, accepted-few, accepted-room, accepted-beside)
+pub ruleset pack-cases = (refused-answer, refused-bytes, call-answer, call-bytes, accepted-few, accepted-room, accepted-small)
 
 -- ---- `pack_costliest_setting`
 

@@ -8,22 +8,23 @@ use borrow.Author.Tests.{eq-eqb, ne-eqb, le-ltb}
 use Rattle.records.specs.Words.{blank}
 use Rattle.wire.specs.declared.Message.{Message}
 use Rattle.wire.specs.declared.Message.the-variants.{Send, Ready, Est, Aux, Commit}
-use Rattle.turn_bound.specs.TurnBound.{turn}
+use Rattle.calls.specs.Machine.{turn}
+use Rattle.calls.specs.Given.{turnWith}
 use Rattle.costliest.specs.Calls.{each, say, turns, sends, readies, ests, auxs, commit, heard, acted, costly, five, costliestCalls}
 use Rattle.costliest_calls.specs.Numbered.{callAt}
-use Rattle.costliest_calls.specs.laws.Sections.{stepOf, joined, turnCall, sendCall, readyCall, estCall, auxCall, firstCommit, commitCall, laterCall, callOfMany, callOfOne, callOf}
+use Rattle.costliest_calls.specs.laws.Sections.{engineCall, joined, turnCall, sendCall, readyCall, estCall, auxCall, firstCommit, commitCall, laterCall, callOfMany, callOfOne, callOf}
 use Rattle.costliest_calls.specs.laws.Adding.{before-first, after-last, Adds, adds-one, adds-as, joined-first, joined-rest, adds-joined, adds-each, adds-single, Ends, ends-here, ends-joined, ends-whole}
 use Rattle.costliest_calls.specs.declared.Call.the-variants.{Delivery, Turn}
 
 -- ---- the sections
 
 say-adds : (p : ℕ) (m : Message) → Adds (say p m) 1 (λ j. Delivery p m)
-unfolding say stepOf
+unfolding say engineCall
 say-adds p m = adds-one refl
 
 turns-adds : (k : ℕ) → Adds (turns k) k turnCall
-unfolding turns stepOf
-turns-adds k = adds-single (λ i. adds-one {s = turn (blank 140)} {g = λ j. Turn} refl) k
+unfolding turns engineCall
+turns-adds k = adds-single (λ i. adds-one {s = turn 1 (turnWith (blank 140))} {g = λ j. Turn} refl) k
 
 sends-adds : (n : ℕ) → Adds (sends n) n sendCall
 unfolding sends
@@ -73,13 +74,13 @@ later-ends : (n : ℕ) → Ends (λ cs. turns 1 (each (λ p. commit n (p + 1)) (
 unfolding laterCall
 later-ends n = ends-joined (first-adds n) (ends-joined (turns-adds (99 * n + 2)) (ends-joined (commits-adds n (n - 1)) (ends-joined (turns-adds 1) ends-here)))
 
-many-at : (n k : ℕ) → 1 ≤ k → stepOf (callOfMany n (k - 1)) ≡ callAt (costly n) k
+many-at : (n k : ℕ) → 1 ≤ k → engineCall (callOfMany n (k - 1)) ≡ callAt (costly n) k
 unfolding callOfMany costly acted heard
 many-at n k l = ends-whole (ends-joined (sends-adds n) (ends-joined (readies-adds n) (ends-joined (ests-adds n) (ends-joined (auxs-adds n) (later-ends n))))) k l
 
 -- one alone: each of the nine calls is computed
-one-of-nine : (k : ℕ) → k < 10 → 1 ≤ k → stepOf (callOfOne k) ≡ callAt five k
-unfolding callOfOne stepOf callAt five turns each commit say
+one-of-nine : (k : ℕ) → k < 10 → 1 ≤ k → engineCall (callOfOne k) ≡ callAt five k
+unfolding callOfOne engineCall callAt five turns each commit say
 one-of-nine zero l h = absurd (omega arith)
 one-of-nine (suc zero) l h = refl
 one-of-nine (suc (suc zero)) l h = refl
@@ -92,21 +93,21 @@ one-of-nine (suc (suc (suc (suc (suc (suc (suc (suc zero)))))))) l h = refl
 one-of-nine (suc (suc (suc (suc (suc (suc (suc (suc (suc zero))))))))) l h = refl
 one-of-nine (suc (suc (suc (suc (suc (suc (suc (suc (suc (suc k)))))))))) l h = absurd (omega arith)
 
-one-after : (k : ℕ) → 10 ≤ k → stepOf (callOfOne k) ≡ callAt five k
-unfolding callOfOne stepOf five turns each commit say
+one-after : (k : ℕ) → 10 ≤ k → engineCall (callOfOne k) ≡ callAt five k
+unfolding callOfOne engineCall five turns each commit say
 one-after k l =
     rw (ne-eqb k 2 (λ e. omega arith), ne-eqb k 4 (λ e. omega arith), ne-eqb k 6 (λ e. omega arith), ne-eqb k 8 (λ e. omega arith), le-ltb k 10 l)
     (sym (after-last five k l))
 
-one-at : (k : ℕ) → 1 ≤ k → stepOf (callOfOne k) ≡ callAt five k
+one-at : (k : ℕ) → 1 ≤ k → engineCall (callOfOne k) ≡ callAt five k
 one-at k h = elim (decLe 10 k) [ yes l ↦ one-after k l | no l ↦ one-of-nine k (omega arith) h ]
 
 -- call k of the code is call k of the list
-pub call-at : (n k : ℕ) → stepOf (callOf n k) ≡ callAt (costliestCalls n) k
-unfolding callOf costliestCalls stepOf
+pub call-at : (n k : ℕ) → engineCall (callOf n k) ≡ callAt (costliestCalls n) k
+unfolding callOf costliestCalls engineCall
 call-at n k = at (ℕ-discrete k 0) (ℕ-discrete n 1)
   where
-    at : Dec (k ≡ 0) → Dec (n ≡ 1) → stepOf (callOf n k) ≡ callAt (costliestCalls n) k
+    at : Dec (k ≡ 0) → Dec (n ≡ 1) → engineCall (callOf n k) ≡ callAt (costliestCalls n) k
     at (yes e) d = rw e (sym (before-first (costliestCalls n)))
     at (no e) (yes d) = rw (ne-eqb k 0 e, eq-eqb n 1 d) (one-at k (omega arith))
     at (no e) (no d) = rw (ne-eqb k 0 e, ne-eqb n 1 d) (many-at n k (omega arith))

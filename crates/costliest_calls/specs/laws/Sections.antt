@@ -4,9 +4,12 @@ use mathlib.Core.Bool.{cond}
 use mathlib.Core.Option.{Option, none, some}
 use lib.Dec.{eqb, ltb}
 use Rattle.records.specs.Words.{blank}
-use Rattle.wire.specs.Message.{besides, encode}
+use Rattle.wire.specs.Message.{instanceOf, roundOf, countOf, encode}
 use Rattle.wire.specs.declared.Message.the-variants.{Send, Echo, Ready, Est, Aux, Commit}
-use Rattle.turn_bound.specs.TurnBound.{Step, delivery, turn}
+use Rattle.calls.specs.Machine.{delivery, turn}
+use Rattle.calls.specs.Engine.{engine}
+use Rattle.calls.specs.Given.{bytesOf, turnWith}
+use Rattle.calls.specs.Machine as machine
 use Rattle.costliest.specs.Calls.{packs}
 use Rattle.costliest_calls.specs.declared.Call.{Call}
 use Rattle.costliest_calls.specs.declared.Call.the-variants.{Nothing, Delivery, Turn}
@@ -17,16 +20,16 @@ pub record Few (n : ℕ) : Type 0 where
   pub most : n ≤ 16
 
 -- the call that the code means: a message is of session 7, a COMMIT holds the first packs, and a turn is lent 140 bytes
-unfoldable pub stepOf : Call → Option Step
-stepOf Nothing = none
-stepOf (Delivery p m) = some (delivery p (encode m p 7 packs))
-stepOf Turn = some (turn (blank 140))
+unfoldable pub engineCall : Call → Option (machine.Call engine)
+engineCall Nothing = none
+engineCall (Delivery p m) = some (delivery 1 p (bytesOf (encode m p 7 packs)))
+engineCall Turn = some (turn 1 (turnWith (blank 140)))
 
--- the number of values that stand beside the message of a call
-unfoldable pub valuesBeside : Call → ℕ
-valuesBeside Nothing = 0
-valuesBeside (Delivery p m) = besides m
-valuesBeside Turn = 0
+-- the link, and the fields of the message, of a call are small
+unfoldable pub Small : Call → Type 0
+Small Nothing = Unit {0}
+Small (Delivery p m) = (p ≤ 32) × (instanceOf m ≤ 32) × (roundOf m ≤ 32) × (countOf m ≤ 16)
+Small Turn = Unit {0}
 
 -- the calls of a section of m, and then those after it
 unfoldable pub joined : ℕ → (ℕ → Call) → (ℕ → Call) → ℕ → Call

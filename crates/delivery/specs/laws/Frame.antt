@@ -19,7 +19,7 @@ use Rattle.wire.specs.declared.Message.{Message}
 use Rattle.wire.specs.declared.Message.the-variants.{Send, Echo, Ready, Est, Aux, Commit}
 use Rattle.delivery.specs.Delivery.{recorded}
 
--- a message of sender p within the layout; "In SEND the instance equals the sender."
+-- a message of sender p within the layout; a SEND's instance is its sender (PROTOCOL 2.1)
 abbrev pub InLayout : ℕ → Message → Type 0
 InLayout p (Send i x) = (1 ≤ p) × (p ≤ 16) × (i ≡ p)
 InLayout p (Echo i x) = (1 ≤ p) × (p ≤ 16) × (1 ≤ i) × (i ≤ 16)

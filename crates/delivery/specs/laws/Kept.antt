@@ -59,7 +59,7 @@ apart a (inr u) (inr c) = omega arith
 pub word-untouched : (s v : List ℕ) (p : ℕ) (m : Message) (a : ℕ) → InLayout p m → Untouched a → word (recorded s p m v) a ≡ word s a
 word-untouched s v p m a h u = word-recorded s v p m a (λ c. apart a u (changed-where p m a h c))
 
--- free words, which settings of later requests take
+-- the words of the weights and of the kind of coins, and free ones (PROTOCOL 17.11, 17.12, 17.16)
 no-free : (p : ℕ) (m : Message) (a : ℕ) → InLayout p m → 141 ≤ a → a ≤ 255 → Changed p m a → ⊥
 no-free p (Send i x) a h lo hi (inl e) = omega arith
 no-free p (Send i x) a h lo hi (inr e) = omega arith

@@ -19,7 +19,7 @@ use Rattle.turn.specs.declared.Outcome.{Outcome}
 use Rattle.turn.specs.declared.Outcome.the-variants as outcome
 use Rattle.drill_feeder.specs.Parts.{placeAt, stateOf, withState, roomFor, withRoom, byteAt, messageAt, senderAt}
 use Rattle.drill_feeder.specs.Steps.{steps}
-use Rattle.drill_feeder.specs.Lines.{deliveredTo, messageDelivered, lied, Memory, memory, more, counted, outcomeAt, turned, goesOn, turnGoesOn, sweep, sweepIf, swept, offerTo, offerNext, offered, anyLeft, ran}
+use Rattle.drill_feeder.specs.Lines.{deliveredTo, messageDelivered, lied, Memory, memory, more, messageCounted, outcomeAt, turned, goesOn, turnGoesOn, sweep, sweepIf, swept, offerTo, offerNext, offered, anyLeft, ran}
 use Rattle.drill_feeder.specs.declared.Counts.{Counts}
 use Rattle.drill_feeder.specs.declared.Members.{Members}
 use Rattle.drill_feeder.specs.declared.Lie.{Lie}
@@ -59,24 +59,24 @@ more-none sent h = rw (le-ltb sent 1600 h)
 pub ruleset more-cases = (more-room, more-none)
 
 module _ (o : Outcome) (c : Counts) where
-  pub counted-refused : (k : ℕ) → o ≡ outcome.Refused k → c ≡ counted o c
-  unfolding counted
+  pub counted-refused : (k : ℕ) → o ≡ outcome.Refused k → c ≡ messageCounted o c
+  unfolding messageCounted
   counted-refused k e = rw e
 
-  pub counted-idle : o ≡ outcome.Idle → c ≡ counted o c
-  unfolding counted
+  pub counted-idle : o ≡ outcome.Idle → c ≡ messageCounted o c
+  unfolding messageCounted
   counted-idle e = rw e
 
-  pub counted-sent : (m : Message) (s : ℕ) → o ≡ outcome.Sent m → s ≡ more (c .sent) → record { sent = s; offered = c .offered } ≡ counted o c
-  unfolding counted
+  pub counted-sent : (m : Message) (s : ℕ) → o ≡ outcome.Sent m → s ≡ more (c .sent) → record { sent = s; offered = c .offered } ≡ messageCounted o c
+  unfolding messageCounted
   counted-sent m s e f = rw (e, f)
 
-  pub counted-moved : o ≡ outcome.MovedOut → c ≡ counted o c
-  unfolding counted
+  pub counted-moved : o ≡ outcome.MovedOut → c ≡ messageCounted o c
+  unfolding messageCounted
   counted-moved e = rw e
 
-  pub counted-in-force : o ≡ outcome.InForce → c ≡ counted o c
-  unfolding counted
+  pub counted-in-force : o ≡ outcome.InForce → c ≡ messageCounted o c
+  unfolding messageCounted
   counted-in-force e = rw e
 
 pub ruleset counted-cases = (counted-refused, counted-idle, counted-sent, counted-moved, counted-in-force)
@@ -84,7 +84,7 @@ pub ruleset counted-cases = (counted-refused, counted-idle, counted-sent, counte
 -- a turn
 module _ (w m : List ℕ) (p : ℕ) (c : Counts) (o : Outcome) (e : o ≡ turnOutcome (stateOf w p) (length (roomFor m (c .sent)))) where
   pub turn-left : (x y : List ℕ) (d : Counts) → x ≡ withState w p (turnWords (stateOf w p) (length (roomFor m (c .sent)))) →
-      y ≡ withRoom m (c .sent) (turnBytes (stateOf w p) (roomFor m (c .sent))) → d ≡ counted o c → memory x y d ≡ turned p (memory w m c)
+      y ≡ withRoom m (c .sent) (turnBytes (stateOf w p) (roomFor m (c .sent))) → d ≡ messageCounted o c → memory x y d ≡ turned p (memory w m c)
   unfolding turned
   turn-left x y d f g h = rw (f, g, h, e)
 

@@ -67,7 +67,7 @@ set-few : (g : Settings) (s : List ℕ) → length (inForceSet g s) ≤ 16
 unfolding inForceSet leadingSet setOf commitSet commitCount
 set-few g s =
     if-keep (λ (t : List ℕ). length t ≤ 16) (closed s) _ _
-    (if-keep (λ (t : List ℕ). length t ≤ 16) (eqb (setLeader (g .weights) s (g .n) (quorum g)) 0) _ _ (omega arith) (rw length-take (omega arith)))
+    (if-keep (λ (t : List ℕ). length t ≤ 16) (eqb (setLeader g s (quorum g)) 0) _ _ (omega arith) (rw length-take (omega arith)))
     (omega arith)
 
 in-force-few : (s : List ℕ) (f : Figures) → Reported s f → f .«in_force» ≤ 16

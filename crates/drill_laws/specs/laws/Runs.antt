@@ -104,7 +104,7 @@ module _ (p : ℕ) (lo : 1 ≤ p) (hi : p ≤ 4) where
       go r true e = r (turned p x) (turned-sound x p lo hi h) (omega (arith, goes-counted x h e))
       go r false e = refl
 
--- "honest ones in rising order turn until idle or closed"
+-- each honest one, the lowest first, takes turns until one is idle, refused or puts a set in force (PROTOCOL 15.14)
 module _ (g : Members) (few : g .n ≤ 4) where
   pub swept-kept : (o : ℕ) (x : Memory) → Kept o x → Kept o (swept g x)
   unfolding swept sweepIf
@@ -113,7 +113,7 @@ module _ (g : Members) (few : g .n ≤ 4) where
       (λ p lo hi y e. if-keep (Kept o) (mark (g .honest) p) (sweep p 401 y) y (sweep-kept o p lo (omega arith) 401 y e) e)
       x h
 
-  -- "messages not yet delivered by an R go to every honest one"
+  -- messages that no R has delivered go to all honest ones (PROTOCOL 15.14)
   offer-sound : (w m : List ℕ) (c : Counts) (k : ℕ) → Sound w m c → Sound (offer g m k w) m c
   unfolding offer offerTo messageDelivered
   offer-sound w m c k h =

@@ -28,7 +28,7 @@ use Rattle.wire.proofs.Laws.{length-encode}
 use Rattle.turn.specs.laws.Turn.{Taken, Way, refused, taken, way}
 use Rattle.turn.specs.declared.Outcome.{Outcome}
 use Rattle.drill_feeder.specs.Parts.{part, placeAt, stateOf, roomFor, withRoom, byteAt, messageAt}
-use Rattle.drill_feeder.specs.Lines.{more, counted}
+use Rattle.drill_feeder.specs.Lines.{more, messageCounted}
 use Rattle.drill_feeder.specs.declared.Counts.{Counts}
 use Rattle.drill_laws.specs.laws.States.{length-part, length-withPart, part-same, part-below}
 use Rattle.drill_laws.specs.laws.Sound.{Sound}
@@ -52,8 +52,8 @@ module _ (w m : List ℕ) (c : Counts) (p : ℕ) (lo : 1 ≤ p) (hi : p ≤ 4) (
   unfolding roomFor
   room-whole l = length-part m (44 * c .sent) 140 (omega (arith, h .store))
 
-  pub sent-counted : (k : Message) → c .sent < 1600 → counted (outcome.Sent k) c .sent ≡ c .sent + 1
-  unfolding counted more
+  pub sent-counted : (k : Message) → c .sent < 1600 → messageCounted (outcome.Sent k) c .sent ≡ c .sent + 1
+  unfolding messageCounted more
   sent-counted k l = rw (lt-ltb (c .sent) 1600 l)
 
 -- with at most 4 concentrators a message has at most 44 bytes
@@ -169,7 +169,7 @@ module _ (w m : List ℕ) (c : Counts) (p : ℕ) (lo : 1 ≤ p) (hi : p ≤ 4) (
       let long : length (turnBytes (stateOf w p) (roomFor m (c .sent))) ≡ 140 = ap length b ∙ length-append enc rest ∙ omega (arith, n, length-drop (length enc) (roomFor m (c .sent)), whole) in
       record {
         room = whole;
-        counts = ap (λ (o : Outcome). counted o c .sent) answer ∙ sent-counted w m c p lo hi h k left;
+        counts = ap (λ (o : Outcome). messageCounted o c .sent) answer ∙ sent-counted w m c p lo hi h k left;
         bytes =
             message-stored m (turnBytes (stateOf w p) (roomFor m (c .sent))) rest (c .sent) (x .own) (x .number) k xs (h .store) left values short b long
             ∙ ap (λ (y : Session). encode k (y .own) (y .number) (commitDue (y .settings) (stateOf w p))) same;

@@ -29,7 +29,7 @@ use Rattle.turn.specs.laws.Turn.{Taken, Refused, Way, refused, taken, way}
 use Rattle.turn.specs.declared.Outcome.{Outcome}
 use Rattle.turn.specs.declared.Outcome.the-variants as outcome
 use Rattle.drill_feeder.specs.Parts.{part, withPart, stateOf, withState, roomFor, withRoom}
-use Rattle.drill_feeder.specs.Lines.{Memory, memory, more, counted, turned}
+use Rattle.drill_feeder.specs.Lines.{Memory, memory, more, messageCounted, turned}
 use Rattle.drill_feeder.specs.declared.Counts.{Counts}
 use Rattle.drill_laws.specs.laws.States.{length-stateOf, length-part, length-withPart}
 use Rattle.drill_laws.specs.Sound.{turnsOf}
@@ -70,8 +70,8 @@ length-room m b sent e = elim (decLe (44 * sent + 140) (length m)) [
 ]
 
 -- the counts after a turn
-pub counted-more : (o : Outcome) (c : Counts) → (counted o c .sent ≤ c .sent + 1) × (c .sent ≤ counted o c .sent) × (counted o c .offered ≡ c .offered)
-unfolding counted more
+pub counted-more : (o : Outcome) (c : Counts) → (messageCounted o c .sent ≤ c .sent + 1) × (c .sent ≤ messageCounted o c .sent) × (messageCounted o c .offered ≡ c .offered)
+unfolding messageCounted more
 counted-more (outcome.Refused k) c = (omega arith, omega arith, refl)
 counted-more outcome.Idle c = (omega arith, omega arith, refl)
 counted-more (outcome.Sent k) c = elim (decLe 1600 (c .sent)) [
@@ -81,8 +81,8 @@ counted-more (outcome.Sent k) c = elim (decLe 1600 (c .sent)) [
 counted-more outcome.MovedOut c = (omega arith, omega arith, refl)
 counted-more outcome.InForce c = (omega arith, omega arith, refl)
 
-idle-counts : (own : ℕ) (s : List ℕ) (a : Act) (c : Counts) → isDue a ≡ false → counted (outcomeOf own s a) c ≡ c
-unfolding counted outcomeOf
+idle-counts : (own : ℕ) (s : List ℕ) (a : Act) (c : Counts) → isDue a ≡ false → messageCounted (outcomeOf own s a) c ≡ c
+unfolding messageCounted outcomeOf
 idle-counts own s Idle c e = refl
 idle-counts own s InForce c e = absurd (false≢true (sym e))
 idle-counts own s (Commit k) c e = absurd (false≢true (sym e))
@@ -105,13 +105,13 @@ module _ (w m : List ℕ) (c : Counts) (p : ℕ) (lo : 1 ≤ p) (hi : p ≤ 4) (
 
   -- the memory after an act that is due or not
   acted-sound : (x : Session) (a : Act) (b : List ℕ) → Placed a → turnsOf w p < 400 → length b ≡ length (roomFor m (c .sent)) → (d : Bool) → isDue a ≡ d →
-      Sound (withState w p (applied (stateOf w p) a)) (withRoom m (c .sent) b) (counted (outcomeOf (x .own) (stateOf w p) a) c)
+      Sound (withState w p (applied (stateOf w p) a)) (withRoom m (c .sent) b) (messageCounted (outcomeOf (x .own) (stateOf w p) a) c)
   unfolding turnsOf
   acted-sound x a b l few e true f =
       let o : Outcome = outcomeOf (x .own) (stateOf w p) a in
       let k = counted-more o c in
       let t : word (applied (stateOf w p) a) turnsAt ≡ word (stateOf w p) turnsAt + 1 = applied-turns (stateOf w p) a l (omega (arith, size)) f in
-      replaced w m (withRoom m (c .sent) b) c (counted o c) p 1 lo hi h (applied (stateOf w p) a)
+      replaced w m (withRoom m (c .sent) b) c (messageCounted o c) p 1 lo hi h (applied (stateOf w p) a)
       (length-applied (stateOf w p) a ∙ size)
       (length-room m b (c .sent) e)
       (rw (applied-kept (stateOf w p) a l 0 (setting (omega arith))) (h .few p lo hi))
@@ -132,8 +132,8 @@ module _ (w m : List ℕ) (c : Counts) (p : ℕ) (lo : 1 ≤ p) (hi : p ≤ 4) (
       (h .offered))
 
   after-way : Way (stateOf w p) (roomFor m (c .sent)) →
-      Sound (withState w p (turnWords (stateOf w p) (length (roomFor m (c .sent))))) (withRoom m (c .sent) (turnBytes (stateOf w p) (roomFor m (c .sent)))) (counted (turnOutcome (stateOf w p) (length (roomFor m (c .sent)))) c)
-  unfolding turnsOf counted
+      Sound (withState w p (turnWords (stateOf w p) (length (roomFor m (c .sent))))) (withRoom m (c .sent) (turnBytes (stateOf w p) (roomFor m (c .sent)))) (messageCounted (turnOutcome (stateOf w p) (length (roomFor m (c .sent)))) c)
+  unfolding turnsOf messageCounted
   after-way (refused k r) =
       rw (r .words, r .bytes, r .answer)
       (replaced w m (withRoom m (c .sent) (roomFor m (c .sent))) c c p 0 lo hi h (stateOf w p)

@@ -74,7 +74,7 @@ lines-bad = refl
 
 texts :
     _≡_ {A = List (List ℕ)} (
-    -- 01's own: "1 1 1 5 0000000000000005"
+    -- number 1, exit 1, closed, 5 turns, one pack in force (PROTOCOL 15.15)
     resultLine 1 1 1 5 (5 ∷ [])
     -- no value in force
     ∷ resultLine 4 0 0 12 []

@@ -17,7 +17,7 @@ use Rattle.restore.specs.Restoring.{restoreAnswer, restoredWords}
 use Rattle.restore.specs.Restoring as restoring
 use Rattle.restore.specs.declared.Restored.{Restored}
 use Rattle.report.specs.laws.Report.{front-read}
-use Rattle.agreement.specs.EngineCalls.{OpeningGiven, Bytes, TurnLent, BitGiven, RestoreLent}
+use Rattle.calls.specs.Engine.{OpeningGiven, Bytes, TurnLent, BitGiven, RestoreLent}
 use Rattle.engine_calls.specs.Answers.{accepted, lineIn, OpensAs, DeliversAs, RecordsAs, TurnsAs, RestoresAs}
 
 -- a call of number k and its line

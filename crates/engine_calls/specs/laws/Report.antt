@@ -12,14 +12,14 @@ use Rattle.session.specs.Session.{isState, settingsOf}
 use Rattle.session.specs.laws.Session.{state-is}
 use Rattle.exits.specs.Exits.{exitNow}
 use Rattle.wire.specs.Message.{atFront}
-use Rattle.report.specs.Report.{figuresOf, inForceSet, admits, answerFor, reportAnswer, reportNamed, reportInForce}
+use Rattle.report.specs.Report.{figuresOf, inForceSet, admits, giving, reportAnswer, reportNamed, reportInForce}
 use Rattle.report.specs.laws.Report.{Reported, reported, admitting, report-gives, report-names, report-enforces, front-read}
 use Rattle.report.specs.declared.Figures.{Figures}
 use Rattle.report.specs.declared.Admitted.{Admitted}
 use Rattle.report.specs.declared.Admitted.the-variants as admitted
 use Rattle.report.specs.declared.Answer.{Answer}
-use Rattle.report.specs.declared.Answer.the-variants.{Given}
-use Rattle.agreement.specs.EngineCalls.{ReportNames, ReportEnforces}
+use Rattle.report.specs.declared.Answer.the-variants.{Refused, Given}
+use Rattle.calls.specs.Engine.{ReportNames, ReportEnforces}
 use Rattle.engine_calls.specs.Answers.{ReportsAs}
 
 -- a set is read from the front of the words that were lent for it
@@ -28,10 +28,10 @@ set-read k xs old all f h = ap (take k) f ∙ ap (λ (n : ℕ). take n (atFront 
 
 -- figures are given only where there is room for both sets
 given-room : (w : List ℕ) (a b : ℕ) (f : Figures) → reportAnswer w a b ≡ Given f → (16 ≤ a) × (16 ≤ b)
-unfolding reportAnswer answerFor
+unfolding giving reportAnswer
 given-room w a b f e = of (admits w a b) refl e
   where
-    of : (v : Admitted) → admits w a b ≡ v → answerFor v w ≡ Given f → (16 ≤ a) × (16 ≤ b)
+    of : (v : Admitted) → admits w a b ≡ v → giving v Refused (λ g. Given (figuresOf g w)) ≡ Given f → (16 ≤ a) × (16 ≤ b)
     of (admitted.Refused k) t h = absurd (let z : _≡_ {A = ℕ} 0 1 = cc in omega arith)
     of (admitted.Open g) t h = (admitting w a b g t .named-room, admitting w a b g t .in-force-room)
 

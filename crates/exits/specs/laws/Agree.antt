@@ -7,12 +7,12 @@ use native.Mathlib.Omega.{arith}
 use lib.Dec.{leb, ltb}
 use borrow.Author.Tests.{leb-true, lt-ltb, eqb-true, eq-eqb}
 use Rattle.quorum.specs.laws.Bools.{and-left, and-right, and-both}
-use Rattle.settings.specs.Settings.{voteQuorum}
+use Rattle.settings.specs.Settings.{weighed, voteQuorum}
 use Rattle.settings.specs.Rules.{Ruled}
 use Rattle.settings.specs.laws.Thresholds.{quorum-reached, vote-quorum-reached}
 use Rattle.settings.specs.declared.Settings.{Settings}
 use Rattle.quorum.specs.Total.{everyone}
-use Rattle.quorum.specs.Weights.{weightOf, weigh}
+use Rattle.quorum.specs.Weights.{weightOf}
 use Rattle.quorum.specs.Whole.{wholeOf}
 use Rattle.quorum.specs.laws.Total.{Member, total-member, total-meet, total-meet-in, total-mono}
 use Rattle.quorum.specs.laws.Lowest.{lowest-none}
@@ -21,7 +21,8 @@ use Rattle.quorum.specs.laws.Every.{every-each}
 use Rattle.broadcasts.specs.Leading.{present}
 use Rattle.broadcasts.specs.declared.Output.{Output}
 use Rattle.broadcasts.specs.declared.Output.the-variants.{Value, Nothing}
-use Rattle.exits.specs.Exits.{Exit, noExit, hasValue, valueIn, withOutput, sizeS, exit2At, exit3Full, votesDone, insertOutput, outputsOfS, Standing, exitAt}
+use Rattle.exits.specs.Exits.{Exit, noExit, hasValue, valueIn, withOutput, sizeS, exit2At, exit3Full, votesDone, insertOutput, outputsOfS}
+use Rattle.exits.specs.Standing.{Standing, exitAt}
 use Rattle.exits.specs.laws.Stated.{singleExit, outputsExit}
 use Rattle.exits.specs.laws.Rising.{outputs-agree}
 use Rattle.exits.specs.laws.Ways.{First, Second, Way, first, second, third, none, way}
@@ -78,7 +79,7 @@ both s v i = s .as1 i && hasValue (s .out i) v
 
 module _ (g : Settings) where
   abbrev pub C : (ℕ → Bool) → ℕ
-  C M = weigh (g .weights) M (g .n)
+  C M = weighed g M
 
   abbrev pub Done : Standing → Type 0
   Done s = votesDone g (s .as0) (s .as1) ≡ true
@@ -129,7 +130,7 @@ module _ (g : Settings) where
 -- both standings at once
 module _ (g : Settings) (s t : Standing) (c : Compatible (g .n) s t) where
   -- a number that two sets of broadcasts share has one output
-  meets : (u v : ℕ) (M K : ℕ → Bool) → ((i : ℕ) → M i ≡ true → holding s u i ≡ true) → ((i : ℕ) → K i ≡ true → holding t v i ≡ true) → 0 < weigh (g .weights) (λ i. M i && K i) (g .n) → u ≡ v
+  meets : (u v : ℕ) (M K : ℕ → Bool) → ((i : ℕ) → M i ≡ true → holding s u i ≡ true) → ((i : ℕ) → K i ≡ true → holding t v i ≡ true) → 0 < weighed g (λ i. M i && K i) → u ≡ v
   meets u v M K f k l = at (total-member (weightOf (g .weights)) (λ i. M i && K i) (g .n) l)
     where
       at : Member (g .n) (λ i. M i && K i) → u ≡ v
@@ -149,7 +150,7 @@ module _ (g : Settings) (s t : Standing) (c : Compatible (g .n) s t) where
       and-both (t .as1 i) (holding t v i) x (value-has (t .out i) v (output ∙ ap Value (sym e)))
 
 module _ (g : Settings) (r : Ruled g) (s t : Standing) (c : Compatible (g .n) s t) where
-  whole : weigh (g .weights) everyone (g .n) ≡ g .whole
+  whole : weighed g everyone ≡ g .whole
   unfolding wholeOf
   whole = sym (r .sum)
 

@@ -6,14 +6,16 @@ use mathlib.Core.Path.{_≡_, sym, ap, _∙_}
 use native.Mathlib.Omega.{arith}
 use Rattle.quorum.specs.laws.Bools.{and-left, and-right, and-both}
 use Rattle.settings.specs.Rules.{Ruled}
+use Rattle.settings.specs.Settings.{weighed}
 use Rattle.settings.specs.declared.Settings.{Settings}
 use Rattle.quorum.specs.Total.{everyone}
-use Rattle.quorum.specs.Weights.{weightOf, weigh}
+use Rattle.quorum.specs.Weights.{weightOf}
 use Rattle.quorum.specs.Whole.{wholeOf}
 use Rattle.quorum.specs.laws.Total.{Member, total-member, total-meet, total-mono, total-not}
 use Rattle.broadcasts.specs.declared.Output.the-variants.{Value}
 use Rattle.exits.specs.laws.Ways.{First, Second}
-use Rattle.exits.specs.Exits.{Standing, exitAt, valueIn}
+use Rattle.exits.specs.Exits.{valueIn}
+use Rattle.exits.specs.Standing.{Standing, exitAt}
 use Rattle.exits.specs.laws.Agree.{holding, both, Done, Full, Naming, by1, by2, by3, naming-of, has-value, value-has, first-many, second-more, done-size, full-given, no-majority}
 
 -- a good broadcast with output v
@@ -24,16 +26,16 @@ pub record Fair (g : Settings) (good : ℕ → Bool) (s : Standing) (v : ℕ) : 
   pub fair : good at ≡ true
   pub output : s .out at ≡ Value v
 
-module _ (g : Settings) (r : Ruled g) (good : ℕ → Bool) (few : weigh (g .weights) (λ i. not (good i)) (g .n) ≤ g .ts) (s : Standing) where
-  whole : weigh (g .weights) everyone (g .n) ≡ g .whole
+module _ (g : Settings) (r : Ruled g) (good : ℕ → Bool) (few : weighed g (λ i. not (good i)) ≤ g .ts) (s : Standing) where
+  whole : weighed g everyone ≡ g .whole
   unfolding wholeOf
   whole = sym (r .sum)
 
-  heavy : g .whole ≤ weigh (g .weights) good (g .n) + g .ts
+  heavy : g .whole ≤ weighed g good + g .ts
   heavy = omega (arith, total-not (weightOf (g .weights)) good (g .n), whole)
 
   -- more than ts broadcasts with output v have a good one among them
-  fair-holder : (v : ℕ) (M : ℕ → Bool) → ((i : ℕ) → M i ≡ true → holding s v i ≡ true) → g .ts < weigh (g .weights) M (g .n) → Fair g good s v
+  fair-holder : (v : ℕ) (M : ℕ → Bool) → ((i : ℕ) → M i ≡ true → holding s v i ≡ true) → g .ts < weighed g M → Fair g good s v
   fair-holder v M f l = at (total-member (weightOf (g .weights)) (λ i. M i && good i) (g .n) (omega (arith, total-meet (weightOf (g .weights)) M good (g .n), heavy, whole)))
     where
       at : Member (g .n) (λ i. M i && good i) → Fair g good s v

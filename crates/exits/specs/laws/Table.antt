@@ -1,4 +1,4 @@
--- The table of exits by one computed check: "With n=4, ta=1, ts=1; "-" is no output, "?" undecided."
+-- The table of exits by one computed check: four concentrators, ta = ts = 1, outputs and decisions that may be missing (PROTOCOL 6.3 to 6.6).
 use Prim.Native.Nat.{ℕ, zero, suc, _+_, _^_}
 use mathlib.Core.Bool.{Bool, true, false}
 use mathlib.Core.List.{List, [], _∷_}
@@ -88,6 +88,35 @@ table-holds :
 unfolding answers four row table v no exit at is0 is1 exitOf withOutput sizeS exit1At votesDone exit2At exit3Full insert insertOutput outputsOfS noExit exit3 naming lowest every total weightOf mark quorum voteQuorum
 table-holds = refl
 
+-- the examples of PROTOCOL, section 6, with weights of 1
+examples : List Row
+examples =
+    row (v 8) no (v 8) (v 8) undecided undecided undecided undecided
+    ∷ row (v 8) (v 8) (v 9) no undecided undecided undecided undecided
+    ∷ row (v 8) (v 9) (v 9) no d1 d1 d1 d0
+    ∷ row (v 9) (v 9) no (v 8) d1 d1 d1 d0
+    ∷ row (v 8) (v 9) (v 9) no d1 d1 d1 undecided
+    ∷ row (v 8) (v 8) (v 9) (v 9) d1 d1 d1 d1
+    ∷ row (v 9) (v 7) (v 8) no d1 d1 d1 d0
+    ∷ row (v 9) (v 7) no (v 8) d1 d1 d1 d0
+    ∷ row (v 7) (v 7) (v 8) (v 9) d1 d1 d0 d0
+    ∷ []
+
+examples-hold :
+    answers (four 4 15) examples
+    ≡ exit 1 (8 ∷ [])
+    ∷ exit 0 []
+    ∷ exit 2 (9 ∷ [])
+    ∷ exit 2 (9 ∷ [])
+    ∷ exit 0 []
+    ∷ exit 3 (8 ∷ 9 ∷ [])
+    ∷ exit 3 (7 ∷ 8 ∷ 9 ∷ [])
+    ∷ exit 0 []
+    ∷ exit 0 []
+    ∷ []
+unfolding answers four row examples v no exit at is0 is1 exitOf withOutput sizeS exit1At votesDone exit2At exit3Full insert insertOutput outputsOfS noExit exit3 naming lowest every total weightOf mark quorum voteQuorum
+examples-hold = refl
+
 -- ta = 0 and ts = 1: Exit 1 goes by ts and wants 3, the others go by ta and want 4 votes decided 1
 unequal : List Row
 unequal =
@@ -105,7 +134,7 @@ unequal-holds :
 unfolding answers row unequal v no exit at is0 is1 exitOf withOutput sizeS exit1At votesDone exit2At exit3Full insert insertOutput outputsOfS noExit exit3 naming lowest every total weightOf mark quorum voteQuorum
 unequal-holds = refl
 
--- ---- with weights (request N11)
+-- ---- with weights
 
 -- weights 4, 1, 1, 1: 7 in all, so Exit 1 needs 6, and s 6. The pack of the heavy one is the majority of S, where heads would name the
 -- other's or Exit 1; without it s is too small.
@@ -114,6 +143,7 @@ heavy =
     row (v 5) (v 5) (v 5) no undecided undecided undecided undecided
     ∷ row (v 6) (v 5) (v 5) (v 5) undecided undecided undecided undecided
     ∷ row (v 5) (v 6) (v 6) no d1 d1 d1 d0
+    ∷ row (v 8) (v 9) (v 9) no d1 d1 d1 d0
     ∷ row (v 5) (v 6) (v 6) (v 6) d0 d1 d1 d1
     ∷ []
 
@@ -122,6 +152,7 @@ heavy-holds :
     ≡ exit 1 (5 ∷ [])
     ∷ exit 0 []
     ∷ exit 2 (5 ∷ [])
+    ∷ exit 2 (8 ∷ [])
     ∷ exit 0 []
     ∷ []
 unfolding answers four row heavy v no exit at is0 is1 exitOf withOutput sizeS exit1At votesDone exit2At exit3Full insert insertOutput outputsOfS noExit exit3 naming lowest every total weightOf mark quorum voteQuorum

@@ -72,7 +72,7 @@ module _ (C : Column) (s v : List ℕ) (p : ℕ) (m : wire-message.Message) (siz
 pub value-back : (s : List ℕ) (a x w j : ℕ) → a < length s → (a ≡ w → ⊥) → word (setMark (put s a x) w j) a ≡ x
 value-back s a x w j l ne = word-setMark-other (put s a x) w j a ne ∙ word-put-same s a x l
 
--- "In SEND the instance equals the sender."
+-- a SEND's instance is its sender (PROTOCOL 2.1)
 unfoldable pub sendColumn : Column
 unfolding placeHeld sendHeld recorded
 sendColumn =

@@ -21,9 +21,11 @@ use Rattle.wire.specs.Message.{atFront}
 use Rattle.wire.specs.declared.Message.{Message}
 use Rattle.records.specs.Records.{closed}
 use Rattle.session.specs.Session.{isState}
-use Rattle.turn.specs.Turn.{turnOutcome, turnWords, turnBytes, outcomeFor, bytesFor, admits}
+use Rattle.session.specs.declared.Session.{Session}
+use Rattle.turn.specs.Turn.{turnOutcome, turnWords, turnBytes, taking, admits}
 use Rattle.turn.specs.declared.Admitted.the-variants as admitted
 use Rattle.turn.specs.declared.Outcome.{Outcome}
+use Rattle.turn.specs.declared.Outcome.the-variants as outcome
 use Rattle.journal.specs.Lines.{openingLine, deliveryLine, recordingLine, turnLine}
 use Rattle.journal.specs.Journal.{lineAnswer, lineWords, lineBytes, lineEntry, acts, openNumber, openedWords, openedBytes, openEntry, deliverNumber, deliveredWords, deliveredBytes, deliverEntry, recordNumber, recordWords, recordBytes, recordEntry, turnRoom, turnedMessage, turnedLine}
 use Rattle.journal.specs.laws.Journal.{line-answer, line-words, room-kept}
@@ -235,23 +237,23 @@ pub ruleset room-cases = (room-none, room-all)
 
 -- a turn lent nothing is refused
 none-refused : (s : List ℕ) → acts (turnOutcome s 0) ≡ false
-unfolding turnOutcome outcomeFor admits
-none-refused s = of (isState s) (closed s)
+unfolding taking turnOutcome admits
+none-refused s = of (isState s) (closed s) _
   where
-    of : (t c : Bool) → acts (outcomeFor (cond (not t) (admitted.Refused 9) (cond c (admitted.Refused 10) (admitted.Refused 8))) s) ≡ false
-    of false c = refl
-    of true true = refl
-    of true false = refl
+    of : (t c : Bool) (taken : Session → Outcome) → acts (taking (cond (not t) (admitted.Refused 9) (cond c (admitted.Refused 10) (admitted.Refused 8))) outcome.Refused taken) ≡ false
+    of false c taken = refl
+    of true true taken = refl
+    of true false taken = refl
 
 -- and keeps its bytes
 none-bytes : (s : List ℕ) → turnBytes s [] ≡ []
-unfolding turnBytes bytesFor admits
-none-bytes s = of (isState s) (closed s)
+unfolding taking turnBytes admits
+none-bytes s = of (isState s) (closed s) _
   where
-    of : (t c : Bool) → bytesFor (cond (not t) (admitted.Refused 9) (cond c (admitted.Refused 10) (admitted.Refused 8))) s [] ≡ []
-    of false c = refl
-    of true true = refl
-    of true false = refl
+    of : (t c : Bool) (taken : Session → List ℕ) → taking (cond (not t) (admitted.Refused 9) (cond c (admitted.Refused 10) (admitted.Refused 8))) (λ k. []) taken ≡ []
+    of false c taken = refl
+    of true true taken = refl
+    of true false taken = refl
 
 -- turn: it gets the first k bytes for its message, all or none
 module _ (out : List ℕ) (line k : ℕ) (e : k ≡ turnRoom (length out) line) where

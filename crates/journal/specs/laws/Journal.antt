@@ -8,9 +8,12 @@ use lib.Dec.{eqb, ltb}
 use borrow.Author.Tests.{eqb-true, ltb-false, le-ltb}
 use Rattle.records.specs.Records.{closed}
 use Rattle.session.specs.Session.{isState, sessionOf}
-use Rattle.turn.specs.Turn.{turnOutcome, turnWords, turnBytes, outcomeFor, wordsFor, admits}
+use Rattle.session.specs.declared.Session.{Session}
+use Rattle.turn.specs.Turn.{turnOutcome, turnWords, turnBytes, taking, admits}
 use Rattle.turn.specs.declared.Admitted.{Admitted}
 use Rattle.turn.specs.declared.Admitted.the-variants as admitted
+use Rattle.turn.specs.declared.Outcome.{Outcome}
+use Rattle.turn.specs.declared.Outcome.the-variants as outcome
 use Rattle.journal.specs.Journal.{LINE-BYTES, lineAnswer, lineWords, turnRoom, acts, turnedOutcome, turnedMessage}
 
 -- ---- opening and delivery
@@ -59,25 +62,25 @@ message-kept s out line l = rw (le-ltb line LINE-BYTES l)
 module _ (s : List ℕ) (room : ℕ) where
   -- a turn that acts is admitted as with any other number of bytes that is enough for a message
   pub acts-admitted : acts (turnOutcome s room) ≡ true → (140 ≤ room) × (admits s 140 ≡ admits s room)
-  unfolding turnOutcome outcomeFor admits
-  acts-admitted e = of (isState s) (closed s) (ltb room 140) refl e
+  unfolding taking turnOutcome admits
+  acts-admitted e = of (isState s) (closed s) (ltb room 140) _ refl e
     where
       tested : Bool → Bool → Bool → Admitted
       tested t c b = cond (not t) (admitted.Refused 9) (cond c (admitted.Refused 10) (cond b (admitted.Refused 8) (admitted.Open (sessionOf s))))
 
-      of : (t c b : Bool) → ltb room 140 ≡ b → acts (outcomeFor (tested t c b) s) ≡ true → (140 ≤ room) × (tested t c false ≡ tested t c b)
-      of false c b q f = absurd (false≢true f)
-      of true true b q f = absurd (false≢true f)
-      of true false true q f = absurd (false≢true f)
-      of true false false q f = (ltb-false room 140 q, refl)
+      of : (t c b : Bool) (taken : Session → Outcome) → ltb room 140 ≡ b → acts (taking (tested t c b) outcome.Refused taken) ≡ true → (140 ≤ room) × (tested t c false ≡ tested t c b)
+      of false c b taken q f = absurd (false≢true f)
+      of true true b taken q f = absurd (false≢true f)
+      of true false true taken q f = absurd (false≢true f)
+      of true false false taken q f = (ltb-false room 140 q, refl)
 
   pub acts-outcome : acts (turnOutcome s room) ≡ true → turnOutcome s 140 ≡ turnOutcome s room
   unfolding turnOutcome
-  acts-outcome e = ap (λ (x : Admitted). outcomeFor x s) (acts-admitted e .1)
+  acts-outcome e = rw (acts-admitted e .1)
 
   pub acts-words : acts (turnOutcome s room) ≡ true → turnWords s 140 ≡ turnWords s room
   unfolding turnWords
-  acts-words e = ap (λ (x : Admitted). wordsFor x s) (acts-admitted e .1)
+  acts-words e = rw (acts-admitted e .1)
 
 -- a turn that acts is lent enough for its message and for its line
 pub turn-enough : (s : List ℕ) (room line : ℕ) → acts (turnedOutcome s room line) ≡ true → (140 ≤ room) × (LINE-BYTES ≤ line)

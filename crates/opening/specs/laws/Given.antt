@@ -52,7 +52,7 @@ nobody : weightOf 0 1 ≡ 0
 unfolding weightOf mark
 nobody = refl
 
--- "not exactly n weights", or one that is 0 or over 4, is refused: an opening that is accepted was given a list that is right
+-- another number of weights than n, or one that is 0 or over 4, is refused (PROTOCOL 9.15): an accepted opening was given a list that is right
 pub accepted-given : (words : ℕ) (o : Arguments) → openAnswer words o ≡ 0 → weightsGiven (o .n) (o .weights) ≡ true
 unfolding weightsWord
 accepted-given words o e = at (weightsGiven (o .n) (o .weights)) refl

@@ -1,4 +1,4 @@
--- An opening that leaves ta unnamed is one that names the largest ta which an opening with the other arguments takes (request N8).
+-- An opening that leaves ta unnamed is one that names the largest ta which an opening with the other arguments takes (PROTOCOL 1.7).
 use Prim.Native.Nat.{ℕ, _*_, _≤_}
 use mathlib.Core.List.{List}
 use mathlib.Core.Path.{_≡_, ap}
@@ -75,7 +75,7 @@ module _ (s : List ℕ) (o : Arguments) where
     pub unnamed-named : NamesLargest
     unnamed-named = record { largest = unnamed-largest (o .n) (o .ts) (weightsBy o) largest-ta (told .valid); opens = opens-named; words = same-words }
 
-  -- "if 2·ts ≥ n it is refused as 1"
+  -- where no ta is allowed, an unnamed one is refused (PROTOCOL 1.7)
   pub unnamed-refused : length s ≡ stateWords → wholeOf (weightsBy o) (o .n) ≤ 2 * o .ts → openAnswer (length s) (naming UNNAMED) ≡ SETTINGS
   unfolding openAnswer
   unnamed-refused size h = rw (eq-eqb (length s) stateWords size, none-allowed (o .n) (o .ts) (weightsBy o) h largest-ta)

@@ -47,7 +47,7 @@ ones-checked = refl
 pub ones-weight : (n p : ℕ) → 1 ≤ p → p ≤ n → n ≤ 16 → weightOf (2 ^ n - 1) p ≡ 1
 ones-weight n p lo hi few = eqb-true (weightOf (2 ^ n - 1) p) 1 (every-each (λ q. eqb (weightOf (2 ^ n - 1) q) 1) n (every-each (λ m. every (λ q. eqb (weightOf (2 ^ m - 1) q) 1) m) 16 ones-checked n (omega arith) few) p lo hi)
 
--- "With all weights 1 every answer equals the unweighted one": every weight is the count
+-- with weights of 1 every weight is a count (PROTOCOL 13.4)
 pub ones-count : (n : ℕ) (M : ℕ → Bool) → n ≤ 16 → weigh (2 ^ n - 1) M n ≡ count M n
 ones-count n M few = total-weights (weightOf (2 ^ n - 1)) (λ p. 1) M n (λ p lo hi. ones-weight n p lo hi few)
 

@@ -25,7 +25,7 @@ use Rattle.session.specs.Session.{stored}
 use Rattle.session.specs.declared.Session.{Session}
 use Rattle.session.specs.declared.Stored.{Stored}
 use Rattle.session.specs.declared.Stored.the-variants.{NoState, Held}
-use Rattle.report.specs.Report.{inForceSet, figuresOf, admits, answerFor, namedFor, inForceFor, reportAnswer, reportNamed, reportInForce}
+use Rattle.report.specs.Report.{inForceSet, figuresOf, admits, giving, reportAnswer, reportNamed, reportInForce}
 use Rattle.report.specs.laws.Report.{Admitting, admitting}
 use Rattle.report.specs.declared.Figures.{Figures}
 use Rattle.report.specs.declared.Admitted.{Admitted}
@@ -38,7 +38,7 @@ use Rattle.wire.specs.Message.{atFront}
 
 -- the lowest sender that holds the set in force, and 0 if none is
 unfoldable pub inForceSender : Settings → List ℕ → ℕ
-inForceSender g s = cond (closed s) (setLeader (g .weights) s (g .n) (quorum g)) 0
+inForceSender g s = cond (closed s) (setLeader g s (quorum g)) 0
 
 pub record SetWritten (xs old new : List ℕ) (count : ℕ) : Type 0 where
   pub words : new ≡ atFront xs old
@@ -83,7 +83,7 @@ pub ruleset admit-cases = (short, long, no-size, no-state, a-state)
 -- the sender of the set in force
 
 module _ (g : Settings) (s : List ℕ) (c : Bool) (e : c ≡ closed s) where
-  pub sender-closed : (q p : ℕ) → c ≡ true → q ≡ quorum g → p ≡ setLeader (g .weights) s (g .n) q → p ≡ inForceSender g s
+  pub sender-closed : (q p : ℕ) → c ≡ true → q ≡ quorum g → p ≡ setLeader g s q → p ≡ inForceSender g s
   unfolding inForceSender
   sender-closed q p t f h = rw (← e, t, ← f) h
 
@@ -109,15 +109,15 @@ sender-few : (g : Settings) (s : List ℕ) → Ruled g → inForceSender g s ≤
 unfolding inForceSender setLeader
 sender-few g s r = go (closed s)
   where
-    go : (b : Bool) → cond b (lowest (setLeads (g .weights) s (g .n) (quorum g)) (g .n)) 0 ≤ 16
-    go true = omega (arith, lowest-le (setLeads (g .weights) s (g .n) (quorum g)) (g .n))
+    go : (b : Bool) → cond b (lowest (setLeads g s (quorum g)) (g .n)) 0 ≤ 16
+    go true = omega (arith, lowest-le (setLeads g s (quorum g)) (g .n))
     go false = omega arith
 
 in-force-of : (g : Settings) (s : List ℕ) → setOf s (inForceSender g s) ≡ inForceSet g s
 unfolding inForceSet inForceSender leadingSet setOf
 in-force-of g s = go (closed s)
   where
-    go : (b : Bool) → setOf s (cond b (setLeader (g .weights) s (g .n) (quorum g)) 0) ≡ cond b (setOf s (setLeader (g .weights) s (g .n) (quorum g))) []
+    go : (b : Bool) → setOf s (cond b (setLeader g s (quorum g)) 0) ≡ cond b (setOf s (setLeader g s (quorum g))) []
     go true = refl
     go false = refl
 
@@ -165,28 +165,28 @@ module _ (s a b : List ℕ) (v : Admitted) (e : v ≡ admits s (length a) (lengt
 
     module _ (a′ b′ : List ℕ) (r : Figures) (w : Written g s a b a′ b′ r) where
       pub given-answer : Given r ≡ reportAnswer s (length a) (length b)
-      unfolding reportAnswer answerFor
+      unfolding giving reportAnswer
       given-answer = rw (← e, t, w .figures)
 
       pub given-named : a′ ≡ reportNamed s a (length b)
-      unfolding reportNamed namedFor
+      unfolding giving reportNamed
       given-named = rw (← e, t) (w .named-words)
 
       pub given-in-force : b′ ≡ reportInForce s (length a) b
-      unfolding reportInForce inForceFor
+      unfolding giving reportInForce
       given-in-force = rw (← e, t) (w .in-force-words)
 
   module _ (k : ℕ) (t : v ≡ admitted.Refused k) where
     pub refused-answer : Refused k ≡ reportAnswer s (length a) (length b)
-    unfolding reportAnswer answerFor
+    unfolding giving reportAnswer
     refused-answer = rw (← e, t)
 
     pub refused-named : a ≡ reportNamed s a (length b)
-    unfolding reportNamed namedFor
+    unfolding giving reportNamed
     refused-named = rw (← e, t)
 
     pub refused-in-force : b ≡ reportInForce s (length a) b
-    unfolding reportInForce inForceFor
+    unfolding giving reportInForce
     refused-in-force = rw (← e, t)
 
 pub ruleset report-cases = (given-named-room, given-in-force-room, given-answer, given-named, given-in-force, refused-answer, refused-named, refused-in-force)

@@ -17,7 +17,7 @@ use Rattle.session.specs.laws.Session.{State, Read, held-read}
 use Rattle.session.specs.declared.Session.{Session}
 use Rattle.session.specs.declared.Stored.{Stored}
 use Rattle.session.specs.declared.Stored.the-variants.{NoState, Held}
-use Rattle.report.specs.Report.{inForceSet, figuresOf, admits, answerFor, namedFor, inForceFor, reportAnswer, reportNamed, reportInForce}
+use Rattle.report.specs.Report.{inForceSet, figuresOf, admits, giving, reportAnswer, reportNamed, reportInForce}
 use Rattle.report.specs.declared.Figures.{Figures}
 use Rattle.report.specs.declared.Admitted.{Admitted}
 use Rattle.report.specs.declared.Admitted.the-variants as admitted
@@ -61,17 +61,17 @@ pub record Reported (s : List ℕ) (f : Figures) : Type 0 where
   pub same : f ≡ figuresOf (settingsOf s) s
 
 pub reported : (s : List ℕ) (a b : ℕ) (f : Figures) → reportAnswer s a b ≡ Given f → Reported s f
-unfolding reportAnswer answerFor
+unfolding giving reportAnswer
 reported s a b f e = of (admits s a b) refl e
   where
-    of : (v : Admitted) → admits s a b ≡ v → answerFor v s ≡ Given f → Reported s f
+    of : (v : Admitted) → admits s a b ≡ v → giving v Refused (λ g. Given (figuresOf g s)) ≡ Given f → Reported s f
     of (admitted.Refused k) t h = absurd (let z : _≡_ {A = ℕ} 0 1 = cc in omega arith)
     of (admitted.Open g) t h =
         let x : Admitting s a b g = admitting s a b g t in
         let q : figuresOf g s ≡ f = cc in
         record { state = x .state; same = sym q ∙ ap (λ (y : Settings). figuresOf y s) (x .same) }
 
--- "at most 99·n+3 turns"
+-- the turn bound of 16 concentrators (PROTOCOL 8.20)
 pub turns-few : (s : List ℕ) (f : Figures) → Reported s f → f .turns ≤ 1587
 unfolding figuresOf
 turns-few s f r = rw (r .same) (omega (arith, r .state .turns, ruled-bounds (settingsOf s) (r .state .ruled) .bound-few))
@@ -83,15 +83,15 @@ module _ (s : List ℕ) (e : isState s ≡ true) where
   gives a b h k = rw (e, le-ltb a 16 h, le-ltb b 16 k)
 
   pub report-gives : (a b : ℕ) → 16 ≤ a → 16 ≤ b → reportAnswer s a b ≡ Given (figuresOf (settingsOf s) s)
-  unfolding reportAnswer answerFor
+  unfolding giving reportAnswer
   report-gives a b h k = rw (gives a b h k)
 
   pub report-names : (old : List ℕ) (b : ℕ) → 16 ≤ length old → 16 ≤ b → reportNamed s old b ≡ atFront (exitNow (settingsOf s) s .names) old
-  unfolding reportNamed namedFor
+  unfolding giving reportNamed
   report-names old b h k = rw (gives (length old) b h k)
 
   pub report-enforces : (a : ℕ) (old : List ℕ) → 16 ≤ a → 16 ≤ length old → reportInForce s a old ≡ atFront (inForceSet (settingsOf s) s) old
-  unfolding reportInForce inForceFor
+  unfolding giving reportInForce
   report-enforces a old h k = rw (gives a (length old) h k)
 
 -- a set at the front is read back by its count

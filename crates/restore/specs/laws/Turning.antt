@@ -14,7 +14,7 @@ use Rattle.acts.specs.declared.Act.the-variants as act
 use Rattle.session.specs.declared.Session.{Session}
 use Rattle.settings.specs.Settings.{roundLimit}
 use Rattle.turn.specs.Due.{due}
-use Rattle.turn.specs.Turn.{moveOutcome, outcomeOf, applied, admits, bytesAfter, sentLength, outcomeFor, wordsFor, bytesFor, turnOutcome, turnWords, turnBytes}
+use Rattle.turn.specs.Turn.{moveOutcome, outcomeOf, applied, admits, bytesAfter, sentLength, taking, turnOutcome, turnWords, turnBytes}
 use Rattle.turn.specs.declared.Admitted.{Admitted}
 use Rattle.turn.specs.declared.Admitted.the-variants as admitted
 use Rattle.turn.specs.declared.Outcome.{Outcome}
@@ -109,33 +109,47 @@ quiet-bytes x w (outcome.Sent m) out e = no-truth e
 quiet-bytes x w outcome.MovedOut out e = no-truth e
 quiet-bytes x w outcome.InForce out e = no-truth e
 
-quiet-words-for : (a : Admitted) (w : List ℕ) → acts (outcomeFor a w) ≡ false → wordsFor a w ≡ w
-unfolding outcomeFor wordsFor
-quiet-words-for (admitted.Refused k) w e = refl
-quiet-words-for (admitted.Open x) w e = quiet-act (x .own) w (due (x .settings) w) e
+quiet-turn-words : (w : List ℕ) (room : ℕ) → acts (turnOutcome w room) ≡ false → turnWords w room ≡ w
+unfolding taking turnOutcome turnWords
+quiet-turn-words w room e = go (admits w room) refl
+  where
+    go : (a : Admitted) → admits w room ≡ a → turnWords w room ≡ w
+    go (admitted.Refused k) f = rw f
+    go (admitted.Open x) f = rw f (quiet-act (x .own) w (due (x .settings) w) (rw f at e))
 
-quiet-bytes-for : (a : Admitted) (w out : List ℕ) → acts (outcomeFor a w) ≡ false → bytesFor a w out ≡ out
-unfolding outcomeFor bytesFor
-quiet-bytes-for (admitted.Refused k) w out e = refl
-quiet-bytes-for (admitted.Open x) w out e = quiet-bytes x w (outcomeOf (x .own) w (due (x .settings) w)) out e
+quiet-turn-bytes : (w out : List ℕ) → acts (turnOutcome w (length out)) ≡ false → turnBytes w out ≡ out
+unfolding taking turnOutcome turnBytes
+quiet-turn-bytes w out e = go (admits w (length out)) refl
+  where
+    go : (a : Admitted) → admits w (length out) ≡ a → turnBytes w out ≡ out
+    go (admitted.Refused k) f = rw f
+    go (admitted.Open x) f = rw f (quiet-bytes x w (outcomeOf (x .own) w (due (x .settings) w)) out (rw f at e))
+
+enough-outcome : (w : List ℕ) (room : ℕ) → 140 ≤ room → turnOutcome w room ≡ turnOutcome w 140
+unfolding turnOutcome
+enough-outcome w room h = rw (room-enough w room h)
+
+enough-words : (w : List ℕ) (room : ℕ) → 140 ≤ room → turnWords w room ≡ turnWords w 140
+unfolding turnWords
+enough-words w room h = rw (room-enough w room h)
 
 pub turn-taken : (w lent after message : List ℕ) (o : Outcome) (r : Applied) → 140 ≤ length lent → o ≡ turnOutcome w (length lent) → after ≡ turnWords w (length lent) → message ≡ turnBytes w lent → r ≡ outcomeApplied o → Took (turnedFrom w []) w lent r after message
-unfolding turnOutcome turnWords turnBytes outcomeApplied turnedFrom appliedAs wordsOr bytesOr lengthAgain bytesAgain
-turn-taken w lent after message o r h a b c d = go (acts (outcomeFor (admits w 140) w)) refl
+unfolding outcomeApplied turnedFrom appliedAs wordsOr bytesOr lengthAgain bytesAgain
+turn-taken w lent after message o r h a b c d = go (acts (turnOutcome w 140)) refl
   where
-    same : admits w (length lent) ≡ admits w 140
-    same = room-enough w (length lent) h
+    same : turnOutcome w (length lent) ≡ turnOutcome w 140
+    same = enough-outcome w (length lent) h
 
-    what : o ≡ outcomeFor (admits w 140) w
-    what = a ∙ ap (λ (x : Admitted). outcomeFor x w) same
+    what : o ≡ turnOutcome w 140
+    what = a ∙ same
 
-    go : (t : Bool) → acts (outcomeFor (admits w 140) w) ≡ t → Took (turnedFrom w []) w lent r after message
-    go true e = record { answer = d ∙ rw (what, e); words = b ∙ rw (same, e); bytes = c ∙ rw e }
+    go : (t : Bool) → acts (turnOutcome w 140) ≡ t → Took (turnedFrom w []) w lent r after message
+    go true e = record { answer = d ∙ rw (what, e); words = b ∙ rw e (enough-words w (length lent) h); bytes = c ∙ rw e }
     go false e =
         record {
           answer = d ∙ rw (what, e);
-          words = b ∙ rw (same, e) (quiet-words-for (admits w 140) w e);
-          bytes = c ∙ rw (same, e) (quiet-bytes-for (admits w 140) w lent e);
+          words = b ∙ rw e (quiet-turn-words w (length lent) (ap acts same ∙ e));
+          bytes = c ∙ rw e (quiet-turn-bytes w lent (ap acts same ∙ e));
         }
 
 -- the answer of a delivery or a recording

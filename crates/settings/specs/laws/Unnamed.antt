@@ -1,4 +1,4 @@
--- A ta that is left unnamed is the largest that the rules allow with the other settings (request N8).
+-- A ta that is left unnamed is the largest that the rules allow with the other settings (PROTOCOL 1.7).
 use Prim.Native.Nat.{ℕ, _*_, _<_, _≤_}
 use mathlib.Core.Bool.{Bool, true, false}
 use mathlib.Core.Path.{_≡_, refl}
@@ -49,10 +49,10 @@ module _ (n ts w : ℕ) where
       by true e = absurd (h (valid-rules n ta ts w e))
       by false e = e
 
-  -- "if 2·ts ≥ n it is refused as 1", as is every other ta
+  -- where 2·ts ≥ W every ta is refused, and so is an unnamed one (PROTOCOL 1.7)
   pub none-allowed : wholeOf w n ≤ 2 * ts → (ta : ℕ) → validSettings n ta ts w ≡ false
   none-allowed h ta = refused ta (λ r. omega (arith, r .margin))
 
-  -- 255 itself is no ta: no session is lost by reading it otherwise, and "a stored ta of 255" is refused
+  -- 255 itself is no ta: no session is lost by reading it otherwise, and a state that stores it is refused (PROTOCOL 9.6)
   pub unnamed-no-number : validSettings n UNNAMED ts w ≡ false
   unnamed-no-number = refused UNNAMED (λ r. omega (arith, r .ordered, r .margin, whole-few (settingsFrom n UNNAMED ts w) r))

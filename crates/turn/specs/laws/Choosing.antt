@@ -43,13 +43,13 @@ pub record Chosen (want : Act) (xs : List ℕ) (a : Act) (set : List ℕ) : Type
   pub same : a ≡ want
   pub front : (k : ℕ) → a ≡ Commit k → take k set ≡ xs
 
--- rules 5 and 6, where `held` has mark i if broadcast i has output, and `first` tells whether Exit 1 holds
+-- rules 5 and 6, where `outputs` has mark i if broadcast i has output, and `first` tells whether Exit 1 holds
 unfoldable pub lastRules : Settings → List ℕ → ℕ → Bool → Act
-lastRules g s held first = orAct (readyRule g s) (cond first Idle (voteRule g s (mark held)))
+lastRules g s outputs first = orAct (readyRule g s) (cond first Idle (voteRule g s (mark outputs)))
 
 -- rules 3 to 6
 unfoldable pub laterRules : Settings → List ℕ → ℕ → Bool → Act
-laterRules g s held first = orAct (sendRule s) (orAct (echoRule g s) (lastRules g s held first))
+laterRules g s outputs first = orAct (sendRule s) (orAct (echoRule g s) (lastRules g s outputs first))
 
 idle-no-commit : (k : ℕ) → Idle ≡ Commit k → ⊥
 idle-no-commit k e = let z : _≡_ {A = ℕ} 0 1 = cc in omega arith
@@ -72,7 +72,7 @@ or-set-none (x ∷ xs) ys k e h = absurd (omega arith)
 
 module _ (g : Settings) (s : List ℕ) where
   -- rule 1
-  module _ (p q : ℕ) (eq : q ≡ quorum g) (ep : p ≡ setLeader (g .weights) s (g .n) q) where
+  module _ (p q : ℕ) (eq : q ≡ quorum g) (ep : p ≡ setLeader g s q) where
     pub not-in-force : p ≡ 0 → Idle ≡ inForceRule g s
     unfolding inForceRule
     not-in-force z = rw (← eq, ← ep, z)
@@ -82,8 +82,8 @@ module _ (g : Settings) (s : List ℕ) where
     in-force z = rw (← eq, ← ep, ne-eqb p 0 z)
 
   -- a set that is held from ts + 1 senders
-  module _ (p q : ℕ) (eq : q ≡ repeat g) (ep : p ≡ setLeader (g .weights) s (g .n) q) where
-    pub none-repeated : (set : List ℕ) → p ≡ 0 → Chosen (commitOf (leadingSet (g .weights) s (g .n) (repeat g))) (leadingSet (g .weights) s (g .n) (repeat g)) Idle set
+  module _ (p q : ℕ) (eq : q ≡ repeat g) (ep : p ≡ setLeader g s q) where
+    pub none-repeated : (set : List ℕ) → p ≡ 0 → Chosen (commitOf (leadingSet g s (repeat g))) (leadingSet g s (repeat g)) Idle set
     unfolding leadingSet setOf commitOf
     none-repeated set z =
         record {
@@ -92,9 +92,9 @@ module _ (g : Settings) (s : List ℕ) where
         }
 
     module _ (ne : p ≡ 0 → ⊥) (before : List ℕ) (r : Readable g s before) where
-      is-leader : Lowest (setLeads (g .weights) s (g .n) q) (g .n) p
+      is-leader : Lowest (setLeads g s q) (g .n) p
       unfolding setLeader
-      is-leader = lowest-is (setLeads (g .weights) s (g .n) q) (g .n) p (sym ep) ne
+      is-leader = lowest-is (setLeads g s q) (g .n) p (sym ep) ne
 
       pub set-room : SetRoom s p before
       set-room = record { size = r .size; sender = omega (arith, is-leader .high, r .ruled .few); room = omega (arith, r .room) }
@@ -103,18 +103,18 @@ module _ (g : Settings) (s : List ℕ) where
         count-some : k ≡ 0 → ⊥
         unfolding setLeads commitHeld
         count-some z =
-            let held : commitHeld s p ≡ true = and-left (commitHeld s p) (leb q (setHolders (g .weights) s (g .n) p)) (is-leader .holds) in
+            let held : commitHeld s p ≡ true = and-left (commitHeld s p) (leb q (setHolders g s p)) (is-leader .holds) in
             let some : 0 < commitCount s p = ltb-true 0 (commitCount s p) held in
             omega (arith, c .counted)
 
-        is-set : leadingSet (g .weights) s (g .n) (repeat g) ≡ commitSet s p
+        is-set : leadingSet g s (repeat g) ≡ commitSet s p
         unfolding leadingSet setOf
         is-set = rw (← eq, ← ep, ne-eqb p 0 ne)
 
-        pub set-repeated : Chosen (commitOf (leadingSet (g .weights) s (g .n) (repeat g))) (leadingSet (g .weights) s (g .n) (repeat g)) (Commit k) after
+        pub set-repeated : Chosen (commitOf (leadingSet g s (repeat g))) (leadingSet g s (repeat g)) (Commit k) after
         set-repeated =
             record {
-              same = sym (commit-some (leadingSet (g .weights) s (g .n) (repeat g)) k (rw is-set (c .sized)) count-some);
+              same = sym (commit-some (leadingSet g s (repeat g)) k (rw is-set (c .sized)) count-some);
               front = λ m t. let q : m ≡ k = cc in rw (q, c .words, is-set) (take-at (commitSet s p) (drop k before) k (c .sized));
             }
 
@@ -142,16 +142,16 @@ module _ (g : Settings) (s : List ℕ) (b : Bool) (eb : b ≡ commitSent s) wher
     pub set-named : (y .count ≡ 0 → ⊥) → Chosen (commitRule g s) (commitDue g s) (Commit (y .count)) (y .values)
     unfolding commitRule commitDue
     set-named ne =
-        let is : commitDue g s ≡ exitNow g s .names = or-set-some (exitNow g s .names) (leadingSet (g .weights) s (g .n) (repeat g)) (y .count) (st .sized) ne in
+        let is : commitDue g s ≡ exitNow g s .names = or-set-some (exitNow g s .names) (leadingSet g s (repeat g)) (y .count) (st .sized) ne in
         record {
           same = rw (← eb, tb, is) (sym (commit-some (exitNow g s .names) (y .count) (st .sized) ne));
           front = λ k e. let q : k ≡ y .count = cc in rw q (names-stated y (exitNow g s) st ∙ sym is);
         }
 
-    pub none-named : (a : Act) (set : List ℕ) → y .count ≡ 0 → Chosen (commitOf (leadingSet (g .weights) s (g .n) (repeat g))) (leadingSet (g .weights) s (g .n) (repeat g)) a set → Chosen (commitRule g s) (commitDue g s) a set
+    pub none-named : (a : Act) (set : List ℕ) → y .count ≡ 0 → Chosen (commitOf (leadingSet g s (repeat g))) (leadingSet g s (repeat g)) a set → Chosen (commitRule g s) (commitDue g s) a set
     unfolding commitRule commitDue
     none-named a set z h =
-        let is : commitDue g s ≡ leadingSet (g .weights) s (g .n) (repeat g) = or-set-none (exitNow g s .names) (leadingSet (g .weights) s (g .n) (repeat g)) (y .count) (st .sized) z in
+        let is : commitDue g s ≡ leadingSet g s (repeat g) = or-set-none (exitNow g s .names) (leadingSet g s (repeat g)) (y .count) (st .sized) z in
         record {
           same = rw (← eb, tb, is) (h .same);
           front = λ k e. h .front k e ∙ sym is;
@@ -172,46 +172,46 @@ module _ (s : List ℕ) (b : Bool) (eb : b ≡ sendSent s) where
 pub ruleset send-cases = (send-was-sent, send-due)
 
 -- rules 5 and 6
-module _ (g : Settings) (s : List ℕ) (held : ℕ) (first : Bool) (a : Act) (d : Bool) (ea : a ≡ readyRule g s) (ed : d ≡ isDue a) where
-  pub first-ready : d ≡ true → a ≡ lastRules g s held first
+module _ (g : Settings) (s : List ℕ) (outputs : ℕ) (first : Bool) (a : Act) (d : Bool) (ea : a ≡ readyRule g s) (ed : d ≡ isDue a) where
+  pub first-ready : d ≡ true → a ≡ lastRules g s outputs first
   unfolding lastRules orAct
   first-ready t = rw (← ea, ← ed, t)
 
-  pub votes-off : d ≡ false → first ≡ true → Idle ≡ lastRules g s held first
+  pub votes-off : d ≡ false → first ≡ true → Idle ≡ lastRules g s outputs first
   unfolding lastRules orAct
   votes-off t h = rw (← ea, ← ed, t, h)
 
-  pub votes-on : (v : Act) → d ≡ false → first ≡ false → v ≡ voteRule g s (mark held) → v ≡ lastRules g s held first
+  pub votes-on : (v : Act) → d ≡ false → first ≡ false → v ≡ voteRule g s (mark outputs) → v ≡ lastRules g s outputs first
   unfolding lastRules orAct
   votes-on v t h ev = rw (← ea, ← ed, t, h) ev
 
 pub ruleset last-cases = (first-ready, votes-off, votes-on)
 
 -- rules 3 to 6
-module _ (g : Settings) (s : List ℕ) (held : ℕ) (first : Bool) (a : Act) (d : Bool) (ea : a ≡ sendRule s) (ed : d ≡ isDue a) where
-  pub first-send : d ≡ true → a ≡ laterRules g s held first
+module _ (g : Settings) (s : List ℕ) (outputs : ℕ) (first : Bool) (a : Act) (d : Bool) (ea : a ≡ sendRule s) (ed : d ≡ isDue a) where
+  pub first-send : d ≡ true → a ≡ laterRules g s outputs first
   unfolding laterRules orAct
   first-send t = rw (← ea, ← ed, t)
 
   module _ (td : d ≡ false) (b : Act) (e : Bool) (eb : b ≡ echoRule g s) (ee : e ≡ isDue b) where
-    pub first-echo : e ≡ true → b ≡ laterRules g s held first
+    pub first-echo : e ≡ true → b ≡ laterRules g s outputs first
     unfolding laterRules orAct
     first-echo t = rw (← ea, ← ed, td, ← eb, ← ee, t)
 
-    pub rest-later : (c : Act) → e ≡ false → c ≡ lastRules g s held first → c ≡ laterRules g s held first
+    pub rest-later : (c : Act) → e ≡ false → c ≡ lastRules g s outputs first → c ≡ laterRules g s outputs first
     unfolding laterRules orAct
     rest-later c t h = rw (← ea, ← ed, td, ← eb, ← ee, t) h
 
 pub ruleset later-cases = (first-send, first-echo, rest-later)
 
 -- the marks and the array say what the rules ask of the outputs
-module _ (g : Settings) (s : List ℕ) (held : ℕ) (values : List ℕ) (r : Ruled g) (x : Outputs g s (g .n) held values) where
-  rule-same : voteRule g s (mark held) ≡ voteRule g s (λ i. present (output g s i))
+module _ (g : Settings) (s : List ℕ) (outputs : ℕ) (values : List ℕ) (r : Ruled g) (x : Outputs g s (g .n) outputs values) where
+  rule-same : voteRule g s (mark outputs) ≡ voteRule g s (λ i. present (output g s i))
   unfolding voteRule
   rule-same =
-      first-agree (λ i. voteAct g s (mark held i) (votesDecidedOne g s) i) (λ i. voteAct g s (present (output g s i)) (votesDecidedOne g s) i) (g .n)
-      (λ i a b. ap (λ (o : Bool). voteAct g s o (votesDecidedOne g s) i) (outputs-marks g s held values r x i a b))
+      first-agree (λ i. voteAct g s (mark outputs i) (votesDecidedOne g s) i) (λ i. voteAct g s (present (output g s i)) (votesDecidedOne g s) i) (g .n)
+      (λ i a b. ap (λ (o : Bool). voteAct g s o (votesDecidedOne g s) i) (outputs-marks g s outputs values r x i a b))
 
-  pub later-same : (y : Named) → Stated y (exitNow g s) → laterRules g s held (eqb (y .exit) 1) ≡ orAct (sendRule s) (orAct (echoRule g s) (orAct (readyRule g s) (votesRule g s)))
+  pub later-same : (y : Named) → Stated y (exitNow g s) → laterRules g s outputs (eqb (y .exit) 1) ≡ orAct (sendRule s) (orAct (echoRule g s) (orAct (readyRule g s) (votesRule g s)))
   unfolding laterRules lastRules votesRule
   later-same y h = rw (rule-same, number-stated y (exitNow g s) h)

@@ -31,11 +31,11 @@ module _ (g : Settings) (s : List ℕ) (a : Act) (d : Bool) (ea : a ≡ inForceR
     unfolding due orAct
     first-commit te = let eb : b ≡ commitRule g s = h .same in record { same = rw (← ea, ← ed, td, ← eb, ← ee, te); front = h .front }
 
-    pub first-later : (held : ℕ) (values : List ℕ) (y : Named) (c : Act) → e ≡ false → Ruled g → Outputs g s (g .n) held values → Stated y (exitNow g s) → c ≡ laterRules g s held (eqb (y .exit) 1) → Chosen (due g s) (commitDue g s) c set
+    pub first-later : (outputs : ℕ) (values : List ℕ) (y : Named) (c : Act) → e ≡ false → Ruled g → Outputs g s (g .n) outputs values → Stated y (exitNow g s) → c ≡ laterRules g s outputs (eqb (y .exit) 1) → Chosen (due g s) (commitDue g s) c set
     unfolding due
-    first-later held values y c te r x st ec =
+    first-later outputs values y c te r x st ec =
         let eb : b ≡ commitRule g s = h .same in
-        let is : c ≡ orAct (sendRule s) (orAct (echoRule g s) (orAct (readyRule g s) (votesRule g s))) = ec ∙ later-same g s held values r x y st in
+        let is : c ≡ orAct (sendRule s) (orAct (echoRule g s) (orAct (readyRule g s) (votesRule g s))) = ec ∙ later-same g s outputs values r x y st in
         record {
           same = rw (← ea, ← eb) (rest-last a b _ c d e ed td ee te is);
           front = λ k f. absurd (later-no-commit g s r c k is f);

@@ -35,25 +35,25 @@ use Rattle.turn.specs.Due.{inForceRule, orSet, commitDue, commitOf, comm
 use Rattle.exits.specs.Exits.{exitNow}
 use Rattle.turn.specs.laws.Told.{SetHeld, Rests, on-exit, on-copies, CommitTold, Evidence, ActTold}
 
-module _ (w : ℕ) (s : List ℕ) (n k : ℕ) where
+module _ (g : Settings) (s : List ℕ) (k : ℕ) where
   abbrev leader : ℕ
-  leader = setLeader w s n k
+  leader = setLeader g s k
 
   -- the lowest sender with such a set has one
-  pub leader-holds : leader ≢ 0 → SetHeld w s n k leader
+  pub leader-holds : leader ≢ 0 → SetHeld g s k leader
   unfolding setLeader setLeads
-  leader-holds ne = of (lowest-is (setLeads w s n k) n leader refl ne)
+  leader-holds ne = of (lowest-is (setLeads g s k) (g .n) leader refl ne)
     where
-      of : Lowest (setLeads w s n k) n leader → SetHeld w s n k leader
+      of : Lowest (setLeads g s k) (g .n) leader → SetHeld g s k leader
       of x =
           record {
             low = x .low;
             high = x .high;
-            held = and-left (commitHeld s leader) (leb k (setHolders w s n leader)) (x .holds);
-            enough = leb-true k (setHolders w s n leader) (and-right (commitHeld s leader) (leb k (setHolders w s n leader)) (x .holds));
+            held = and-left (commitHeld s leader) (leb k (setHolders g s leader)) (x .holds);
+            enough = leb-true k (setHolders g s leader) (and-right (commitHeld s leader) (leb k (setHolders g s leader)) (x .holds));
           }
 
-  leading-some : 1 ≤ length (leadingSet w s n k) → (leader ≢ 0) × (leadingSet w s n k ≡ commitSet s leader)
+  leading-some : 1 ≤ length (leadingSet g s k) → (leader ≢ 0) × (leadingSet g s k ≡ commitSet s leader)
   unfolding leadingSet setOf
   leading-some h = go (eqb leader 0) refl h
     where
@@ -77,14 +77,14 @@ module _ (g : Settings) (s : List ℕ) where
   unfolding commitDue orSet
   set-rests h = go (exitNow g s .names) refl h
     where
-      copies : (leadingSet (g .weights) s (g .n) (repeat g) ≡ commitDue g s) → (setLeader (g .weights) s (g .n) (repeat g) ≢ 0) × (leadingSet (g .weights) s (g .n) (repeat g) ≡ commitSet s (setLeader (g .weights) s (g .n) (repeat g))) → Rests g s
-      copies e l = on-copies (setLeader (g .weights) s (g .n) (repeat g)) (leader-holds (g .weights) s (g .n) (repeat g) (l .0)) (sym e ∙ l .1)
+      copies : (leadingSet g s (repeat g) ≡ commitDue g s) → (setLeader g s (repeat g) ≢ 0) × (leadingSet g s (repeat g) ≡ commitSet s (setLeader g s (repeat g))) → Rests g s
+      copies e l = on-copies (setLeader g s (repeat g)) (leader-holds g s (repeat g) (l .0)) (sym e ∙ l .1)
 
-      go : (xs : List ℕ) → exitNow g s .names ≡ xs → 1 ≤ length (orSet xs (leadingSet (g .weights) s (g .n) (repeat g))) → Rests g s
-      go [] e l = copies (ap (λ (xs : List ℕ). orSet xs (leadingSet (g .weights) s (g .n) (repeat g))) (sym e)) (leading-some (g .weights) s (g .n) (repeat g) l)
+      go : (xs : List ℕ) → exitNow g s .names ≡ xs → 1 ≤ length (orSet xs (leadingSet g s (repeat g))) → Rests g s
+      go [] e l = copies (ap (λ (xs : List ℕ). orSet xs (leadingSet g s (repeat g))) (sym e)) (leading-some g s (repeat g) l)
       go (x ∷ xs) e l =
           on-exit (named-number (rw e l))
-          (ap (λ (ys : List ℕ). orSet ys (leadingSet (g .weights) s (g .n) (repeat g))) e ∙ sym e)
+          (ap (λ (ys : List ℕ). orSet ys (leadingSet g s (repeat g))) e ∙ sym e)
 
   module _ (Set : ℕ → Type 0) where
     abbrev P : Act → Type 0
@@ -93,8 +93,8 @@ module _ (g : Settings) (s : List ℕ) where
     in-force-told : P (inForceRule g s)
     unfolding inForceRule
     in-force-told =
-        all-cond P (eqb (setLeader (g .weights) s (g .n) (quorum g)) 0) Idle InForce (λ e. tt)
-        (λ e. record { sender = setLeader (g .weights) s (g .n) (quorum g); holds = leader-holds (g .weights) s (g .n) (quorum g) (eqb-false (setLeader (g .weights) s (g .n) (quorum g)) 0 e) })
+        all-cond P (eqb (setLeader g s (quorum g)) 0) Idle InForce (λ e. tt)
+        (λ e. record { sender = setLeader g s (quorum g); holds = leader-holds g s (quorum g) (eqb-false (setLeader g s (quorum g)) 0 e) })
 
     send-told : P (sendRule s)
     unfolding sendRule

@@ -222,7 +222,7 @@ module _ (s : List ℕ) (a : Act) where
         of : Apart j → word (applied s a) j ≡ word s j
         of x = applied-other j (x .turns) (spares-kept a j p x)
 
-    -- "the number of turns since opening that did not answer idle"
+    -- an act adds 1 to the count of turns (PROTOCOL 8.19)
     pub applied-turns : 6 < length s → isDue a ≡ true → word (applied s a) turnsAt ≡ word s turnsAt + 1
     unfolding withTurnCounted
     applied-turns l e =

@@ -24,7 +24,7 @@ use Rattle.wire.proofs.Laws.{written-whole}
 use Rattle.wire.specs.declared.Message.{Message}
 use Rattle.wire.specs.declared.Message.the-variants as message
 use Rattle.turn.specs.Due.{commitDue, due}
-use Rattle.turn.specs.Turn.{moveOutcome, outcomeOf, applied, admits, bytesAfter, outcomeFor, wordsFor, bytesFor, turnOutcome, turnWords, turnBytes}
+use Rattle.turn.specs.Turn.{moveOutcome, outcomeOf, applied, admits, bytesAfter, taking, turnOutcome, turnWords, turnBytes}
 use Rattle.turn.specs.laws.Told.{CommitTold}
 use Rattle.turn.specs.laws.Due.{due-is}
 use Rattle.turn.specs.laws.Choosing.{Chosen}
@@ -198,15 +198,15 @@ pub ruleset taking-cases = (admitted-readable, admitted-turns, turn-outcome, tur
 module _ (s out : List ℕ) (v : Admitted) (e : v ≡ admits s (length out)) where
   module _ (k : ℕ) (t : v ≡ admitted.Refused k) where
     pub refused-answer : outcome.Refused k ≡ turnOutcome s (length out)
-    unfolding turnOutcome outcomeFor
+    unfolding taking turnOutcome
     refused-answer = rw (← e, t)
 
     pub refused-words : s ≡ turnWords s (length out)
-    unfolding turnWords wordsFor
+    unfolding taking turnWords
     refused-words = rw (← e, t)
 
     pub refused-bytes : out ≡ turnBytes s out
-    unfolding turnBytes bytesFor
+    unfolding taking turnBytes
     refused-bytes = rw (← e, t)
 
   module _ (x : Session) (t : v ≡ admitted.Open x) where
@@ -214,15 +214,15 @@ module _ (s out : List ℕ) (v : Admitted) (e : v ≡ admits s (length out)) whe
     open-admits = admitting s (length out) x (sym e ∙ t)
 
     pub open-answer : (o : Outcome) → o ≡ outcomeOf (x .own) s (due (x .settings) s) → o ≡ turnOutcome s (length out)
-    unfolding turnOutcome outcomeFor
+    unfolding taking turnOutcome
     open-answer o f = rw (← e, t) f
 
     pub open-words : (r : List ℕ) → r ≡ applied s (due (x .settings) s) → r ≡ turnWords s (length out)
-    unfolding turnWords wordsFor
+    unfolding taking turnWords
     open-words r f = rw (← e, t) f
 
     pub open-bytes : (r : List ℕ) → r ≡ bytesAfter x s (outcomeOf (x .own) s (due (x .settings) s)) out → r ≡ turnBytes s out
-    unfolding turnBytes bytesFor
+    unfolding taking turnBytes
     open-bytes r f = rw (← e, t) f
 
 pub ruleset turn-cases = (refused-answer, refused-words, refused-bytes, open-admits, open-answer, open-words, open-bytes)

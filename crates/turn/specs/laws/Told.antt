@@ -21,17 +21,17 @@ use Rattle.commits.specs.Commits.{commitHeld, setHolders}
 use Rattle.turn.specs.Due.{commitDue}
 use Rattle.exits.specs.Exits.{exitNow}
 
--- sender p holds a set that k of the senders 1 to n hold
-pub record SetHeld (w : ℕ) (s : List ℕ) (n k p : ℕ) : Type 0 where
+-- sender p holds a set that senders of weight k hold
+pub record SetHeld (g : Settings) (s : List ℕ) (k p : ℕ) : Type 0 where
   pub low : 1 ≤ p
-  pub high : p ≤ n
+  pub high : p ≤ g .n
   pub held : commitHeld s p ≡ true
-  pub enough : k ≤ setHolders w s n p
+  pub enough : k ≤ setHolders g s p
 
 -- what a COMMIT's set rests on: an exit that names it, or ts + 1 senders that hold it
 pub data Rests (g : Settings) (s : List ℕ) : Type 0 where
   on-exit : exitNow g s .number ≢ 0 → commitDue g s ≡ exitNow g s .names → Rests g s
-  on-copies : (p : ℕ) → SetHeld (g .weights) s (g .n) (repeat g) p → commitDue g s ≡ commitSet s p → Rests g s
+  on-copies : (p : ℕ) → SetHeld g s (repeat g) p → commitDue g s ≡ commitSet s p → Rests g s
 
 pub record CommitTold (g : Settings) (s : List ℕ) (k : ℕ) : Type 0 where
   pub unsent : commitSent s ≡ false
@@ -42,7 +42,7 @@ pub record CommitTold (g : Settings) (s : List ℕ) (k : ℕ) : Type 0 where
 
 pub record InForceTold (g : Settings) (s : List ℕ) : Type 0 where
   pub sender : ℕ
-  pub holds : SetHeld (g .weights) s (g .n) (quorum g) sender
+  pub holds : SetHeld g s (quorum g) sender
 
 pub record SendTold (s : List ℕ) (v : ℕ) : Type 0 where
   pub unsent : sendSent s ≡ false

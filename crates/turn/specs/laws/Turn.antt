@@ -5,7 +5,7 @@ use mathlib.Core.Path.{_≡_, refl}
 use lib.ListN.{length}
 use Rattle.session.specs.declared.Session.{Session}
 use Rattle.turn.specs.Due.{due}
-use Rattle.turn.specs.Turn.{outcomeOf, applied, admits, bytesAfter, outcomeFor, wordsFor, bytesFor, turnOutcome, turnWords, turnBytes}
+use Rattle.turn.specs.Turn.{outcomeOf, applied, admits, bytesAfter, taking, turnOutcome, turnWords, turnBytes}
 use Rattle.turn.specs.laws.Told.{ActTold}
 use Rattle.turn.specs.laws.Due.{due-told}
 use Rattle.turn.specs.laws.Admitting.{Admitting, admitting, admitted-ruled}
@@ -21,7 +21,7 @@ pub record Taken (s out : List ℕ) (x : Session) : Type 0 where
   pub words : turnWords s (length out) ≡ applied s (due (x .settings) s)
   pub bytes : turnBytes s out ≡ bytesAfter x s (outcomeOf (x .own) s (due (x .settings) s)) out
 
--- "A refusal yields its number and nothing else; state and buffers are untouched."
+-- a refusal changes no word and no lent byte (PROTOCOL 9.3)
 pub record Refused (s out : List ℕ) (k : ℕ) : Type 0 where
   pub answer : turnOutcome s (length out) ≡ outcome.Refused k
   pub words : turnWords s (length out) ≡ s
@@ -33,7 +33,7 @@ pub data Way (s out : List ℕ) : Type 0 where
   taken : (x : Session) → Taken s out x → Way s out
 
 pub way : (s out : List ℕ) → Way s out
-unfolding turnOutcome outcomeFor turnWords wordsFor turnBytes bytesFor
+unfolding taking turnOutcome turnWords turnBytes
 way s out = go (admits s (length out)) refl
   where
     go : (v : Admitted) → admits s (length out) ≡ v → Way s out

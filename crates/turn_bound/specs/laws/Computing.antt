@@ -26,9 +26,9 @@ use Rattle.opening.specs.Given.{item, coinZero, coinsGiven, weightGiven, weight
 use Rattle.delivery.specs.Delivery.{placeHeld, judged, verdict, recorded, answerOf, wordsAfter, deliverAnswer, delivered}
 use Rattle.recording.specs.Recording.{bitMark, otherMark, inLayout, unopposed, recordable, recordAnswer, withBit, recordedWords}
 use Rattle.turn.specs.Due.{inForceRule, orSet, commitDue, commitOf, commitRule, sendRule, votesRule, due}
-use Rattle.turn.specs.Turn.{moveOutcome, outcomeOf, entered, newDecision, moveDecided, moved, applied, admits, bytesAfter, outcomeFor, wordsFor, bytesFor, turnOutcome, turnWords, turnBytes}
+use Rattle.turn.specs.Turn.{moveOutcome, outcomeOf, entered, newDecision, moveDecided, moved, applied, admits, bytesAfter, taking, turnOutcome, turnWords, turnBytes}
 use Rattle.turn.specs.Turn as turn
-use Rattle.report.specs.Report.{inForceSet, figuresOf, answerFor, namedFor, inForceFor, reportAnswer, reportNamed, reportInForce}
+use Rattle.report.specs.Report.{inForceSet, figuresOf, giving, reportAnswer, reportNamed, reportInForce}
 use Rattle.report.specs.Report as report
 
 -- thresholds, marks and weights
@@ -63,12 +63,12 @@ openings = tt
 
 -- turns
 unfoldable turns : Unit {0}
-unfolding inForceRule orSet commitDue commitOf commitRule sendRule votesRule due moveOutcome outcomeOf entered newDecision moveDecided moved turn.withTurnCounted turn.done applied admits bytesAfter outcomeFor wordsFor bytesFor turnOutcome turnWords turnBytes
+unfolding inForceRule orSet commitDue commitOf commitRule sendRule votesRule due moveOutcome outcomeOf entered newDecision moveDecided moved turn.withTurnCounted turn.done applied admits bytesAfter taking turnOutcome turnWords turnBytes
 turns = tt
 
 -- reports
 unfoldable reports : Unit {0}
-unfolding inForceSet figuresOf report.admits answerFor namedFor inForceFor reportAnswer reportNamed reportInForce
+unfolding inForceSet figuresOf report.admits giving reportAnswer reportNamed reportInForce
 reports = tt
 
 unfoldable pub calls : Unit {0}

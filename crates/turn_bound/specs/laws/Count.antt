@@ -1,4 +1,4 @@
--- The theorem of specs/TurnBound.antt, by induction on the calls.
+-- A session that goes on: after any steps its words are sound, and the count is that of the turns that acted.
 use Prim.Native.Nat.{ℕ, _+_}
 use mathlib.Core.Bool.{Bool, true, false, cond}
 use mathlib.Core.List.{List, [], _∷_}
@@ -18,8 +18,8 @@ use Rattle.turn.specs.Turn.{turnOutcome}
 use Rattle.journal.specs.Journal.{acts}
 use Rattle.report.specs.Report.{figuresOf}
 use Rattle.report.specs.laws.Report.{report-gives}
-use Rattle.turn_bound.specs.TurnBound.{Step, opening, delivery, turn, report, recording, after, current, Reports}
-use Rattle.turn_bound.specs.laws.TurnBound.{acting, Counted, TurnCount}
+use Rattle.turn_bound.specs.TurnBound.{Reports, Counted}
+use Rattle.turn_bound.specs.laws.Steps.{Step, opening, delivery, turn, report, recording, after, current, acting}
 use Rattle.turn_bound.specs.laws.Sound.{Sound, sound-bound, sound-state}
 use Rattle.turn_bound.specs.laws.Delivering.{delivery-sound}
 use Rattle.turn_bound.specs.laws.Recorded.{recording-sound}
@@ -77,17 +77,12 @@ module _ (g : Settings) (s : List ℕ) (start : Going g s 0) where
       let y = recording-sound (current g s cs) (x .ruled) (after s cs) (x .sound) i r b in
       record { ruled = x .ruled; sound = y .sound; count = y .count ∙ x .count }
 
-  counted : (cs : List Step) → Counted (current g s cs) s cs
-  counted cs =
-      let x = going cs in
-      let is = sound-state (current g s cs) (x .ruled) (after s cs) (x .sound) in
-      record {
-        stored = x .count;
-        reported = told (after s cs) (acting s cs) is (x .count);
-        bounded = omega (arith, x .count, sound-bound (current g s cs) (x .ruled) (after s cs) (x .sound));
-        state = is;
-      }
-
-pub turn-count : TurnCount
-unfolding TurnCount
-turn-count s o e = counted (settingsBy o) (opened s o) (opening-going s o e)
+pub going-counted : (g : Settings) (w : List ℕ) (k : ℕ) → Going g w k → Counted w (record { settings = g; turns = k })
+going-counted g w k x =
+    let is = sound-state g (x .ruled) w (x .sound) in
+    record {
+      stored = x .count;
+      reported = told w k is (x .count);
+      bounded = omega (arith, x .count, sound-bound g (x .ruled) w (x .sound));
+      state = is;
+    }

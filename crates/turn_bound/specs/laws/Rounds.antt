@@ -18,7 +18,7 @@ pub record Still (s t : List ℕ) : Type 0 where
   pub rounds : (j : ℕ) → 1 ≤ j → j ≤ 16 → word t (roundAt j) ≡ word s (roundAt j)
   pub ests : (j : ℕ) → 1 ≤ j → j ≤ 16 → word t (estSentAt j) ≡ word s (estSentAt j)
 
--- EST b of vote i is marked as sent in round r, "any round up to the current one"
+-- EST b of vote i is marked as sent in round r, one of the rounds from 1 to the vote's own (PROTOCOL 5.4)
 pub record Relayed (i r b : ℕ) (s t : List ℕ) : Type 0 where
   pub low : 1 ≤ r
   pub high : r ≤ 32

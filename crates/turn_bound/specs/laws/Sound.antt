@@ -31,7 +31,7 @@ module _ (g : Settings) (ruled : Ruled g) (s : List ℕ) (h : Sound g s) where
   unfolding settingsOf
   same-n = ap (λ (x : Settings). x .n) (h .settings)
 
-  -- "a session takes at most 99·n+3 turns"
+  -- the turn bound (PROTOCOL 8.20)
   pub sound-bound : word s turnsAt ≤ turnBound g
   sound-bound = omega (arith, h .turns, potential-few (g .n) s, turn-bound-sum g)
 

@@ -23,11 +23,10 @@ use Rattle.journal.specs.Lines.{recordingForms}
 use Rattle.journal.specs.Journal.{acts}
 use Rattle.restore.specs.Reading.{proper, allProper, fieldAt, formsFor, argumentsFrom, hexRight, bytesOf}
 use Rattle.restore.specs.Restoring.{Point, openedFrom, openingFrom, openingRead, firstOf, firstLine, deliveredFrom, turnedFrom, recordedBy, recordedFrom, nextOf, nextLine, wrong, right, appliedOr, further, replayFrom, replay}
-use Rattle.turn_bound.specs.TurnBound.{Step, after, current}
-use Rattle.turn_bound.specs.laws.TurnBound.{acting}
-use Rattle.turn_bound.specs.TurnBound as step
-use Rattle.turn_bound.specs.Calls.{delivery, turn, isTurn, turnLines, pointSettings, lineSettings}
-use Rattle.turn_bound.specs.laws.Count.{going, opening-going}
+use Rattle.turn_bound.specs.TurnBound.{isTurn, turnLines}
+use Rattle.turn_bound.specs.laws.Steps.{Step, after, current, acting}
+use Rattle.turn_bound.specs.laws.Count.{Going, going, opening-going}
+use Rattle.turn_bound.specs.laws.Steps as step
 
 -- w, k and g are the words, the count and the settings after an accepted opening and some steps
 pub record Stepped (w : List ℕ) (k : ℕ) (g : Settings) : Type 0 where
@@ -83,11 +82,15 @@ module _ (w : List ℕ) (k : ℕ) (g : Settings) (x : Stepped w k g) where
         settings = x .settings;
       }
 
+  -- the session goes on
+  pub stepped-going : Going g w k
+  stepped-going =
+      rw (x .words, x .count, x .settings) at
+      (going (settingsBy (x .arguments)) (opened (x .first) (x .arguments)) (opening-going (x .first) (x .arguments) (x .opens)) (x .steps))
+
   -- the settings are those in the words
-  pub stepped-settings : settingsOf w ≡ g
-  stepped-settings =
-      let y = going (settingsBy (x .arguments)) (opened (x .first) (x .arguments)) (opening-going (x .first) (x .arguments) (x .opens)) (x .steps) in
-      ap settingsOf (sym (x .words)) ∙ y .sound .settings ∙ x .settings
+  stepped-settings : settingsOf w ≡ g
+  stepped-settings = stepped-going .sound .settings
 
 -- ---- lines
 
@@ -215,11 +218,13 @@ further-stepped j y k g h (b ∷ bs) x e = of (nextLine (y .words) b) refl e (λ
     of (some z) f e again = rw more (again z (next-stepped (y .words) k g h b z f) e)
 
 -- the complete lines of a journal
-pub replay-stepped : (ls : List (List ℕ)) (x : Point) → replay ls ≡ right x → Stepped (x .words) (turnLines ls) (lineSettings ls)
-unfolding replay appliedOr turnLines lineSettings
+pub replay-stepped : (ls : List (List ℕ)) (x : Point) → replay ls ≡ right x → Stepped (x .words) (turnLines ls) (settingsOf (x .words))
+unfolding replay appliedOr turnLines
 replay-stepped [] x e = absurd (let z : _≡_ {A = ℕ} 0 1 = cc in omega arith)
 replay-stepped (b ∷ bs) x e = of (firstLine b) refl e
   where
-    of : (z : Option Point) → firstLine b ≡ z → replayFrom 2 (appliedOr 1 z) bs ≡ right x → Stepped (x .words) (cond (isTurn b) 1 0 + turnLines bs) (pointSettings (firstLine b))
+    of : (z : Option Point) → firstLine b ≡ z → replayFrom 2 (appliedOr 1 z) bs ≡ right x → Stepped (x .words) (cond (isTurn b) 1 0 + turnLines bs) (settingsOf (x .words))
     of none f e = absurd (let q : wrong 1 ≡ right x = sym (wrong-stays 2 1 bs) ∙ e in let z : _≡_ {A = ℕ} 0 1 = cc in omega arith)
-    of (some z) f e = rw (f, first-no-turn b z f) (further-stepped 2 z 0 (settingsOf (z .words)) (first-stepped b z f) bs x e)
+    of (some z) f e =
+        let y = further-stepped 2 z 0 (settingsOf (z .words)) (first-stepped b z f) bs x e in
+        rw (first-no-turn b z f, stepped-settings (x .words) (0 + turnLines bs) (settingsOf (z .words)) y) y

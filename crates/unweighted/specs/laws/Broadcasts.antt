@@ -19,15 +19,15 @@ use Rattle.unweighted.specs.Broadcasts.{holders, leads, leading, output,
 use Rattle.unweighted.specs.laws.Counts.{Ones, plain, counts, quorum-same, repeat-same}
 
 module _ (g : weighted-settings.Settings) (one : Ones g) where
-  holders-same : (held : ℕ → Bool) (value : ℕ → ℕ) (v : ℕ) → weighted-leading.holders (g .weights) held value v (g .n) ≡ holders held value v (g .n)
+  holders-same : (held : ℕ → Bool) (value : ℕ → ℕ) (v : ℕ) → weighted-leading.holders g held value v ≡ holders held value v (g .n)
   unfolding weighted-leading.holders holders
   holders-same held value v = counts g one (λ p. held p && eqb (value p) v)
 
-  leads-same : (held : ℕ → Bool) (value : ℕ → ℕ) (q p : ℕ) → weighted-leading.leads (g .weights) held value (g .n) q p ≡ leads held value (g .n) q p
+  leads-same : (held : ℕ → Bool) (value : ℕ → ℕ) (q p : ℕ) → weighted-leading.leads g held value q p ≡ leads held value (g .n) q p
   unfolding weighted-leading.leads leads
   leads-same held value q p = ap (λ (c : ℕ). held p && leb q c) (holders-same held value (value p))
 
-  pub leading-same : (held : ℕ → Bool) (value : ℕ → ℕ) (q k : ℕ) → q ≡ k → weighted-leading.leading (g .weights) held value (g .n) q ≡ leading held value (g .n) k
+  pub leading-same : (held : ℕ → Bool) (value : ℕ → ℕ) (q k : ℕ) → q ≡ k → weighted-leading.leading g held value q ≡ leading held value (g .n) k
   unfolding weighted-leading.leading leading
   leading-same held value q k e =
       ap (valueOf value) (lowest-agree _ _ (g .n) (λ p lo hi. leads-same held value q p ∙ ap (λ (m : ℕ). leads held value (g .n) m p) e))

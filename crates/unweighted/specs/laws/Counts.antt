@@ -47,7 +47,7 @@ abbrev pub plain : weighted-settings.Settings → Settings
 plain g = record { n = g .n; ta = g .ta; ts = g .ts }
 
 module _ (g : weighted-settings.Settings) (one : Ones g) where
-  pub counts : (M : ℕ → Bool) → weigh (g .weights) M (g .n) ≡ count M (g .n)
+  pub counts : (M : ℕ → Bool) → weighted.weighed g M ≡ count M (g .n)
   counts M = weigh-count (g .weights) (g .n) (one .each) M
 
   pub quorum-same : weighted.quorum g ≡ quorum (plain g)

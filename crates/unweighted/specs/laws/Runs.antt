@@ -1,12 +1,14 @@
--- A run with weights of 1 and an unweighted run of the same calls: their words are the same but for that of the weights.
+-- A call with weights of 1 and the same unweighted call: from words that are the same but for that of the weights to such words.
 use Prim.Native.Nat.{ℕ, _-_, _^_, _≤_}
-use mathlib.Core.List.{List, [], _∷_}
+use mathlib.Core.Bool.{Bool, true, false, cond}
+use mathlib.Core.List.{List}
 use mathlib.Core.Path.{_≡_, refl, sym, ap, _∙_}
 use native.Mathlib.Omega.{arith}
 use native.Mathlib.Decide.{ℕ-discrete}
+use lib.Dec.{ltb}
 use lib.ListN.{length}
 use lib.Seq.{set-set, set-getD}
-use borrow.Author.Tests.{eq-eqb}
+use borrow.Author.Tests.{eqb-true, eq-eqb}
 use Rattle.records.specs.Layout.{stateWords, nAt, taAt, tsAt, ownAt, sessionAt, inputAt, weightsAt, boxedAt, coinAt}
 use Rattle.records.specs.Words.{word, put}
 use Rattle.records.specs.laws.Words.{length-put, word-put-other}
@@ -15,14 +17,20 @@ use Rattle.opening.specs.Given.{item}
 use Rattle.opening.specs.Arguments.{Arguments}
 use Rattle.opening.specs.Opening.{withCoins}
 use Rattle.opening.specs.Opening as weighted-opening
-use Rattle.turn_bound.specs.TurnBound.{Step, opening, delivery, turn, report, recording, after}
+use Rattle.delivery.specs.Delivery as weighted-delivery
+use Rattle.recording.specs.Recording as weighted-recording
+use Rattle.turn.specs.Turn as weighted-turn
+use Rattle.journal.specs.Journal.{LINE-BYTES, lineWords, openNumber, openedWords, deliveredWords, recordWords, turnRoom}
+use Rattle.journal.specs.laws.Journal.{line-taken, line-words}
+use Rattle.calls.specs.Machine.{Call, opening, delivery, turn, report, restore, recording, left}
+use Rattle.calls.specs.Engine.{OpeningGiven, engine}
 use Rattle.unweighted.specs.Settings.{namedTa}
 use Rattle.unweighted.specs.Opening.{openAnswer, withSettings, openWords, opened}
 use Rattle.unweighted.specs.Delivery.{deliverAnswer, delivered}
 use Rattle.unweighted.specs.Recording.{recordAnswer, recordedWords}
 use Rattle.unweighted.specs.Turn.{turnOutcome, turnWords, turnBytes}
 use Rattle.unweighted.specs.Report.{reportAnswer, reportNamed, reportInForce}
-use Rattle.unweighted.specs.Statement.{AllOne, GivenOnes, EachGivenOnes, unweightedAfter, SideBySide}
+use Rattle.unweighted.specs.Statement.{AllOne, GivenOnes, GivesOnes, unweightedLeft, SideBySide}
 use Rattle.unweighted.specs.laws.Opening.{answer-same, opens-same, accepted-few}
 use Rattle.unweighted.specs.laws.Delivery.{deliver-answer-same, delivered-same}
 use Rattle.unweighted.specs.laws.Recording.{record-answer-same, recorded-same}
@@ -96,30 +104,56 @@ module _ (o : Arguments) where
               ∙ same
               ∙ ap (λ (u : List ℕ). put u weightsAt 0) (sym (opens-same o ones s .refused ne))
 
--- ---- lists of calls
+-- ---- a call with its line
 
--- from words s of a run with weights of 1 and t of the unweighted one; all weights stay 1 in the one
-module _ (s t : List ℕ) (same : t ≡ put s weightsAt 0) (kept : (cs : List Step) → EachGivenOnes cs → AllOne (after s cs)) where
-  after-beside : (cs : List Step) → EachGivenOnes cs → unweightedAfter t cs ≡ put (after s cs) weightsAt 0
-  unfolding unweightedAfter after EachGivenOnes
-  after-beside [] hs = same
-  after-beside (opening o ∷ cs) hs = opened-beside o (hs .0) (after s cs) (unweightedAfter t cs) (after-beside cs (hs .1))
-  after-beside (delivery link b ∷ cs) hs =
-      ap (λ (u : List ℕ). delivered u link b) (after-beside cs hs)
-      ∙ delivered-apart (after s cs) 0 link b
-      ∙ ap (λ (u : List ℕ). put u weightsAt 0) (sym (delivered-same (after s cs) (kept cs hs) link b))
-  after-beside (turn out ∷ cs) hs =
-      ap (λ (u : List ℕ). turnWords u (length out)) (after-beside cs hs)
-      ∙ turn-words-apart (after s cs) 0 (length out)
-      ∙ ap (λ (u : List ℕ). put u weightsAt 0) (sym (turn-words-same (after s cs) (kept cs hs) (length out)))
-  after-beside (report ∷ cs) hs = after-beside cs hs
-  after-beside (recording i r b ∷ cs) hs =
-      ap (λ (u : List ℕ). recordedWords u i r b) (after-beside cs hs)
-      ∙ recorded-apart (after s cs) 0 i r b
-      ∙ ap (λ (u : List ℕ). put u weightsAt 0) (sym (recorded-same (after s cs) (kept cs hs) i r b))
+lined-beside : (room : ℕ) (w u w′ u′ : List ℕ) → u ≡ put w weightsAt 0 → u′ ≡ put w′ weightsAt 0 → lineWords room u u′ ≡ put (lineWords room w w′) weightsAt 0
+unfolding lineWords
+lined-beside room w u w′ u′ before after = of (ltb room LINE-BYTES)
+  where
+    of : (b : Bool) → cond b u u′ ≡ put (cond b w w′) weightsAt 0
+    of true = before
+    of false = after
+
+-- from words w in which all weights are 1, and the unweighted words u
+module _ (w u : List ℕ) (same : u ≡ put w weightsAt 0) (ones : AllOne w) where
+  delivered-beside : (link : ℕ) (b : List ℕ) → delivered u link b ≡ put (weighted-delivery.delivered w link b) weightsAt 0
+  delivered-beside link b =
+      ap (λ (v : List ℕ). delivered v link b) same
+      ∙ delivered-apart w 0 link b
+      ∙ ap (λ (v : List ℕ). put v weightsAt 0) (sym (delivered-same w ones link b))
+
+  turned-beside : (room : ℕ) → turnWords u room ≡ put (weighted-turn.turnWords w room) weightsAt 0
+  turned-beside room =
+      ap (λ (v : List ℕ). turnWords v room) same
+      ∙ turn-words-apart w 0 room
+      ∙ ap (λ (v : List ℕ). put v weightsAt 0) (sym (turn-words-same w ones room))
+
+  recorded-beside : (i r b : ℕ) → recordedWords u i r b ≡ put (weighted-recording.recordedWords w i r b) weightsAt 0
+  recorded-beside i r b =
+      ap (λ (v : List ℕ). recordedWords v i r b) same
+      ∙ recorded-apart w 0 i r b
+      ∙ ap (λ (v : List ℕ). put v weightsAt 0) (sym (recorded-same w ones i r b))
+
+  pub left-beside : (c : Call engine) → GivesOnes c → unweightedLeft c u ≡ put (left engine c w) weightsAt 0
+  unfolding openedWords deliveredWords recordWords
+  left-beside (opening p o) h = lined-beside (o .line) w u _ _ same (opened-beside (o .given) h w u same)
+  left-beside (delivery p m b) h = lined-beside (b .line) w u _ _ same (delivered-beside m (b .list))
+  left-beside (turn p l) h = turned-beside (turnRoom (length (l .message)) (l .line))
+  left-beside (report p r) h = same
+  left-beside (restore p v r) h = absurd h
+  left-beside (recording p x) h = lined-beside (x .line) w u _ _ same (recorded-beside (x .vote) (x .round) (x .bit))
+
+-- an accepted opening, from the same words
+pub first-beside : (s : List ℕ) (o : OpeningGiven) → engine .opens s o ≡ true → GivenOnes (o .given) → lineWords (o .line) s (opened s (o .given)) ≡ put (engine .opened s o) weightsAt 0
+unfolding openedWords openNumber
+first-beside s o e ones =
+    let t = line-taken (weighted-opening.openAnswer (length s) (o .given)) (o .line) (eqb-true _ 0 e) in
+    line-words (o .line) s (opened s (o .given)) (t .1)
+    ∙ accepted-beside (o .given) ones s s refl (sym (answer-alike (o .given) ones s) ∙ t .0)
+    ∙ ap (λ (v : List ℕ). put v weightsAt 0) (sym (line-words (o .line) s (weighted-opening.opened s (o .given)) (t .1)))
 
 -- words that are the same but for that of the weights
-beside : (w u : List ℕ) → u ≡ put w weightsAt 0 → AllOne w → SideBySide w u
+pub beside : (w u : List ℕ) → u ≡ put w weightsAt 0 → AllOne w → SideBySide w u
 beside w u same all =
     record {
       words = same;
@@ -133,11 +167,3 @@ beside w u same all =
       report-named = λ named b. report-named-same w all named b ∙ sym (ap (λ (v : List ℕ). reportNamed v named b) same ∙ report-named-apart w 0 named b);
       report-in-force = λ a inForce. report-in-force-same w all a inForce ∙ sym (ap (λ (v : List ℕ). reportInForce v a inForce) same ∙ report-in-force-apart w 0 a inForce);
     }
-
-pub runs : (s : List ℕ) (o : Arguments) → weighted-opening.openAnswer (length s) o ≡ 0 → GivenOnes o → (cs : List Step) → EachGivenOnes cs →
-    ((ds : List Step) → EachGivenOnes ds → AllOne (after (weighted-opening.opened s o) ds)) → SideBySide (after (weighted-opening.opened s o) cs) (unweightedAfter (opened s o) cs)
-runs s o e ones cs hs kept =
-    let first = accepted-beside o ones s s refl (sym (answer-alike o ones s) ∙ e) in
-    beside (after (weighted-opening.opened s o) cs) (unweightedAfter (opened s o) cs)
-    (after-beside (weighted-opening.opened s o) (opened s o) first kept cs hs)
-    (kept cs hs)

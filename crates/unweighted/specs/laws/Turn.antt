@@ -12,10 +12,11 @@ use Rattle.records.specs.Records.{closed}
 use Rattle.acts.specs.declared.Act.{Act}
 use Rattle.session.specs.Session.{sessionWith, sessionOf}
 use Rattle.session.specs.Session as weighted-session
+use Rattle.session.specs.declared.Session.{Session}
 use Rattle.wire.specs.Message.{encode, atFront}
+use Rattle.turn.specs.Due.{due}
 use Rattle.turn.specs.Turn.{outcomeOf, applied}
 use Rattle.turn.specs.Turn as weighted
-use Rattle.turn.specs.declared.Admitted.{Admitted}
 use Rattle.turn.specs.declared.Admitted.the-variants.{Refused, Open}
 use Rattle.turn.specs.declared.Outcome.{Outcome}
 use Rattle.turn.specs.declared.Outcome.the-variants as outcome
@@ -25,27 +26,28 @@ use Rattle.unweighted.specs.Statement.{AllOne}
 use Rattle.unweighted.specs.laws.Session.{state-same, stored-commit, stored-due}
 
 module _ (s : List ℕ) (all : AllOne s) where
-  -- what F makes of an admission: of the refusals in their order, or of the session
-  module _ {A : Type 0} (F : Admitted → A) (room : ℕ) where
+  -- what the refusals give in their order, or the session
+  module _ {A : Type 0} (refused : ℕ → A) (done : Session → A) (room : ℕ) where
     abbrev made : Bool → Bool → Bool → A
-    made t c l = cond (not t) (F (Refused NO-STATE)) (cond c (F (Refused CLOSED)) (cond l (F (Refused SHORT)) (F (Open (sessionOf s)))))
+    made t c l = cond (not t) (refused NO-STATE) (cond c (refused CLOSED) (cond l (refused SHORT) (done (sessionOf s))))
 
-    by-tests : (t c l : Bool) → F (cond (not t) (Refused NO-STATE) (cond c (Refused CLOSED) (cond l (Refused SHORT) (Open (sessionOf s))))) ≡ made t c l
+    by-tests : (t c l : Bool) → weighted.taking (cond (not t) (Refused NO-STATE) (cond c (Refused CLOSED) (cond l (Refused SHORT) (Open (sessionOf s))))) refused done ≡ made t c l
+    unfolding weighted.taking
     by-tests false c l = refl
     by-tests true true l = refl
     by-tests true false true = refl
     by-tests true false false = refl
 
-    taken : F (weighted.admits s room) ≡ taking s room (λ k. F (Refused k)) (F (Open (sessionOf s)))
+    taken : weighted.taking (weighted.admits s room) refused done ≡ taking s room refused (done (sessionOf s))
     unfolding weighted.admits taking
     taken = by-tests (weighted-session.isState s) (closed s) (ltb room 140) ∙ ap (λ (t : Bool). made t (closed s) (ltb room 140)) (state-same s all)
 
-  outcome-same : weighted.outcomeFor (Open (sessionOf s)) s ≡ outcomeIn s
-  unfolding weighted.outcomeFor sessionOf sessionWith outcomeIn dueIn
+  outcome-same : outcomeOf (sessionOf s .own) s (due (sessionOf s .settings) s) ≡ outcomeIn s
+  unfolding sessionOf sessionWith outcomeIn dueIn
   outcome-same = ap (λ (a : Act). outcomeOf (word s ownAt) s a) (stored-due s all)
 
-  words-same : weighted.wordsFor (Open (sessionOf s)) s ≡ applied s (dueIn s)
-  unfolding weighted.wordsFor sessionOf sessionWith dueIn
+  words-same : applied s (due (sessionOf s .settings) s) ≡ applied s (dueIn s)
+  unfolding sessionOf sessionWith dueIn
   words-same = ap (λ (a : Act). applied s a) (stored-due s all)
 
   after-same : (o : Outcome) (out : List ℕ) → weighted.bytesAfter (sessionOf s) s o out ≡ bytesAfter s o out
@@ -56,18 +58,17 @@ module _ (s : List ℕ) (all : AllOne s) where
   after-same outcome.MovedOut out = refl
   after-same outcome.InForce out = refl
 
-  bytes-same : (out : List ℕ) → weighted.bytesFor (Open (sessionOf s)) s out ≡ bytesAfter s (outcomeIn s) out
-  unfolding weighted.bytesFor weighted.outcomeFor
+  bytes-same : (out : List ℕ) → weighted.bytesAfter (sessionOf s) s (outcomeOf (sessionOf s .own) s (due (sessionOf s .settings) s)) out ≡ bytesAfter s (outcomeIn s) out
   bytes-same out = ap (λ (o : Outcome). weighted.bytesAfter (sessionOf s) s o out) outcome-same ∙ after-same (outcomeIn s) out
 
   pub turn-outcome-same : (room : ℕ) → weighted.turnOutcome s room ≡ turnOutcome s room
-  unfolding weighted.turnOutcome weighted.outcomeFor turnOutcome
-  turn-outcome-same room = taken (λ a. weighted.outcomeFor a s) room ∙ ap (taking s room (λ k. outcome.Refused k)) outcome-same
+  unfolding weighted.turnOutcome turnOutcome
+  turn-outcome-same room = taken outcome.Refused _ room ∙ ap (taking s room outcome.Refused) outcome-same
 
   pub turn-words-same : (room : ℕ) → weighted.turnWords s room ≡ turnWords s room
-  unfolding weighted.turnWords weighted.wordsFor turnWords
-  turn-words-same room = taken (λ a. weighted.wordsFor a s) room ∙ ap (taking s room (λ k. s)) words-same
+  unfolding weighted.turnWords turnWords
+  turn-words-same room = taken (λ k. s) _ room ∙ ap (taking s room (λ k. s)) words-same
 
   pub turn-bytes-same : (out : List ℕ) → weighted.turnBytes s out ≡ turnBytes s out
-  unfolding weighted.turnBytes weighted.bytesFor turnBytes
-  turn-bytes-same out = taken (λ a. weighted.bytesFor a s out) (length out) ∙ ap (taking s (length out) (λ k. out)) (bytes-same out)
+  unfolding weighted.turnBytes turnBytes
+  turn-bytes-same out = taken (λ k. out) _ (length out) ∙ ap (taking s (length out) (λ k. out)) (bytes-same out)

@@ -1,4 +1,4 @@
--- `move_value` asks for n − ta AUXs with accepted values.
+-- `move_value` asks for AUXs of weight W − ta with accepted values.
 use Rattle.votes.specs.laws.Cases.{moves}
 use borrow.Author.Needs.{needs}
 use Rattle.votes.proofs.move_value.Statement.{statement}

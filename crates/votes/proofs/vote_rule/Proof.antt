@@ -9,10 +9,10 @@ use Rattle.votes.proofs.vote_rule.Statement.{statement}
 use Rattle.votes.proofs.vote_rule.Tie as tie
 
 abbrev Inv-loop : tie.InvT-loop
-Inv-loop s g held ones n i₀ i = Quiet (λ k. voteAct g s (mark held k) (votesDecidedOne g s) k) n i
+Inv-loop s g outputs ones n i₀ i = Quiet (λ k. voteAct g s (mark outputs k) (votesDecidedOne g s) k) n i
 
 abbrev μ-loop : tie.MeasureT-loop
-μ-loop s g held ones n i₀ i = n - i
+μ-loop s g outputs ones n i₀ i = n - i
 
 votes-decided-one-requires : tie.Need-votes-decided-one-requires Inv-loop μ-loop
 votes-decided-one-requires c κs = search needs

@@ -7,13 +7,13 @@ use native.Mathlib.Omega.{arith}
 use lib.Bits.{bitOr}
 use lib.Dec.{eqb}
 use borrow.Author.Tests.{le-leb, lt-leb, eq-eqb, ne-eqb}
-use Rattle.settings.specs.Settings.{voteQuorum, relay, roundLimit}
+use Rattle.settings.specs.Settings.{weighed, voteQuorum, relay, roundLimit}
 use Rattle.settings.specs.declared.Settings.{Settings}
 use Rattle.quorum.specs.Marks.{mark}
 use Rattle.quorum.specs.laws.Marks.{mark-zero}
 use Rattle.quorum.specs.laws.MarkMasks.{mark-or, mark-shifted}
 use Rattle.quorum.specs.Total.{share}
-use Rattle.quorum.specs.Weights.{weightOf, weigh}
+use Rattle.quorum.specs.Weights.{weightOf}
 use Rattle.quorum.specs.laws.Total.{total-agree}
 use Rattle.records.specs.Layout.{auxGroup}
 use Rattle.records.specs.Words.{marked}
@@ -28,7 +28,7 @@ use Rattle.votes.specs.Votes.{estCount, votesDecidedOne, startAct, relay
 use Rattle.votes.specs.Votes.{moveAct, roundAct, voteAct, coinValue, decides}
 use Rattle.votes.specs.laws.Given.{carriesGiven, carriersGiven, viewGiven, moveGiven, move-given}
 
-pub ones-counted : (g : Settings) (s : List ℕ) (w c : ℕ) → w ≡ decidedOneMarks s → c ≡ weigh (g .weights) (λ p. mark w (0 + p)) (g .n) → c ≡ votesDecidedOne g s
+pub ones-counted : (g : Settings) (s : List ℕ) (w c : ℕ) → w ≡ decidedOneMarks s → c ≡ weighed g (λ p. mark w (0 + p)) → c ≡ votesDecidedOne g s
 unfolding votesDecidedOne decidedOne marked
 ones-counted g s w c e h =
     h ∙ total-agree (weightOf (g .weights)) (λ p. mark w (0 + p)) (decidedOne s) (g .n) (λ p a b. let z : 0 + p ≡ p = omega arith in rw (e, z))
@@ -130,7 +130,7 @@ group-mark : (a : Bool) (w base p : ℕ) → 1 ≤ p → mark (share a (w / 2 ^ 
 group-mark true w base p lo = mark-shifted w base p lo
 group-mark false w base p lo = mark-zero p
 
-pub carriers-weighed : (g : Settings) (s : List ℕ) (i r : ℕ) (a0 a1 : Bool) (w z o x y c : ℕ) → w ≡ voteMarks s i r → z ≡ w / 2 ^ auxGroup 0 → o ≡ w / 2 ^ auxGroup 1 → x ≡ share a0 z → y ≡ share a1 o → c ≡ weigh (g .weights) (λ p. mark (bitOr x y) (0 + p)) (g .n) → c ≡ carriersGiven g s i r a0 a1
+pub carriers-weighed : (g : Settings) (s : List ℕ) (i r : ℕ) (a0 a1 : Bool) (w z o x y c : ℕ) → w ≡ voteMarks s i r → z ≡ w / 2 ^ auxGroup 0 → o ≡ w / 2 ^ auxGroup 1 → x ≡ share a0 z → y ≡ share a1 o → c ≡ weighed g (λ p. mark (bitOr x y) (0 + p)) → c ≡ carriersGiven g s i r a0 a1
 unfolding carriersGiven carriesGiven auxHeld marked
 carriers-weighed g s i r a0 a1 w z o x y c e ez eo ex ey h =
     h ∙ total-agree (weightOf (g .weights)) (λ p. mark (bitOr x y) (0 + p)) (carriesGiven s i r a0 a1) (g .n) (λ p lo hi. at p lo)
@@ -165,9 +165,9 @@ module _ (g : Settings) (s : List ℕ) (i : ℕ) (t : Bool) (e : t ≡ running s
 
 pub ruleset rounds = (in-round, no-round, due-first, due-second)
 
--- vote i with the output that `held` tells
-pub vote-numbered : (g : Settings) (s : List ℕ) (held ones i : ℕ) (t : Bool) (x : Act) → ones ≡ votesDecidedOne g s → t ≡ mark held i → x ≡ voteAct g s t ones i → x ≡ voteAct g s (mark held i) (votesDecidedOne g s) i
-vote-numbered g s held ones i t x o e h = rw (← o, ← e) h
+-- vote i, where its mark in `outputs` tells whether broadcast i has output
+pub vote-numbered : (g : Settings) (s : List ℕ) (outputs ones i : ℕ) (t : Bool) (x : Act) → ones ≡ votesDecidedOne g s → t ≡ mark outputs i → x ≡ voteAct g s t ones i → x ≡ voteAct g s (mark outputs i) (votesDecidedOne g s) i
+vote-numbered g s outputs ones i t x o e h = rw (← o, ← e) h
 
 pub decides-only : (coin : Bool) (v : View) (b k : ℕ) → v ≡ Only b → k ≡ coinValue coin → eqb b k ≡ decides coin v
 decides-only coin v b k e f = rw (e, f)

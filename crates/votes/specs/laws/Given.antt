@@ -4,9 +4,8 @@ use mathlib.Core.Bool.{Bool, _&&_, _||_, cond}
 use mathlib.Core.List.{List}
 use mathlib.Core.Path.{_≡_, refl}
 use lib.Dec.{leb, ltb}
-use Rattle.settings.specs.Settings.{voteQuorum}
+use Rattle.settings.specs.Settings.{weighed, voteQuorum}
 use Rattle.settings.specs.declared.Settings.{Settings}
-use Rattle.quorum.specs.Weights.{weigh}
 use Rattle.records.specs.Records.{auxHeld}
 use Rattle.acts.specs.declared.Act.{Act}
 use Rattle.acts.specs.declared.Act.the-variants.{Idle, Move}
@@ -17,7 +16,7 @@ unfoldable pub carriesGiven : List ℕ → ℕ → ℕ → Bool → Bool → ℕ
 carriesGiven s i r a0 a1 p = (a0 && auxHeld s i r 0 p) || (a1 && auxHeld s i r 1 p)
 
 unfoldable pub carriersGiven : Settings → List ℕ → ℕ → ℕ → Bool → Bool → ℕ
-carriersGiven g s i r a0 a1 = weigh (g .weights) (carriesGiven s i r a0 a1) (g .n)
+carriersGiven g s i r a0 a1 = weighed g (carriesGiven s i r a0 a1)
 
 unfoldable pub viewGiven : Settings → List ℕ → ℕ → ℕ → Bool → Bool → View
 viewGiven g s i r a0 a1 = viewOf (a0 && ltb 0 (auxCount g s i r 0)) (a1 && ltb 0 (auxCount g s i r 1))

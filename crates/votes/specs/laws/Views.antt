@@ -1,4 +1,4 @@
--- What the view of a move shows: its values are accepted, and where it is one value, n − ta AUXs carry that.
+-- What the view of a move shows: its values are accepted, and where it is one value, AUXs of weight W − ta carry that.
 use Prim.Native.Nat.{ℕ, _≤_}
 use mathlib.Core.Bool.{Bool, true, false, _&&_, _||_, false≢true}
 use mathlib.Core.List.{List}
@@ -8,9 +8,9 @@ use native.Mathlib.Omega.{arith}
 use lib.Dec.{ltb}
 use borrow.Author.Tests.{lt-ltb, ltb-true}
 use Rattle.quorum.specs.laws.Bools.{and-left, and-right, and-both}
-use Rattle.settings.specs.Settings.{voteQuorum}
+use Rattle.settings.specs.Settings.{weighed, voteQuorum}
 use Rattle.settings.specs.declared.Settings.{Settings}
-use Rattle.quorum.specs.Weights.{weightOf, weigh}
+use Rattle.quorum.specs.Weights.{weightOf}
 use Rattle.quorum.specs.Whole.{weightsRight}
 use Rattle.quorum.specs.laws.Whole.{weight-low}
 use Rattle.quorum.specs.laws.Total.{Member, total-mono, total-member, member-total}
@@ -38,9 +38,9 @@ module _ (g : Settings) (s : List ℕ) (i r : ℕ) (right : weightsRight (g .wei
   shows : (b p : ℕ) → 1 ≤ p → p ≤ g .n → By g s i r b p → carried g s i r b ≡ true
   unfolding carried auxCount
   shows b p low high e =
-      let some : 1 ≤ weigh (g .weights) (auxHeld s i r b) (g .n) =
+      let some : 1 ≤ weighed g (auxHeld s i r b) =
       omega (arith, weight-low (g .weights) (g .n) right p low high, member-total (weightOf (g .weights)) (auxHeld s i r b) (g .n) p low high (and-right (accepted g s i r b) (auxHeld s i r b p) e)) in
-      and-both (accepted g s i r b) (ltb 0 (weigh (g .weights) (auxHeld s i r b) (g .n))) (and-left (accepted g s i r b) (auxHeld s i r b p) e) (lt-ltb 0 (weigh (g .weights) (auxHeld s i r b) (g .n)) (omega arith))
+      and-both (accepted g s i r b) (ltb 0 (weighed g (auxHeld s i r b))) (and-left (accepted g s i r b) (auxHeld s i r b p) e) (lt-ltb 0 (weighed g (auxHeld s i r b)) (omega arith))
 
   carried-accepted : (b : ℕ) → carried g s i r b ≡ true → accepted g s i r b ≡ true
   unfolding carried
@@ -56,7 +56,7 @@ module _ (g : Settings) (s : List ℕ) (i r : ℕ) (right : weightsRight (g .wei
     unfolding carriers auxCount
     only-shown b bit each =
         let by : (p : ℕ) → 1 ≤ p → p ≤ g .n → carries g s i r p ≡ true → By g s i r b p = λ p low high c. each p low high (carries-held g s i r p c) in
-        let most : weigh (g .weights) (carries g s i r) (g .n) ≤ weigh (g .weights) (auxHeld s i r b) (g .n) =
+        let most : weighed g (carries g s i r) ≤ weighed g (auxHeld s i r b) =
         total-mono (weightOf (g .weights)) (carries g s i r) (auxHeld s i r b) (g .n) (λ p low high c. and-right (accepted g s i r b) (auxHeld s i r b p) (by p low high c)) in
         let m : Member (g .n) (carries g s i r) = total-member (weightOf (g .weights)) (carries g s i r) (g .n) (omega arith) in
         record {

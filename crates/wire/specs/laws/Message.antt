@@ -14,8 +14,8 @@ unfoldable pub fitting : List ℕ → List ℕ → List ℕ
 fitting w out = cond (leb (length w) (length out)) w []
 
 -- what is written of a header and as many of xs as it counts: nothing where out is too short, or xs are fewer
-unfoldable pub counted : Header → List ℕ → List ℕ → List ℕ
-counted h xs out = cond (leb (h .count) (length xs)) (fitting (messageBytes h (take (h .count) xs)) out) []
+unfoldable pub countedValues : Header → List ℕ → List ℕ → List ℕ
+countedValues h xs out = cond (leb (h .count) (length xs)) (fitting (messageBytes h (take (h .count) xs)) out) []
 
 -- what is written of a message: nothing where out is too short, or xs are fewer than a COMMIT counts
 unfoldable pub written : Message → (sender session : ℕ) → List ℕ → List ℕ → List ℕ

@@ -1,4 +1,4 @@
-//! 01: "Apart from idle, a session takes at most 99·n+3 turns": sessions that take just so many.
+//! Sessions that take 99·n+3 turns, as many as there can be (PROTOCOL 8.20).
 
 use super::Answers;
 use crate::engine::{Coin, Engine};

@@ -130,7 +130,7 @@ fn byte(field: &Field) -> Result<u8, Bad> {
     field.decimal().and_then(|number| u8::try_from(number).ok()).ok_or(Bad)
 }
 
-/// "number, exit, closed as 0 or 1, turns, values in force".
+/// The line of an honest one (PROTOCOL 15.15).
 fn summary_line(p: Number, session: &Session) -> String {
     let report = session.reading();
     let closed = u8::from(session.is_closed());

@@ -110,7 +110,7 @@ pub fn recording_line(vote: u64, round: u64, bit: u64) -> Vec<u8> {
     format!("K\t{vote}\t{round}\t{bit}\n").into_bytes()
 }
 
-/// "decimals without leading zeros", below 2^64.
+/// A decimal without a leading zero, below 2^64 (PROTOCOL 11.3, 11.12).
 fn decimal(field: &[u8]) -> Option<u64> {
     let digits = field.iter().all(u8::is_ascii_digit);
     if !digits || (field.len() > 1 && field[0] == b'0') {

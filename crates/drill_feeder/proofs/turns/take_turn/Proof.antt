@@ -7,8 +7,8 @@ use Rattle.drill_feeder.proofs.turns.take_turn.Tie as tie
 turn-of-requires : tie.Need-turn-of-requires
 turn-of-requires c κs = search needs
 
-counted-requires : tie.Need-counted-requires
-counted-requires c κs = search needs
+message-counted-requires : tie.Need-message-counted-requires
+message-counted-requires c κs = search needs
 
 goes-on-requires : tie.Need-goes-on-requires
 goes-on-requires c κs = search needs
@@ -25,4 +25,4 @@ returns c = (search turn-left-cases, search turn-left-cases)
 pub take-turn-spec : {M : Type 1} → statement M
 take-turn-spec =
     tie.close
-    (tie.spec turn-of-requires counted-requires goes-on-requires same-length same-length-2 returns)
+    (tie.spec turn-of-requires message-counted-requires goes-on-requires same-length same-length-2 returns)

@@ -1,4 +1,4 @@
--- `quorum` is n − ts.
+-- `quorum` is W − ts.
 use borrow.Author.Needs.{needs}
 use Rattle.settings.specs.Settings.{quorum}
 use Rattle.settings.proofs.Settings.quorum.Statement.{statement}

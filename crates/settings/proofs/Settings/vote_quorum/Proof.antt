@@ -1,4 +1,4 @@
--- `vote_quorum` is n − ta.
+-- `vote_quorum` is W − ta.
 use borrow.Author.Needs.{needs}
 use Rattle.settings.specs.Settings.{voteQuorum}
 use Rattle.settings.proofs.Settings.vote_quorum.Statement.{statement}

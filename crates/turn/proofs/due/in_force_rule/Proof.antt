@@ -1,4 +1,4 @@
--- A set that n − ts senders hold, or none.
+-- A set that senders of weight W − ts hold, or none.
 use Rattle.turn.specs.laws.Choosing.{in-force-cases}
 use borrow.Author.Needs.{needs}
 use Rattle.turn.proofs.due.in_force_rule.Statement.{statement}

@@ -7,22 +7,22 @@ use lib.Seq.{length-take-le}
 use borrow.Author.Tests.{le-leb, lt-leb}
 use Rattle.wire.specs.declared.Header.{Header}
 use Rattle.wire.specs.Message.{messageBytes}
-use Rattle.wire.specs.laws.Message.{fitting, counted, Wrote}
+use Rattle.wire.specs.laws.Message.{fitting, countedValues, Wrote}
 use Rattle.wire.proofs.Laws.{wrote-nothing}
 use borrow.Author.Needs.{needs}
 use Rattle.wire.proofs.writing.write_counted.Statement.{statement}
 use Rattle.wire.proofs.writing.write_counted.Tie as tie
 
 module _ (h : Header) (xs o : List ℕ) where
-  fewer : length xs < h .count → Wrote (counted h xs o) o 0 o
-  unfolding counted
-  fewer l = wrote-nothing (counted h xs o) o (simp (lt-leb _ _ l))
+  fewer : length xs < h .count → Wrote (countedValues h xs o) o 0 o
+  unfolding countedValues
+  fewer l = wrote-nothing (countedValues h xs o) o (simp (lt-leb _ _ l))
 
   held : h .count ≤ length xs → h .count ≡ length (take (h .count) xs)
   held l = sym (length-take-le (h .count) xs l)
 
-  enough : (r : ℕ) (after : List ℕ) → h .count ≤ length xs → Wrote (fitting (messageBytes h (take (h .count) xs)) o) o r after → Wrote (counted h xs o) o r after
-  unfolding counted
+  enough : (r : ℕ) (after : List ℕ) → h .count ≤ length xs → Wrote (fitting (messageBytes h (take (h .count) xs)) o) o r after → Wrote (countedValues h xs o) o r after
+  unfolding countedValues
   enough r after l w = simp (le-leb _ _ l) w
 
 cast-count : tie.Need-cast-count

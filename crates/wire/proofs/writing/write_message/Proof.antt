@@ -9,7 +9,7 @@ use Rattle.wire.specs.declared.Message.{Message}
 use Rattle.wire.specs.declared.Message.the-variants.{Send, Echo, Ready, Est, Aux, Commit}
 use Rattle.wire.specs.declared.Header.{Header}
 use Rattle.wire.specs.Message.{besides, valuesOf, headerFor, messageBytes, encode}
-use Rattle.wire.specs.laws.Message.{fitting, counted, written, Wrote}
+use Rattle.wire.specs.laws.Message.{fitting, countedValues, written, Wrote}
 use borrow.Author.Needs.{needs}
 use Rattle.wire.proofs.writing.write_message.Statement.{statement}
 use Rattle.wire.proofs.writing.write_message.Tie as tie
@@ -34,10 +34,10 @@ module _ (m : Message) (s t a : ℕ) (xs o after : List ℕ) (h : Header) (q : h
   aux : (i r v : ℕ) → m ≡ Aux i r v → Wrote (fitting (messageBytes h (v ∷ [])) o) o a after → Wrote (written m s t xs o) o a after
   aux i r v e w = one v (ap (λ (n : Message). besides n) e) (ap (λ (n : Message). valuesOf n xs) e) w
 
-  commit : (k : ℕ) → m ≡ Commit k → Wrote (counted h xs o) o a after → Wrote (written m s t xs o) o a after
-  unfolding written encode counted headerFor
+  commit : (k : ℕ) → m ≡ Commit k → Wrote (countedValues h xs o) o a after → Wrote (written m s t xs o) o a after
+  unfolding written encode countedValues headerFor
   commit k e w =
-      let z : written m s t xs o ≡ counted h xs o = rw (q, e) in
+      let z : written m s t xs o ≡ countedValues h xs o = rw (q, e) in
       rw z w
 
 header-for-requires : tie.Need-header-for-requires

@@ -1,0 +1,4 @@
+pub mod Bits
+pub mod Checking
+pub mod Example
+pub mod laws

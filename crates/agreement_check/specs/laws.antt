@@ -1,0 +1,9 @@
+pub mod Lists
+pub mod Lengths
+pub mod Entries
+pub mod Journals
+pub mod Tracks
+pub mod Restores
+pub mod Tracking
+pub mod Example
+pub mod Refusals
