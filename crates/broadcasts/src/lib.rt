@@ -6,6 +6,7 @@ ghost use mathlib.Core.Path.{_≡_};
 ghost use Prim.Native.Nat.{_+_, _≤_};
 ghost use lib.Dec.{leb};
 ghost use Rattle.settings.specs.laws.Counting.{counting};
+ghost use Rattle.acts.specs.Acts.{firstAct};
 ghost use Rattle.records.specs.Records.{readyHeld, readyValue, echoHeld, echoValue};
 ghost use Rattle.records.specs.Words.{word, marked};
 ghost use Rattle.broadcasts.specs.laws.Leading.{heldCount};
@@ -13,6 +14,7 @@ ghost use Rattle.broadcasts.specs.Leading.{holders, leads, leading};
 ghost use Rattle.broadcasts.specs.Broadcasts.{output, echoAct, readyDue, readyAct, echoRule, readyRule};
 ghost use Rattle.broadcasts.specs.Outputs.{outputAt, Outputs};
 ghost use Rattle.broadcasts.specs.laws.Outputs.{Stored};
+ghost use Rattle.broadcasts.specs.laws.Rules.{actOf};
 
 // A value that enough senders hold, if there is one.
 pub enum Output {
@@ -81,7 +83,8 @@ fn leading_ready(s: &[u64], g: Settings, q: u64, i: u8) -> Output
     leading_of(s, marks, values, g.n, g.weights, q)
 }
 
-// The ECHOs of instance i: a value that senders of weight q hold, in the same way.
+// The ECHOs of instance i: a value that senders of weight q hold. As one function with `leading_ready`, over the two places, it would not be
+// compiled into its callers, which ask for nothing more than the weight most of the time (docs/PERFORMANCE.md).
 fn leading_echo(s: &[u64], g: Settings, q: u64, i: u8) -> Output
     ensures { λ r. ⌜ r ≡ leading g (echoHeld (now (s .entry)) i) (echoValue (now (s .entry)) i) q ⌝ }
 {
@@ -182,15 +185,25 @@ pub fn ready_act(s: &[u64], g: Settings, i: u8) -> Act
     }
 }
 
-// Rule 4: the ECHO that is due.
-pub fn echo_rule(s: &[u64], g: Settings) -> Act
-    ensures { λ r. ⌜ r ≡ echoRule g (now (s .entry)) ⌝ }
+// The READY of instance i where readies are asked for, and its ECHO where not, if it is due.
+fn act_of(s: &[u64], g: Settings, readies: bool, i: u8) -> Act
+    ensures { λ r. ⌜ r ≡ actOf g (now (s .entry)) readies i ⌝ }
+{
+    if readies {
+        return ready_act(s, g, i);
+    }
+    echo_act(s, i)
+}
+
+// The first that is due of the instances 1 to n.
+fn first_due(s: &[u64], g: Settings, readies: bool) -> Act
+    ensures { λ r. ⌜ r ≡ firstAct (actOf g (now (s .entry)) readies) (g .n) ⌝ }
 {
     let n = g.n;
     let mut i: u8 = 0;
     while i < n {
         i += 1;
-        let a = echo_act(s, i);
+        let a = act_of(s, g, readies, i);
         if acts::is_due(a) {
             return a;
         }
@@ -198,18 +211,16 @@ pub fn echo_rule(s: &[u64], g: Settings) -> Act
     Act::Idle
 }
 
+// Rule 4: the ECHO that is due.
+pub fn echo_rule(s: &[u64], g: Settings) -> Act
+    ensures { λ r. ⌜ r ≡ echoRule g (now (s .entry)) ⌝ }
+{
+    first_due(s, g, false)
+}
+
 // Rule 5: the READY that is due.
 pub fn ready_rule(s: &[u64], g: Settings) -> Act
     ensures { λ r. ⌜ r ≡ readyRule g (now (s .entry)) ⌝ }
 {
-    let n = g.n;
-    let mut i: u8 = 0;
-    while i < n {
-        i += 1;
-        let a = ready_act(s, g, i);
-        if acts::is_due(a) {
-            return a;
-        }
-    }
-    Act::Idle
+    first_due(s, g, true)
 }

@@ -1,54 +1,16 @@
--- Rule 4: the first ECHO due of the instances 1 to n.
-use Prim.Native.Nat.{_-_}
+-- The first of the instances 1 to n.
 use borrow.Author.Needs.{needs}
-use Rattle.acts.specs.laws.First.{Quiet, firsts}
-use Rattle.broadcasts.specs.Broadcasts.{echoAct, echoRule}
+use Rattle.broadcasts.specs.Broadcasts.{echoRule}
+use Rattle.broadcasts.specs.laws.Rules.{actOf}
 use Rattle.broadcasts.proofs.echo_rule.Statement.{statement}
 use Rattle.broadcasts.proofs.echo_rule.Tie as tie
 
-abbrev Inv-loop : tie.InvT-loop
-Inv-loop s n i₀ i = Quiet (echoAct s) n i
+first-due-requires : tie.Need-first-due-requires
+first-due-requires c κs = search needs
 
-abbrev μ-loop : tie.MeasureT-loop
-μ-loop s n i₀ i = n - i
-
-loop-holds : tie.Need-loop-holds Inv-loop μ-loop
-loop-holds c = search firsts
-
-add-i : tie.Need-add-i Inv-loop μ-loop
-add-i c = search needs
-
-echo-act-requires : tie.Need-echo-act-requires Inv-loop μ-loop
-echo-act-requires c κs = search needs
-
-is-due-requires : tie.Need-is-due-requires Inv-loop μ-loop
-is-due-requires c κs = search needs
-
-returns : tie.Need-returns Inv-loop μ-loop
-unfolding echoRule
-returns c = search firsts
-
-loop-less : tie.Need-loop-less Inv-loop μ-loop
-loop-less c = search needs
-
-loop-again : tie.Need-loop-again Inv-loop μ-loop
-loop-again c = search firsts
-
-returns-2 : tie.Need-returns-2 Inv-loop μ-loop
-unfolding echoRule
-returns-2 c = search firsts
+returns : tie.Need-returns
+unfolding echoRule actOf
+returns c = cc
 
 pub echo-rule-spec : {M : Type 1} → statement M
-echo-rule-spec =
-    tie.close
-    (tie.spec
-    Inv-loop
-    μ-loop
-    loop-holds
-    add-i
-    echo-act-requires
-    is-due-requires
-    returns
-    loop-less
-    loop-again
-    returns-2)
+echo-rule-spec = tie.close (tie.spec first-due-requires returns)
