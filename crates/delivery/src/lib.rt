@@ -69,7 +69,8 @@ pub fn judge(s: &[u64], link: u64, bytes: &[u8]) -> Verdict
     if s.len() != layout::STATE_WORDS {
         return Verdict::Refused(refusal::NO_STATE);
     }
-    let stored = session::state_of(s);
+    // Borrowed afresh: the slice itself would be copied in one piece, right after its two parts were stored (docs/PERFORMANCE.md).
+    let stored = session::state_of(&*s);
     match stored {
         Stored::NoState => Verdict::Refused(refusal::NO_STATE),
         Stored::Held(x) => verdict_in(s, x, link, bytes),
@@ -121,7 +122,8 @@ pub fn deliver(state: &mut [u64], link: u64, bytes: &[u8]) -> u64
     ensures answer { λ r. ⌜ r ≡ deliverAnswer (now (state .entry)) link (now (bytes .entry)) ⌝ }
     ensures words { λ _. ⌜ now (state .exit) ≡ delivered (now (state .entry)) link (now (bytes .entry)) ⌝ }
 {
-    let v = judge(state, link, bytes);
+    // Borrowed afresh, as in `judge`.
+    let v = judge(state, link, &*bytes);
     match v {
         Verdict::Refused(k) => k,
         Verdict::Accepted(m) => {
