@@ -1,19 +1,8 @@
 /* The calls as C makes them: refusals, null buffers, and what a call leaves alone. */
-#include <stdbool.h>
-#include <stdio.h>
 #include <string.h>
 
+#include "expect.h"
 #include "pack_agreement.h"
-
-static int failures;
-
-static void expect(bool held, const char *what)
-{
-    if (!held) {
-        printf("boundary: %s\n", what);
-        failures++;
-    }
-}
 
 static uint64_t state[PACK_STATE_WORDS];
 static const uint32_t coins[PACK_CONCENTRATORS] = {1, 1, 1, 1};

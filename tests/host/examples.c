@@ -1,19 +1,8 @@
 /* The examples of docs/PROTOCOL.md, 1.13, 2.17 and 2.19, by calls. */
-#include <stdbool.h>
-#include <stdio.h>
 #include <string.h>
 
+#include "expect.h"
 #include "pack_agreement.h"
-
-static int failures;
-
-static void expect(bool held, const char *what)
-{
-    if (!held) {
-        printf("examples: %s\n", what);
-        failures++;
-    }
-}
 
 static uint64_t state[PACK_STATE_WORDS];
 static uint8_t line[PACK_LINE_BYTES];
