@@ -47,6 +47,10 @@ CLOSED = 10
 abbrev pub HELD : ℕ
 HELD = 11
 
+-- no window or more than 16, a bad one, or a closing minute or lead over its limit (PROTOCOL 10.23)
+abbrev pub WINDOWS : ℕ
+WINDOWS = 12
+
 -- no complete line, or one that cannot be applied; it has the line's number beside it (PROTOCOL 10.12)
 abbrev pub JOURNAL : ℕ
 JOURNAL = 15

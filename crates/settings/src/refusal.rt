@@ -23,6 +23,8 @@ pub const NO_STATE: u64 = 9;
 pub const CLOSED: u64 = 10;
 // That place already holds a message.
 pub const HELD: u64 = 11;
+// Windows of a calendar, a closing minute or a lead outside the rules.
+pub const WINDOWS: u64 = 12;
 // No complete opening line, or a complete line of the journal that cannot be applied.
 pub const JOURNAL: u64 = 15;
 // A bit that cannot be recorded: the session is printed, there is no such vote or round, the bit is above 1 or against the one

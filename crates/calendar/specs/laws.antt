@@ -1,0 +1,5 @@
+pub mod Search
+pub mod Week
+pub mod Found
+pub mod Start
+pub mod First
