@@ -1,4 +1,5 @@
 pub mod Answers
 pub mod Restored
 pub mod Replies
+pub mod Starts
 pub mod laws

@@ -1,5 +1,6 @@
-// The six calls of a concentrator's own program, which is written in C, and the two of the coin box. Each answers one number:
-// specs/Answers.antt, Restored.antt and Replies.antt have its bits.
+// The six calls of a concentrator's own program, which is written in C, the two of the coin box and the one of the calendar. Each answers
+// one number: specs/Answers.antt, Restored.antt, Replies.antt and Starts.antt have its bits.
+use calendar::Start;
 use coin_box::Reply;
 use journal::Entry;
 use report::Answer;
@@ -15,6 +16,7 @@ ghost use mathlib.Core.Bool.{cond};
 ghost use Rattle.journal.specs.Journal.{openEntry, openedWords, openedBytes, deliverEntry, deliveredWords, deliveredBytes, recordEntry, recordWords, recordBytes, turnRoom, turnedMessage, turnedLine};
 ghost use Rattle.opening.specs.Given.{weightsWord};
 ghost use Rattle.opening.specs.Arguments.{arguments};
+ghost use Rattle.calendar.specs.Calendar.{startOf};
 ghost use Rattle.coin_box.specs.Box.{boxOpenAnswer, boxOpened, requestReply, requestWords};
 ghost use Rattle.report.specs.Report.{reportAnswer, reportNamed, reportInForce};
 ghost use Rattle.restore.specs.Restoring.{restoreAnswer, restoredWords, restoredBytes};
@@ -22,7 +24,9 @@ ghost use Rattle.turn.specs.Turn.{sentLength, turnOutcome, turnWords};
 ghost use Rattle.cabi.specs.Answers.{entryNumber, outcomeNumber, figuresNumber, reportNumber};
 ghost use Rattle.cabi.specs.Restored.{restoredNumber};
 ghost use Rattle.cabi.specs.Replies.{bitValue, replyNumber};
+ghost use Rattle.cabi.specs.Starts.{startNumber};
 ghost use Rattle.cabi.specs.laws.Cases.{lineLength, messageLength};
+ghost use Rattle.cabi.specs.laws.Starts.{minuteOf};
 
 // What the part of an answer is multiplied by that starts at bit 8, ..
 const BIT_8: u64 = 256;
@@ -233,4 +237,22 @@ pub extern "C" fn pack_box_request(words: &mut [u64], requester: u64, vote: u64,
     ensures words { λ _. ⌜ now (words .exit) ≡ requestWords (now (words .entry)) requester vote round ⌝ }
 {
     reply_number(coin_box::request(words, requester, vote, round))
+}
+
+fn start_number(x: Start) -> u64
+    requires { ⌜ minuteOf x < 4294967296 ⌝ }
+    ensures { λ r. ⌜ r ≡ startNumber x ⌝ }
+{
+    match x {
+        Start::Refused(k) => k,
+        Start::Minute(m) => BIT_32 * m,
+    }
+}
+
+// Names the minute from which a set is in force: the first in a window, not before the closing minute and the lead together.
+#[no_mangle]
+pub extern "C" fn pack_start_minute(windows: &[u32], closing: u64, lead: u64) -> u64
+    ensures { λ r. ⌜ r ≡ startNumber (startOf (now (windows .entry)) closing lead) ⌝ }
+{
+    start_number(calendar::start_minute(windows, closing, lead))
 }
