@@ -1,2 +1,3 @@
 pub mod Calendar
+pub mod First
 pub mod laws

@@ -4,6 +4,7 @@ ghost use mathlib.Core.Path.{_≡_};
 ghost use Prim.Native.Nat.{_<_, min};
 ghost use lib.ListN.{length};
 ghost use Rattle.calendar.specs.Calendar.{windowRight, startOf};
+ghost use Rattle.calendar.specs.First.{FirstInWindow};
 ghost use Rattle.calendar.specs.laws.Search.{distance, windowAt, nearestFrom};
 
 // The number of the refusal, or the minute.
@@ -108,3 +109,8 @@ pub fn start_minute(windows: &[u32], closing: u64, lead: u64) -> Start
         Nearest::After(d) => Start::Minute(earliest + d),
     }
 }
+
+// The minute that is named lies in a window, none from closing and lead on lies in one before it, and it is less than a week away.
+pub fn first_in_window()
+    ensures { λ _. ⌜ FirstInWindow ⌝ }
+{}

@@ -1,4 +1,4 @@
--- What the minute of the calendar is, of all lists, closing minutes and leads that are taken.
+-- The start minute is the first in a window, for all lists, closing minutes and leads that are taken.
 use Prim.Native.Nat.{ℕ, _+_, _-_, _*_, _%_, _^_, _≤_, _<_}
 use mathlib.Core.Bool.{Bool, true, false, _&&_}
 use mathlib.Core.List.{List}
@@ -9,18 +9,12 @@ use lib.ListN.{length}
 use borrow.Author.Tests.{leb-true}
 use Rattle.quorum.specs.laws.Bools.{and-left, and-right}
 use Rattle.calendar.specs.Calendar.{weekMinutes, maxWindows, maxClosing, maxLead, windowsRight, allowed, taken, startMinute}
+use Rattle.calendar.specs.First.{First, FirstInWindow}
 use Rattle.calendar.specs.declared.Nearest.{Nearest}
 use Rattle.calendar.specs.declared.Nearest.the-variants.{Bad, After}
 use Rattle.calendar.specs.laws.Search.{nearestFrom}
 use Rattle.calendar.specs.laws.Found.{Found, found, not-found}
 use Rattle.calendar.specs.laws.Start.{at-distance, hit, missed}
-
--- it lies in a window, none before it does, and it is less than a week away
-pub record First (ws : List ℕ) (from minute : ℕ) : Type 0 where
-  pub not-before : from ≤ minute
-  pub within-week : minute < from + weekMinutes
-  pub lies : allowed ws minute ≡ true
-  pub none-before : (x : ℕ) → from ≤ x → x < minute → allowed ws x ≡ false
 
 no-truth : {P : Type 0} → true ≡ false → P
 no-truth e = absurd (let z : _≡_ {A = ℕ} 0 1 = cc in omega (arith, z))
@@ -70,7 +64,11 @@ start-first ws c l t = go (limits ws c l t) (nearestFrom weekMinutes ws ((c + l)
         let f : Found weekMinutes ws ((c + l) % weekMinutes) d = found ws weekMinutes ((c + l) % weekMinutes) d (omega arith) e in
         rw (at-distance ws c l d (g .some) f) (first-found ws c l d (g .some) f)
 
--- a minute has 32 bits
+pub first-in-window : FirstInWindow
+unfolding FirstInWindow
+first-in-window = start-first
+
+-- it has 32 bits
 pub start-below : (ws : List ℕ) (c l : ℕ) → taken ws c l ≡ true → startMinute ws c l < 2 ^ 32
 start-below ws c l t =
     let g : Limits ws c l = limits ws c l t in
