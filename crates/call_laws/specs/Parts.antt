@@ -48,3 +48,7 @@ completeOf r = r / 2 ^ 32 % 2 ^ 32
 -- pack_line_of
 abbrev pub lineOf : ℕ → ℕ
 lineOf r = r / 2 ^ 8
+
+-- pack_minute_of
+abbrev pub minuteOf : ℕ → ℕ
+minuteOf r = r / 2 ^ 32 % 2 ^ 32

@@ -25,10 +25,14 @@ use Rattle.report.specs.declared.Answer.the-variants as report
 use Rattle.coin_box.specs.Box.{boxOpenAnswer, requestReply}
 use Rattle.coin_box.specs.declared.Reply.{Reply}
 use Rattle.coin_box.specs.declared.Reply.the-variants as box
+use Rattle.calendar.specs.Calendar.{startOf}
+use Rattle.calendar.specs.declared.Start.{Start}
+use Rattle.calendar.specs.declared.Start.the-variants as calendar
 use Rattle.cabi.specs.Answers.{entryNumber, outcomeNumber, reportNumber}
 use Rattle.cabi.specs.Restored.{restoredNumber}
 use Rattle.cabi.specs.Replies.{replyNumber}
-use Rattle.call_laws.specs.Parts.{refusalOf, outcomeOf, exitOf, toldOf, lengthOf, namedOf, bitOf, inForceOf, turnsOf, completeOf, lineOf}
+use Rattle.cabi.specs.Starts.{startNumber}
+use Rattle.call_laws.specs.Parts.{refusalOf, outcomeOf, exitOf, toldOf, lengthOf, namedOf, bitOf, inForceOf, turnsOf, completeOf, lineOf, minuteOf}
 
 -- the number r is read as the refusal k, and as nothing else
 pub record Refusal (r k : ℕ) : Type 0 where
@@ -73,6 +77,11 @@ pub record Told (r t b : ℕ) : Type 0 where
   pub told : toldOf r ≡ t
   pub bit : bitOf r ≡ b
 
+-- as a start in minute m
+pub record Starts (r m : ℕ) : Type 0 where
+  pub accepted : refusalOf r ≡ 0
+  pub minute : minuteOf r ≡ m
+
 -- ---- the number r is read as an answer
 
 abbrev pub EntryAs : ℕ → Entry → Type 0
@@ -101,6 +110,10 @@ ReplyAs r box.Sealed = Told r 0 0
 ReplyAs r (box.Bit true) = Told r 1 1
 ReplyAs r (box.Bit false) = Told r 1 0
 
+abbrev pub StartAs : ℕ → Start → Type 0
+StartAs r (calendar.Refused k) = Refusal r k
+StartAs r (calendar.Minute m) = Starts r m
+
 -- ---- the number of an answer is read as that answer
 
 abbrev pub EntryBack : Entry → Type 0
@@ -118,6 +131,9 @@ RestoredBack size a = RestoredAs size (restoredNumber a) a
 abbrev pub ReplyBack : Reply → Type 0
 ReplyBack x = ReplyAs (replyNumber x) x
 
+abbrev pub StartBack : Start → Type 0
+StartBack x = StartAs (startNumber x) x
+
 -- opening a box answers 0 or its refusal
 abbrev pub NumberBack : ℕ → Type 0
 NumberBack k = (refusalOf k ≡ k) × (k / 2 ^ 8 ≡ 0)
@@ -132,3 +148,4 @@ pub record AnswersReadBack : Type 0 where
   pub restore : (s journal : List ℕ) (room : ℕ) → RestoredBack (length journal) (restoreAnswer s journal room)
   pub box-opening : (words n ta ts : ℕ) (weights : List ℕ) (coins : ℕ) → NumberBack (boxOpenAnswer words n ta ts (weightsWord n weights) coins)
   pub request : (s : List ℕ) (requester vote round : ℕ) → ReplyBack (requestReply s requester vote round)
+  pub start : (windows : List ℕ) (closing lead : ℕ) → StartBack (startOf windows closing lead)

@@ -8,7 +8,7 @@ use native.Mathlib.Nat.{mod-eq-of-lt}
 use lib.Dec.{eqb, ltb}
 use lib.ListN.{length}
 use borrow.Author.Tests.{eqb-false}
-use Rattle.settings.specs.Refusals.{SHORT, NO-STATE, CLOSED, COIN}
+use Rattle.settings.specs.Refusals.{SHORT, NO-STATE, CLOSED, WINDOWS, COIN}
 use Rattle.settings.specs.declared.Settings.{Settings}
 use Rattle.records.specs.Records.{closed, coin}
 use Rattle.session.specs.Session.{isState, sessionOf, settingsOf}
@@ -16,6 +16,10 @@ use Rattle.opening.specs.Given.{weightsWord}
 use Rattle.opening.specs.Arguments.{Arguments}
 use Rattle.coin_box.specs.Box.{boxOpenAnswer, asks, unsealed, requestWords, requestReply}
 use Rattle.coin_box.specs.declared.Reply.the-variants as box
+use Rattle.calendar.specs.Calendar.{startMinute, startOf}
+use Rattle.calendar.specs.Calendar as windows
+use Rattle.calendar.specs.laws.First.{start-below}
+use Rattle.calendar.specs.declared.Start.the-variants as calendar
 use Rattle.turn.specs.Due.{due}
 use Rattle.turn.specs.Turn.{sentLength, outcomeOf, turnOutcome, taking, admits}
 use Rattle.turn.specs.declared.Admitted.{Admitted}
@@ -35,7 +39,7 @@ use Rattle.restore.specs.Complete.{linesOf, joined}
 use Rattle.restore.specs.Restoring.{Replay, wrong, right, replay, lengthAgain, replayAnswer, lentAnswer, restoreAnswer}
 use Rattle.restore.specs.declared.Restored.the-variants as restore
 use Rattle.cabi.specs.laws.Cases.{lineLength, open-few, deliver-few, record-few, sent-few, messageLength, restore-few}
-use Rattle.call_laws.specs.ReadBack.{Refusal, EntryBack, OutcomeBack, ReportBack, RestoredBack, ReplyBack, NumberBack, AnswersReadBack}
+use Rattle.call_laws.specs.ReadBack.{Refusal, EntryBack, OutcomeBack, ReportBack, RestoredBack, ReplyBack, NumberBack, StartBack, AnswersReadBack}
 use Rattle.call_laws.specs.laws.Refusals.{Fits, open-fits, box-fits, record-fits, line-fits, deliver-fits, lent-fits}
 use Rattle.call_laws.specs.laws.Turns.{taken, act-taken}
 use Rattle.call_laws.specs.laws.Figures.{Small, figures-small}
@@ -182,6 +186,16 @@ request-back s requester vote round = go (asks s requester vote round) (unsealed
     go true false c = record { accepted = refl; told = refl; bit = refl }
     go false b c = refusal-back COIN (omega arith) (omega arith)
 
+-- ---- the calendar
+
+start-back : (ws : List ℕ) (c l : ℕ) → StartBack (startOf ws c l)
+unfolding startOf
+start-back ws c l = go (windows.taken ws c l) refl
+  where
+    go : (b : Bool) → windows.taken ws c l ≡ b → StartBack (cond b (calendar.Minute (startMinute ws c l)) (calendar.Refused WINDOWS))
+    go true t = let small = start-below ws c l t in record { accepted = omega arith; minute = omega (arith, small, mod-eq-of-lt small) }
+    go false t = refusal-back WINDOWS (omega arith) (omega arith)
+
 pub answers-read-back : AnswersReadBack
 answers-read-back =
     record {
@@ -193,4 +207,5 @@ answers-read-back =
       restore = restore-back;
       box-opening = box-opening-back;
       request = request-back;
+      start = start-back;
     }
