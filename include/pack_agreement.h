@@ -2,7 +2,7 @@
  * The pack agreement engine: one concentrator's end of an agreement session.
  *
  * The engine keeps nothing of its own. A session lives in a buffer of PACK_STATE_WORDS words that the caller lends to
- * every call and otherwise leaves alone. Opening sets the whole buffer, whatever it held.
+ * every call on it and otherwise leaves alone. Opening sets the whole buffer, whatever it held.
  *
  * A delivery records one message and does nothing else; a turn does the one thing that is due and answers it. So after
  * opening, and after each delivery, call pack_turn until it answers idle. A message that a turn answers as sent goes to
@@ -15,9 +15,9 @@
  * MEMORY. Every value of every argument has its answer, in every order of calls. The caller owes that each pointer has as
  * many elements behind it as its count says, that buffers do not overlap, and that nothing else uses them while the call
  * runs; calls on different states may run at the same time. A count is a number of elements: 64-bit words, 32-bit coin
- * words or bytes. A null pointer with count 0 is an empty buffer. No call keeps a pointer or allocates; of the C library
- * only memcpy and memset are used. pack_restore has a second state on the stack, 16,384 bytes, and takes some 18,400 bytes
- * of it in all; the other calls take up to 1,300.
+ * words, 32-bit numbers of windows or bytes. A null pointer with count 0 is an empty buffer. No call keeps a pointer or
+ * allocates; of the C library only memcpy and memset are used. pack_restore has a second state on the stack, 16,384 bytes,
+ * and takes some 18,400 bytes of it in all; the other calls take up to 1,300.
  *
  * AGREEMENT rests on more than memory. The engine cannot see whether the following is kept, and takes calls that break it.
  * A concentrator whose host does not keep it counts among those that lie, with its weight:
@@ -65,6 +65,19 @@
  *   - Ask again later where the answer is sealed.
  *   - Record the bit by pack_record before the next turn: the move out of that round waits for it. Its line is stored as the
  *     others are. After a restore, ask for the coins of the rounds whose lines were lost; the box tells the same bits.
+ *
+ * THE CALENDAR is for a planner who wants sets to start in agreed hours only. pack_start_minute names the first minute in a
+ * window that is not before the closing minute and a lead together. It is a function of its arguments alone: it reads and
+ * writes no state, and no other call looks at what it answers.
+ *   - Minutes are counted from a Monday 00:00, and so are those of the week: the minute of the week of minute m is
+ *     m % PACK_WEEK_MINUTES. Which clock counts them, with its time zone and summer time, is for the hosts to decide, one
+ *     clock for all.
+ *   - A window is a first minute of the week and an end, which is outside it. Windows may overlap and stand in any order.
+ *     A window does not run past the end of the week; two can: 10,020 to 10,080 and 0 to 60 are the hours around Sunday
+ *     midnight.
+ *   - Where all concentrators are to start in the same minute, all are given the same windows, the same closing minute and
+ *     the same lead. The calendar does not know when others closed, and each closes in its own minute: two closing minutes,
+ *     one just before the end of a window and one just after it, may give starts up to a week apart.
  *
  * docs/HOST.md has more on what a host owes, and a session in which two did not keep it.
  */
@@ -119,6 +132,14 @@ extern "C" {
 #define PACK_UNNAMED 255
 /* The last round of a vote; the first is 1. */
 #define PACK_ROUNDS 32
+/* Minutes of a week; the first is minute 0, a Monday 00:00. */
+#define PACK_WEEK_MINUTES 10080
+/* Windows of a calendar at most. */
+#define PACK_WINDOWS_MAX 16
+/* The largest closing minute that the calendar takes. */
+#define PACK_CLOSING_MAX UINT64_C(4000000000)
+/* The largest lead that the calendar takes, in minutes: a week. */
+#define PACK_LEAD_MAX 10080
 
 /*
  * What a call answers: one number, taken apart by the functions at the end. Bits 0 to 7 are 0 where it was accepted, else
@@ -164,6 +185,11 @@ enum pack_refusal {
     PACK_REFUSED_CLOSED = 10,
     /* That place already holds a message. */
     PACK_REFUSED_HELD = 11,
+    /*
+     * Calendar: no window or more than PACK_WINDOWS_MAX, a window outside the rules or without an end, or a closing minute
+     * or lead over its limit.
+     */
+    PACK_REFUSED_WINDOWS = 12,
     /* A journal without a complete opening line, or with a complete line that cannot be applied. */
     PACK_REFUSED_JOURNAL = 15,
     /*
@@ -303,6 +329,17 @@ pack_answer pack_box_open(uint64_t *box, size_t words, uint64_t n, uint64_t ta, 
 PACK_MUST_USE
 pack_answer pack_box_request(uint64_t *box, size_t words, uint64_t requester, uint64_t vote, uint64_t round);
 
+/*
+ * Names the minute from which a set is in force: the smallest one, not before closing + lead, whose minute of the week lies
+ * in a window. windows are 1 to PACK_WINDOWS_MAX windows as one list, first, end, first, end and so on, each with
+ * first < end <= PACK_WEEK_MINUTES; numbers counts the numbers, two for each window. closing is PACK_CLOSING_MAX at most,
+ * lead PACK_LEAD_MAX.
+ * Answer: bits 32 to 63 the minute, the others 0.
+ * Refusal: PACK_REFUSED_WINDOWS.
+ */
+PACK_MUST_USE
+pack_answer pack_start_minute(const uint32_t *windows, size_t numbers, uint64_t closing, uint64_t lead);
+
 /* The parts of an answer. */
 
 /* PACK_ACCEPTED, or why the call was refused. */
@@ -338,6 +375,9 @@ static inline int pack_told_of(pack_answer request) { return (request.number >> 
 /* The bit, where it is told. */
 static inline unsigned pack_bit_of(pack_answer request) { return (unsigned)(request.number >> 16 & 0xff); }
 
+/* The minute that the calendar names. */
+static inline uint32_t pack_minute_of(pack_answer start) { return (uint32_t)(start.number >> 32); }
+
 /* The line that is refused with PACK_REFUSED_JOURNAL. */
 static inline uint64_t pack_line_of(pack_answer restore) { return restore.number >> 8; }
 
@@ -359,6 +399,7 @@ static inline const char *pack_refusal_name(enum pack_refusal refusal)
     case PACK_REFUSED_NO_STATE: return "NO STATE";
     case PACK_REFUSED_CLOSED: return "CLOSED";
     case PACK_REFUSED_HELD: return "HELD";
+    case PACK_REFUSED_WINDOWS: return "WINDOWS";
     case PACK_REFUSED_JOURNAL: return "JOURNAL";
     case PACK_REFUSED_COIN: return "COIN";
     }

@@ -1,4 +1,4 @@
-/* A session of one concentrator over the header alone; this is C and C++. Prints how it went. */
+/* A session of one concentrator over the header alone, and a start; this is C and C++. Prints how it went. */
 #include "pack_agreement.h"
 
 #include <stdio.h>
@@ -33,6 +33,17 @@ static int go_on(void)
     return pack_refusal_of(delivery) == PACK_ACCEPTED ? 0 : refused(delivery);
 }
 
+/* The latest minute that the calendar can name. */
+static int start_latest(void)
+{
+    static const uint32_t windows[2] = {3999, 4000};
+    pack_answer start = pack_start_minute(windows, 2, PACK_CLOSING_MAX, PACK_LEAD_MAX);
+    if (pack_refusal_of(start) != PACK_ACCEPTED)
+        return refused(start);
+    printf("start %u\n", (unsigned)pack_minute_of(start));
+    return 0;
+}
+
 int main(void)
 {
     static const uint32_t coins[1] = {1};
@@ -47,5 +58,5 @@ int main(void)
     pack_answer report = pack_report(state, PACK_STATE_WORDS, named, PACK_SET_WORDS, in_force, PACK_SET_WORDS);
     printf("%u turns, %u in force: %u\n", (unsigned)pack_turns_of(report), (unsigned)pack_in_force_of(report),
            (unsigned)in_force[0]);
-    return pack_refusal_of(report) == PACK_ACCEPTED ? 0 : refused(report);
+    return pack_refusal_of(report) == PACK_ACCEPTED ? start_latest() : refused(report);
 }

@@ -63,5 +63,8 @@ int main(void)
     return pack_refusal_of(turn()) == PACK_OUTCOME_SENT;
 #elif MISTAKE == 14 /* an outcome compared with a refusal, likewise */
     return pack_outcome_of(turn()) == PACK_REFUSED_SETTINGS;
+#elif MISTAKE == 15 /* a start that nobody looks at */
+    pack_start_minute(0, 0, 0, 0);
+    return pack_refusal_of(turn()) != PACK_ACCEPTED;
 #endif
 }
