@@ -44,16 +44,32 @@ static bool read_number(const char *text, uint64_t limit, uint64_t *number)
     return true;
 }
 
-/* Reads numbers parted by commas; `list` is cut at them. Whether they are weights is the engine's to say. */
+static bool read_word(const char *text, uint32_t *word)
+{
+    uint64_t value;
+    if (!read_number(text, UINT32_MAX, &value))
+        return false;
+    *word = (uint32_t)value;
+    return true;
+}
+
+/* Cuts the text at the next mark and gives what stands before it; `rest` goes behind the mark, NULL where there is none. */
+static char *cut(char **rest, char mark)
+{
+    char *item = *rest, *end = strchr(item, mark);
+    *rest = end == NULL ? NULL : end + 1;
+    if (end != NULL)
+        *end = '\0';
+    return item;
+}
+
+/* Reads numbers parted by commas. Whether they are weights is the engine's to say. */
 static bool read_weights(char *list, struct options *o)
 {
     o->weight_count = 0;
     while (list != NULL) {
-        char *item = list;
+        char *item = cut(&list, ',');
         uint64_t weight;
-        list = strchr(item, ',');
-        if (list != NULL)
-            *list++ = '\0';
         if (*item == '\0')
             return fail("a weight is missing", "--weights");
         if (!read_number(item, UINT8_MAX, &weight))
@@ -65,14 +81,36 @@ static bool read_weights(char *list, struct options *o)
     return true;
 }
 
-/* Reads the value of -s or -c. */
-static bool read_word(const char *text, uint32_t *word)
+static bool read_session(char *value, struct options *o) { return read_word(value, &o->session); }
+
+static bool read_coin(char *value, struct options *o) { return read_word(value, &o->coin); }
+
+static bool read_journals(char *value, struct options *o)
 {
-    uint64_t value;
-    if (!read_number(text, UINT32_MAX, &value))
-        return false;
-    *word = (uint32_t)value;
+    o->journals = value;
     return true;
+}
+
+/* An option with a value: what is said where that is missing, and what reads it. */
+struct option {
+    const char *flag, *missing;
+    bool (*read)(char *value, struct options *o);
+};
+
+static const struct option with_value[] = {
+    {"-s", "a number is missing", read_session},
+    {"-c", "a number is missing", read_coin},
+    {"--weights", "a number is missing", read_weights},
+    {"--journals", "a directory is missing", read_journals},
+};
+
+/* The option with a value of that name, or NULL. */
+static const struct option *find_option(const char *flag)
+{
+    for (size_t k = 0; k < sizeof with_value / sizeof with_value[0]; k++)
+        if (strcmp(flag, with_value[k].flag) == 0)
+            return &with_value[k];
+    return NULL;
 }
 
 /* Reads the options; `at` is left at the first argument that is none. */
@@ -86,16 +124,12 @@ static bool read_flags(int argc, char **argv, int *at, struct options *o)
             --*at;
             continue;
         }
-        char *value = *at + 1 < argc ? argv[*at + 1] : NULL;
-        uint32_t *word = strcmp(flag, "-s") == 0 ? &o->session : strcmp(flag, "-c") == 0 ? &o->coin : NULL;
-        bool weights = strcmp(flag, "--weights") == 0, journals = strcmp(flag, "--journals") == 0;
-        if (word == NULL && !weights && !journals)
+        const struct option *option = find_option(flag);
+        if (option == NULL)
             return fail("unknown option, see --help", flag);
-        if (value == NULL)
-            return fail(journals ? "a directory is missing" : "a number is missing", flag);
-        if (journals)
-            o->journals = value;
-        else if (weights ? !read_weights(value, o) : !read_word(value, word))
+        if (*at + 1 == argc)
+            return fail(option->missing, flag);
+        if (!option->read(argv[*at + 1], o))
             return false;
     }
     return true;
