@@ -6,10 +6,12 @@
 #include <string.h>
 
 const char *const usage =
-    "usage: pack_host [-s SESSION] [-c COIN] [--weights LIST] [--boxed] [--journals DIRECTORY] [N TA TS [INPUT ...]]\n"
+    "usage: pack_host [-s SESSION] [-c COIN] [--weights LIST] [--boxed] [--journals DIRECTORY]\n"
+    "                 [--windows LIST --closing MINUTE [--lead MINUTES]] [N TA TS [INPUT ...]]\n"
     "\n"
     "Runs an agreement session of N concentrators, all honest, and prints a line for each, fields parted by tabs:\n"
-    "number, exit (0 for none), closed (0 or 1), turns, the values in force in hexadecimal, or \"-\".\n"
+    "number, exit (0 for none), closed (0 or 1), turns, the values in force in hexadecimal, or \"-\"; with --windows\n"
+    "also the minute from which they are in force, or \"-\".\n"
     "\n"
     "  N TA TS               the settings (4 - 1); TA as \"-\" is 0, as 255 the largest that the rules allow\n"
     "  INPUT                 the pack number of each concentrator, N of them (5 for each)\n"
@@ -19,6 +21,10 @@ const char *const usage =
     "  --boxed               has the coins in a box, which the concentrators ask for each coin, and not printed\n"
     "  --journals DIRECTORY  keeps the journal of each concentrator in a file there, and goes on from the journals\n"
     "                        that are there: so the program may be killed and started again with the same arguments\n"
+    "  --windows LIST        the windows in which a set may start, 1 to 16 of them parted by commas, each as FIRST-END in\n"
+    "                        minutes of the week, 0 to 10080; minute 0 is Monday 00:00, and END is outside\n"
+    "  --closing MINUTE      the minute in which the session closes, counted from a Monday 00:00, up to 4000000000\n"
+    "  --lead MINUTES        how long after that a set starts at the earliest, up to 10080 (0)\n"
     "\n"
     "Numbers are decimal, or hexadecimal after 0x. The status is 0, or 1 on an error.\n";
 
@@ -81,9 +87,48 @@ static bool read_weights(char *list, struct options *o)
     return true;
 }
 
+/* Reads FIRST-END. */
+static bool read_window(char *item, uint32_t *window)
+{
+    const char *dash = strchr(item, '-');
+    if (dash == NULL || dash == item || dash[1] == '\0')
+        return fail("not FIRST-END", item);
+    const char *first = cut(&item, '-');
+    return read_word(first, &window[0]) && read_word(item, &window[1]);
+}
+
+/* Reads windows parted by commas. Whether they are in the week is the engine's to say. */
+static bool read_windows(char *list, struct options *o)
+{
+    o->window_numbers = 0;
+    while (list != NULL) {
+        char *item = cut(&list, ',');
+        if (*item == '\0')
+            return fail("a window is missing", "--windows");
+        if (o->window_numbers == 2 * PACK_WINDOWS_MAX)
+            return fail("more than 16 windows", item);
+        if (!read_window(item, &o->windows[o->window_numbers]))
+            return false;
+        o->window_numbers += 2;
+    }
+    return true;
+}
+
 static bool read_session(char *value, struct options *o) { return read_word(value, &o->session); }
 
 static bool read_coin(char *value, struct options *o) { return read_word(value, &o->coin); }
+
+static bool read_closing(char *value, struct options *o)
+{
+    o->has_closing = true;
+    return read_number(value, UINT64_MAX, &o->closing);
+}
+
+static bool read_lead(char *value, struct options *o)
+{
+    o->has_lead = true;
+    return read_number(value, UINT64_MAX, &o->lead);
+}
 
 static bool read_journals(char *value, struct options *o)
 {
@@ -102,6 +147,9 @@ static const struct option with_value[] = {
     {"-c", "a number is missing", read_coin},
     {"--weights", "a number is missing", read_weights},
     {"--journals", "a directory is missing", read_journals},
+    {"--windows", "a window is missing", read_windows},
+    {"--closing", "a number is missing", read_closing},
+    {"--lead", "a number is missing", read_lead},
 };
 
 /* The option with a value of that name, or NULL. */
@@ -166,6 +214,19 @@ static bool read_rest(int argc, char **argv, int at, struct options *o)
     return true;
 }
 
+/* The options of the calendar are given together; the lead may be left out. */
+static bool check_calendar(const struct options *o)
+{
+    bool windows = o->window_numbers != 0;
+    if (windows && !o->has_closing)
+        return fail("--closing is missing", "--windows");
+    if (!windows && o->has_closing)
+        return fail("--windows is missing", "--closing");
+    if (!windows && o->has_lead)
+        return fail("--windows is missing", "--lead");
+    return true;
+}
+
 bool read_options(int argc, char **argv, struct options *o)
 {
     int at = 1;
@@ -178,5 +239,5 @@ bool read_options(int argc, char **argv, struct options *o)
         return false;
     if (o->weight_count != 0 && o->weight_count != o->n)
         return fail("not as many weights as concentrators", "--weights");
-    return true;
+    return check_calendar(o);
 }

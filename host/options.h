@@ -19,6 +19,12 @@ struct options {
     bool boxed;
     /* The directory of the journals, or NULL. */
     const char *journals;
+    /* The windows of the calendar as the engine takes them, and their numbers; 0 where the option is not there. */
+    uint32_t windows[2 * PACK_WINDOWS_MAX];
+    size_t window_numbers;
+    uint64_t closing, lead;
+    /* Whether these two are given. */
+    bool has_closing, has_lead;
 };
 
 extern const char *const usage;

@@ -41,6 +41,8 @@ struct concentrator {
 
 struct session {
     struct options options;
+    /* The minute from which a set is in force, where there is a calendar. */
+    uint32_t start;
     struct concentrator all[PACK_CONCENTRATORS];
     struct queue queue;
     uint64_t coin_box[PACK_BOX_WORDS];
@@ -197,6 +199,17 @@ static bool open_one(struct session *x, uint64_t p, const uint32_t *coins)
     bool done = begun ? resume(x, p, line, length) : journal_cut(j, 0) && journal_add(j, line, length);
     journal_forget(j);
     return done;
+}
+
+/* Asks the calendar, where there is one, for the start: no session is opened with one that is refused. */
+static bool ask_calendar(struct session *x)
+{
+    const struct options *o = &x->options;
+    if (o->window_numbers == 0)
+        return true;
+    pack_answer answer = pack_start_minute(o->windows, o->window_numbers, o->closing, o->lead);
+    x->start = pack_minute_of(answer);
+    return pack_refusal_of(answer) == PACK_ACCEPTED || refused("calendar", 0, answer);
 }
 
 /* Opens the box where there is one, and then the session; the coins are in the one or in the other. */
@@ -356,7 +369,12 @@ static bool print_report(const struct session *x, uint64_t p)
     size_t count = pack_in_force_of(answer);
     for (size_t i = 0; i < count; i++)
         printf("%s%016" PRIx64, i == 0 ? "" : ",", in_force[i]);
-    puts(count == 0 ? "-" : "");
+    fputs(count == 0 ? "-" : "", stdout);
+    if (x->options.window_numbers != 0 && count != 0)
+        printf("\t%" PRIu32, x->start);
+    else if (x->options.window_numbers != 0)
+        fputs("\t-", stdout);
+    putchar('\n');
     return true;
 }
 
@@ -367,7 +385,7 @@ int main(int argc, char **argv)
         fputs(usage, stdout);
         return 0;
     }
-    bool done = read_options(argc, argv, &x.options) && open_all(&x) && run(&x);
+    bool done = read_options(argc, argv, &x.options) && ask_calendar(&x) && open_all(&x) && run(&x);
     for (uint64_t p = 1; done && p <= x.options.n; p++)
         done = print_report(&x, p);
     free(x.queue.items);

@@ -102,12 +102,13 @@ renew_drill() {
     renew drill target/bin/drill rt check drill
 }
 
-# print_result TITLE LINES: the lines that the drill program or the host printed, with a heading
+# print_result TITLE LINES [COLUMN]: the lines that the drill program or the host printed, with a heading; COLUMN is the name
+# of a further one
 print_result() {
     cat << END
 $1:
 
-number	exit	closed	turns	packs in force
+number	exit	closed	turns	packs in force${3:+	$3}
 $2
 
 number          the concentrator; one that lies or stays silent has no line
