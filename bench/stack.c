@@ -26,6 +26,7 @@ enum call {
     CALL_RECORD,
     CALL_BOX_OPEN,
     CALL_BOX_REQUEST,
+    CALL_START_MINUTE,
     CALLS
 };
 
@@ -56,6 +57,9 @@ static size_t journal_bytes;
 static uint64_t restored[PACK_STATE_WORDS];
 /* A boxed session and its box; the vote and the round that are asked for. */
 static uint64_t boxed[PACK_STATE_WORDS], coin_box[PACK_BOX_WORDS], vote, round_asked;
+/* The calendar's windows, and its closing minute. */
+static uint32_t windows[2 * PACK_WINDOWS_MAX];
+static uint64_t closing;
 
 static void run(void)
 {
@@ -85,6 +89,9 @@ static void run(void)
         break;
     case CALL_BOX_REQUEST:
         answer = pack_box_request(coin_box, PACK_BOX_WORDS, own, vote, round_asked);
+        break;
+    case CALL_START_MINUTE:
+        answer = pack_start_minute(windows, 2 * PACK_WINDOWS_MAX, closing, 0);
         break;
     default:
         break;
@@ -136,36 +143,9 @@ static void act(unsigned p)
     } while (pack_refusal_of(answer) == PACK_ACCEPTED && pack_outcome_of(answer) != PACK_OUTCOME_IDLE);
 }
 
-/* Opens a box, has all ask for all its coins, and records a bit for each of them. */
-static bool measure_box(void)
+/* A session of all N, with turns after each eighth delivery. Whether the journal gives the first one's state back. */
+static bool measure_session(void)
 {
-    static const uint32_t none[N];
-    bool good = true;
-    measure(CALL_BOX_OPEN);
-    good = good && pack_refusal_of(answer) == PACK_ACCEPTED;
-    pack_answer opened =
-        pack_open(boxed, PACK_STATE_WORDS, N, 5, 5, 1, 7, 1, none, N, weights, N, PACK_COINS_BOXED, line, sizeof line);
-    good = good && pack_refusal_of(opened) == PACK_ACCEPTED;
-    for (vote = 1; vote <= N; vote++)
-        for (round_asked = 1; round_asked <= PACK_ROUNDS; round_asked++) {
-            for (own = 1; own <= N; own++)
-                measure(CALL_BOX_REQUEST);
-            good = good && pack_told_of(answer);
-            measure(CALL_RECORD);
-            good = good && pack_refusal_of(answer) == PACK_ACCEPTED;
-        }
-    return good;
-}
-
-int main(void)
-{
-    static const char *names[CALLS] = {"",            "pack_open",    "pack_deliver", "pack_turn",       "pack_report",
-                                       "pack_restore", "pack_record", "pack_box_open", "pack_box_request"};
-    measure(CALL_NONE);
-    for (unsigned p = 0; p < N; p++) {
-        coins[p] = 0xb5a39d71u << p % 7;
-        weights[p] = 1;
-    }
     for (unsigned p = 0; p < N; p++) {
         state = states[p];
         own = p + 1;
@@ -188,14 +168,75 @@ int main(void)
     for (unsigned p = 0; p < N; p++)
         act(p);
     measure(CALL_RESTORE);
-    if (pack_refusal_of(answer) != PACK_ACCEPTED || memcmp(restored, states[0], sizeof restored) != 0) {
-        fprintf(stderr, "stack: the journal does not give the state back\n");
-        return 1;
+    return pack_refusal_of(answer) == PACK_ACCEPTED && memcmp(restored, states[0], sizeof restored) == 0;
+}
+
+/* Opens a box, has all ask for all its coins, and records a bit for each of them. */
+static bool measure_box(void)
+{
+    static const uint32_t none[N];
+    bool good = true;
+    measure(CALL_BOX_OPEN);
+    good = good && pack_refusal_of(answer) == PACK_ACCEPTED;
+    pack_answer opened =
+        pack_open(boxed, PACK_STATE_WORDS, N, 5, 5, 1, 7, 1, none, N, weights, N, PACK_COINS_BOXED, line, sizeof line);
+    good = good && pack_refusal_of(opened) == PACK_ACCEPTED;
+    for (vote = 1; vote <= N; vote++)
+        for (round_asked = 1; round_asked <= PACK_ROUNDS; round_asked++) {
+            for (own = 1; own <= N; own++)
+                measure(CALL_BOX_REQUEST);
+            good = good && pack_told_of(answer);
+            measure(CALL_RECORD);
+            good = good && pack_refusal_of(answer) == PACK_ACCEPTED;
+        }
+    return good;
+}
+
+/* Asks a calendar of all its windows, of one minute each, from every minute of the week. */
+static bool measure_calendar(void)
+{
+    bool good = true;
+    for (unsigned k = 0; k < PACK_WINDOWS_MAX; k++) {
+        windows[2 * k] = 600 * k;
+        windows[2 * k + 1] = 600 * k + 1;
     }
-    if (!measure_box()) {
-        fprintf(stderr, "stack: a coin is not told, or not recorded\n");
-        return 1;
+    for (closing = 0; closing < PACK_WEEK_MINUTES; closing++) {
+        measure(CALL_START_MINUTE);
+        good = good && pack_refusal_of(answer) == PACK_ACCEPTED && pack_minute_of(answer) >= closing;
     }
+    return good;
+}
+
+/* Says what is wrong, and gives the status. */
+static int wrong(const char *what)
+{
+    fprintf(stderr, "stack: %s\n", what);
+    return 1;
+}
+
+int main(void)
+{
+    static const char *names[CALLS] = {"",
+                                       "pack_open",
+                                       "pack_deliver",
+                                       "pack_turn",
+                                       "pack_report",
+                                       "pack_restore",
+                                       "pack_record",
+                                       "pack_box_open",
+                                       "pack_box_request",
+                                       "pack_start_minute"};
+    measure(CALL_NONE);
+    for (unsigned p = 0; p < N; p++) {
+        coins[p] = 0xb5a39d71u << p % 7;
+        weights[p] = 1;
+    }
+    if (!measure_session())
+        return wrong("the journal does not give the state back");
+    if (!measure_box())
+        return wrong("a coin is not told, or not recorded");
+    if (!measure_calendar())
+        return wrong("the calendar names no minute");
     printf("| call | stack, bytes |\n|---|---|\n");
     for (unsigned kind = CALL_OPEN; kind < CALLS; kind++)
         printf("| `%s` | %zu |\n", names[kind], most[kind] - most[CALL_NONE]);
