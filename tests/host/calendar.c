@@ -72,6 +72,7 @@ static void test_lead(void)
 {
     names(299, LIST(60, 300), 290, 9, "a lead up to the last minute");
     names(10140, LIST(60, 300), 290, 10, "a lead up to the end");
+    names(10140, LIST(60, 300), 200, 100, "a longer lead up to the end");
     names(10140, LIST(60, 300), 10000, 100, "a sum in the next week, before the window");
     names(10200, LIST(60, 300), 10000, 200, "a sum in the next week, in the window");
     names(20220, LIST(60, 300), 10000, 400, "a sum in the next week, behind the window");
@@ -100,6 +101,7 @@ static void test_week(void)
     names(19080, LIST(9000, 10080), 10080, 0, "a window up to the week's end, at its end");
     names(10079, LIST(10020, 10080, 0, 60), 10079, 0, "two windows over the week's end, before it");
     names(10080, LIST(10020, 10080, 0, 60), 10080, 0, "two windows over the week's end, at it");
+    names(10080, LIST(10020, 10080, 0, 60), 10079, 1, "two windows over the week's end, a lead over it");
     names(10139, LIST(10020, 10080, 0, 60), 10020, 119, "two windows over the week's end, last minute");
     names(20100, LIST(10020, 10080, 0, 60), 10020, 120, "two windows over the week's end, behind them");
 }
