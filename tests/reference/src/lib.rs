@@ -1,5 +1,5 @@
-//! A second, independent implementation of the pack agreement engine (document 01, with N8 and N10 to N12 of document 02), as
-//! a check on the proved one. Each module follows one section of document 01, or one request of 02.
+//! A second, independent implementation of the pack agreement engine (document 01, with N1, N8 and N10 to N12 of document
+//! 02), as a check on the proved one. Each module follows one section of document 01, or one request of 02.
 
 pub mod attack;
 pub mod box_engine;
@@ -8,6 +8,8 @@ mod broadcasts;
 pub mod c_box;
 #[cfg(feature = "c-engine")]
 pub mod c_engine;
+pub mod calendar;
+pub mod calendar_engine;
 pub mod coin_box;
 mod coins;
 mod commits;

@@ -74,6 +74,14 @@ pub fn pack_request(answer: &Result<Reply, Refusal>) -> u64 {
     }
 }
 
+/// A start: bits 32-63 the minute.
+pub fn pack_start(answer: &Result<u64, Refusal>) -> u64 {
+    match answer {
+        Ok(minute) => minute << 32,
+        Err(refusal) => u64::from(refusal.number()),
+    }
+}
+
 /// Reads the answer to a request; `None` if no request answers so.
 pub fn unpack_request(answer: u64) -> Option<Result<Reply, Refusal>> {
     match answer {

@@ -17,6 +17,8 @@ pub enum Refusal {
     NoState = 9,
     Closed = 10,
     Held = 11,
+    /// 02, N1.
+    Windows = 12,
     /// 02, N10.
     Journal = 15,
     /// 02, N12.
@@ -24,7 +26,7 @@ pub enum Refusal {
 }
 
 impl Refusal {
-    pub const ALL: [Refusal; 13] = [
+    pub const ALL: [Refusal; 14] = [
         Refusal::Settings,
         Refusal::Length,
         Refusal::Kind,
@@ -36,6 +38,7 @@ impl Refusal {
         Refusal::NoState,
         Refusal::Closed,
         Refusal::Held,
+        Refusal::Windows,
         Refusal::Journal,
         Refusal::Coin,
     ];
@@ -63,6 +66,7 @@ impl Refusal {
             Refusal::NoState => "NO STATE",
             Refusal::Closed => "CLOSED",
             Refusal::Held => "HELD",
+            Refusal::Windows => "WINDOWS",
             Refusal::Journal => "JOURNAL",
             Refusal::Coin => "COIN",
         }
