@@ -4,6 +4,7 @@ use crate::calendar::start_minute;
 use crate::engine::{Lockstep, Reference};
 use crate::packing::pack_start;
 
+/// The one call of a calendar, which has no state.
 pub trait CalendarEngine {
     fn start_minute(&self, windows: &[u32], closing: u64, lead: u64) -> u64;
 }

@@ -7,6 +7,8 @@ mod broadcasts;
 #[cfg(feature = "c-engine")]
 pub mod c_box;
 #[cfg(feature = "c-engine")]
+pub mod c_calendar;
+#[cfg(feature = "c-engine")]
 pub mod c_engine;
 pub mod calendar;
 pub mod calendar_engine;

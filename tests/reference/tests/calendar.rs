@@ -2,6 +2,7 @@
 
 use pack_reference::calendar::start_minute;
 use pack_reference::calendar_engine::CalendarEngine;
+use pack_reference::compare::{edge_calendars, random_calendars};
 use pack_reference::engine::Reference;
 use pack_reference::Refusal;
 
@@ -142,4 +143,15 @@ fn packed_answers() {
     assert_eq!(reference.start_minute(&[], 0, 0), 12);
     assert_eq!(Refusal::Windows.to_string(), "12 WINDOWS");
     assert_eq!(Refusal::from_number(12), Some(Refusal::Windows));
+}
+
+/// The calls of the comparison give every kind of answer, many times.
+#[test]
+fn calls_of_the_comparison() {
+    let reference = Reference::default();
+    for answers in [edge_calendars(&reference), random_calendars(&reference, 6, 20_000)] {
+        let kinds = [answers.refusals[0], answers.refusals[12]].into_iter().chain(answers.starts);
+        assert!(kinds.min() > Some(answers.calls() / 100), "{answers}");
+        assert_eq!(answers.refusals[0] + answers.refusals[12], answers.calls());
+    }
 }

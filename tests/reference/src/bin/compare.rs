@@ -10,11 +10,15 @@ use pack_reference::c_box::check_box_word_counts;
 use pack_reference::c_engine::{check_word_counts, CEngine};
 use pack_reference::coin_box::BoxOpening;
 use pack_reference::compare::{
-    damaged_deliveries, edge_recordings, foreign_boxes, foreign_calls, longest_sessions,
-    random_boxes, random_calls, restores, unnamed_openings,
+    damaged_deliveries, edge_calendars, edge_recordings, foreign_boxes, foreign_calls,
+    longest_sessions, random_boxes, random_calendars, random_calls, restores,
+    two_weeks_of_closings, unnamed_openings,
 };
 use pack_reference::engine::{Lockstep, Reference};
 use pack_reference::Opening;
+
+/// Random calendars at least.
+const CALENDARS: u64 = 1_000_000;
 
 fn main() -> ExitCode {
     let arguments: Vec<u64> =
@@ -39,6 +43,9 @@ fn main() -> ExitCode {
     note("restores", &restores(&engine, seed, 12));
     note("recordings", &edge_recordings(&engine));
     note("boxes", &random_boxes(&engine, seed, calls));
+    note("calendars on the edge", &edge_calendars(&engine));
+    note("closings of two weeks", &two_weeks_of_closings(&engine));
+    note("random calendars", &random_calendars(&engine, seed, calls.max(CALENDARS)));
     note("random calls", &random_calls(&engine, seed, calls));
     note("planted words", &foreign_calls(&CEngine, &CEngine, seed, foreign));
     note("planted boxes", &foreign_boxes(&CEngine, &CEngine, seed, foreign));

@@ -1,7 +1,8 @@
 //! Calls for a comparison of two engines in lockstep: random ones, damaged messages, openings with ta unnamed, recordings,
-//! restores, coin boxes, and words that no engine wrote.
+//! restores, coin boxes, calendars, and words that no engine wrote.
 
 mod boxes;
+mod calendars;
 mod calls;
 mod damage;
 #[cfg(feature = "c-engine")]
@@ -18,6 +19,7 @@ mod unnamed;
 use std::fmt;
 
 pub use boxes::random_boxes;
+pub use calendars::{edge_calendars, random_calendars, two_weeks_of_closings};
 pub use calls::random_calls;
 pub use damage::damaged_deliveries;
 #[cfg(feature = "c-engine")]
@@ -29,6 +31,7 @@ pub use recordings::edge_recordings;
 pub use restores::restores;
 pub use unnamed::unnamed_openings;
 
+use crate::calendar::WEEK;
 use crate::packing::refusal;
 
 /// How often each answer was given.
@@ -40,6 +43,8 @@ pub struct Answers {
     pub outcomes: [u64; 4],
     /// Reports by exit.
     pub exits: [u64; 4],
+    /// Starts: at once, later in that week, in the next week.
+    pub starts: [u64; 3],
 }
 
 impl Answers {
@@ -59,6 +64,14 @@ impl Answers {
         }
     }
 
+    fn note_start(&mut self, answer: u64, closing: u64, lead: u64) {
+        if refusal(answer).is_none() {
+            let (minute, earliest) = (answer >> 32, closing + lead);
+            let weeks = minute / WEEK - earliest / WEEK;
+            self.starts[if minute == earliest { 0 } else { 1 + weeks as usize }] += 1;
+        }
+    }
+
     pub fn calls(&self) -> u64 {
         self.refusals.iter().sum()
     }
@@ -70,6 +83,8 @@ impl fmt::Display for Answers {
         let [idle, sent, moved_out, in_force] = self.outcomes;
         write!(f, "{} calls: {accepted} accepted, refused by number {refused:?}; ", self.calls())?;
         write!(f, "turns {idle} idle, {sent} sent, {moved_out} moved out, {in_force} in force; ")?;
-        write!(f, "reports by exit {:?}", self.exits)
+        write!(f, "reports by exit {:?}; ", self.exits)?;
+        let [at_once, later, next_week] = self.starts;
+        write!(f, "starts {at_once} at once, {later} later in the week, {next_week} in the next")
     }
 }
