@@ -1,10 +1,12 @@
 /*
- * Opening, delivery, turn, report, recording and the coin box under libFuzzer: the input bytes open a feeder of up to four
- * concentrators and make a list of calls on their states, with messages as sent, forged, damaged or of any bytes, with bits
- * from a box or any others, and with planted words. Then the journal of each state without planted words must give it back.
+ * Opening, delivery, turn, report, recording, the coin box and the calendar under libFuzzer: the input bytes open a feeder
+ * of up to four concentrators and make a list of calls, with messages as sent, forged, damaged or of any bytes, with bits
+ * from a box or any others, with planted words, and with any windows. Then the journal of each state without planted words
+ * must give it back.
  * The archive is not instrumented, so what the fuzzer follows are the answers (see `note`).
  */
 #include "box.h"
+#include "calendar.h"
 #include "counters.h"
 #include "input.h"
 #include "kept.h"
@@ -357,7 +359,8 @@ static void call(struct input *in, struct opening *opening)
     case 10: deliver_raw(in); break;
     case 11: copy_from_all(in); break;
     case 12: plant(in); break;
-    case 13: record_coins(in, opening, code); break;
+    /* Of the four codes of a request to the box the last one is the calendar's. */
+    case 13: code == 0xed ? start_any(in) : record_coins(in, opening, code); break;
     case 14: reopen(in, opening, code >> 4 & 3); break;
     default:
         for (unsigned turns = 0; turns < 1600 && turn(code >> 4 & 3, PACK_MESSAGE_BYTES, 0); turns++) {
@@ -369,14 +372,12 @@ static void call(struct input *in, struct opening *opening)
 int LLVMFuzzerInitialize(int *count, char ***arguments)
 {
     (void)count, (void)arguments;
+    struct lent *const others[] = {&weights_lent,  &bytes_lent, &line_lent,   &named_lent,
+                                   &in_force_lent, &box_lent,   &windows_lent};
     for (unsigned p = 0; p < STATES; p++)
         lent_make(&state[p]);
-    lent_make(&weights_lent);
-    lent_make(&bytes_lent);
-    lent_make(&line_lent);
-    lent_make(&named_lent);
-    lent_make(&in_force_lent);
-    lent_make(&box_lent);
+    for (size_t k = 0; k < sizeof others / sizeof *others; k++)
+        lent_make(others[k]);
     return 0;
 }
 
