@@ -359,8 +359,13 @@ static void call(struct input *in, struct opening *opening)
     case 10: deliver_raw(in); break;
     case 11: copy_from_all(in); break;
     case 12: plant(in); break;
-    /* Of the four codes of a request to the box the last one is the calendar's. */
-    case 13: code == 0xed ? start_any(in) : record_coins(in, opening, code); break;
+    case 13:
+        /* Of the four codes of a request to the box the last one is the calendar's. */
+        if (code == 0xed)
+            start_any(in);
+        else
+            record_coins(in, opening, code);
+        break;
     case 14: reopen(in, opening, code >> 4 & 3); break;
     default:
         for (unsigned turns = 0; turns < 1600 && turn(code >> 4 & 3, PACK_MESSAGE_BYTES, 0); turns++) {
