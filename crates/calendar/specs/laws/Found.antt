@@ -11,7 +11,7 @@ use lib.Dec.{leb, ltb}
 use lib.ListN.{length}
 use borrow.Author.Tests.{ltb-true, leb-true}
 use Rattle.quorum.specs.laws.Bools.{and-left, and-right, and-both, or-left, or-right}
-use Rattle.calendar.specs.Calendar.{weekMinutes, windowRight, windowsRight, inWindow, allowed, firstOf}
+use Rattle.calendar.specs.Calendar.{weekMinutes, windowRight, windowsRight, inWindow, firstOf}
 use Rattle.calendar.specs.declared.Nearest.{Nearest}
 use Rattle.calendar.specs.declared.Nearest.the-variants.{Bad, After}
 use Rattle.calendar.specs.laws.Search.{distance, nearestFrom}

@@ -1,16 +1,16 @@
 -- How the code searches: each window by its distance from a minute of the week.
-use Prim.Native.Nat.{ℕ, zero, suc, _+_, _-_, _%_, _≤_, _<_, min}
-use mathlib.Core.Bool.{Bool, true, false, _&&_, _||_, not, cond}
+use Prim.Native.Nat.{ℕ, _+_, _-_, _≤_, _<_, min}
+use mathlib.Core.Bool.{Bool, true, false, cond}
 use mathlib.Core.List.{List, [], _∷_}
 use mathlib.Core.Path.{_≡_, refl, sym, ap, _∙_}
 use native.Mathlib.Decide.{decLt}
 use native.Mathlib.Omega.{arith}
-use lib.Dec.{leb, ltb}
+use lib.Dec.{ltb}
 use native.Mathlib.Numerals.{add-one}
 use lib.ListN.{length, getD, drop, drop-of-length-le}
 use lib.Seq.{drop-cons}
-use borrow.Author.Tests.{lt-ltb, le-ltb, not-true, not-false}
-use Rattle.calendar.specs.Calendar.{weekMinutes, windowRight, windowsRight, inWindow, allowed, firstOf}
+use borrow.Author.Tests.{lt-ltb, le-ltb}
+use Rattle.calendar.specs.Calendar.{weekMinutes, windowRight}
 use Rattle.calendar.specs.declared.Nearest.{Nearest}
 use Rattle.calendar.specs.declared.Nearest.the-variants.{Bad, After}
 

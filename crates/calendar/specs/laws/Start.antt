@@ -1,9 +1,9 @@
 -- The answers of the calendar, path by path, and what its minute is.
-use Prim.Native.Nat.{ℕ, _+_, _*_, _%_, _^_, _≤_, _<_}
-use mathlib.Core.Bool.{Bool, true, false, _&&_, cond, and-false}
+use Prim.Native.Nat.{ℕ, _+_, _*_, _%_, _≤_, _<_}
+use mathlib.Core.Bool.{true, false, _&&_, and-false}
 use mathlib.Core.List.{List}
 use mathlib.Core.Logic.{_⊎_, inl, inr}
-use mathlib.Core.Path.{_≡_, sym, ap, _∙_, subst}
+use mathlib.Core.Path.{_≡_, sym, _∙_}
 use native.Mathlib.Omega.{arith}
 use lib.Dec.{leb}
 use lib.ListN.{length}
@@ -11,7 +11,7 @@ use mir.Val.{Fits}
 use mir.Syntax.{w64}
 use borrow.Author.Tests.{le-leb, lt-leb}
 use Rattle.settings.specs.Refusals.{WINDOWS}
-use Rattle.calendar.specs.Calendar.{weekMinutes, maxWindows, maxClosing, maxLead, windowsRight, inWindow, allowed, firstOf, taken, startMinute, startOf}
+use Rattle.calendar.specs.Calendar.{weekMinutes, maxWindows, maxClosing, maxLead, windowsRight, inWindow, allowed, taken, startMinute, startOf}
 use Rattle.calendar.specs.declared.Start.the-variants.{Refused, Minute}
 use Rattle.calendar.specs.declared.Nearest.{Nearest}
 use Rattle.calendar.specs.declared.Nearest.the-variants.{Bad, After}
