@@ -39,6 +39,12 @@ withByte d c = record { state = d .state; number = d .number; begun = true; read
 pub data Drilling : Type 0 where
   drilling : (words store : List ℕ) (drill : Drill) → Drilling
 
+unfoldable pub wordsOf : Drilling → List ℕ
+wordsOf (drilling w m d) = w
+
+unfoldable pub storeOf : Drilling → List ℕ
+storeOf (drilling w m d) = m
+
 unfoldable pub settled : ℕ → World → Drilling
 settled number (world w m s) = drilling w m (nextLine s number)
 

@@ -3,7 +3,6 @@ pub mod JudgingCases
 pub mod Preparing
 pub mod PreparingCases
 pub mod ActingCases
-pub mod Feeding
 pub mod FeedingCases
 pub mod OutputCases
 pub mod Parts

@@ -8,8 +8,7 @@ ghost use mathlib.Core.Path.{_≡_};
 ghost use mathlib.Core.Bool.{cond};
 ghost use Rattle.text.specs.Paste.{Wrote};
 ghost use Rattle.drill_feeder.specs.Parts.{stateOf};
-ghost use Rattle.drill_core.specs.Feeding.{drilling, atEnd};
-ghost use Rattle.drill_core.specs.laws.Feeding.{wordsOf, storeOf};
+ghost use Rattle.drill_core.specs.Feeding.{drilling, atEnd, wordsOf, storeOf};
 ghost use Rattle.drill_core.specs.Output.{answerText, resultText, resultIf, results, summary, drillText, printed};
 
 fn flag(b: bool) -> u64

@@ -4,7 +4,7 @@ use mathlib.Core.Bool.{Bool, true, false, cond, _&&_}
 use mathlib.Core.List.{List, [], _∷_, _++_}
 use lib.ListN.{length}
 use lib.Dec.{eqb, leb, ltb}
-use Rattle.io.specs.Digits.{digits}
+use Rattle.io.specs.Digits.{digits, glyph}
 
 -- the value of a digit, `0` to `9` and then `a` to `f`, and 16 for any other byte
 unfoldable pub digitOf : ℕ → ℕ
@@ -75,3 +75,11 @@ decimalText n = decimalIn 20 n
 -- a pack in 16 hexadecimal digits (PROTOCOL 15.15)
 unfoldable pub hexText : ℕ → List ℕ
 hexText n = digits 16 16 n
+
+-- a word of 32 bits in 8 (PROTOCOL 11.4)
+unfoldable pub wordText : ℕ → List ℕ
+wordText n = digits 16 8 n
+
+-- a byte in 2 (PROTOCOL 11.5)
+unfoldable pub byteText : ℕ → List ℕ
+byteText b = glyph (b / 16) ∷ glyph (b % 16) ∷ []

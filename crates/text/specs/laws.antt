@@ -1,4 +1,3 @@
-pub mod Numbers
 pub mod Paste
 pub mod Each
 pub mod Digits

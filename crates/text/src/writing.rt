@@ -1,7 +1,6 @@
 // Text written into lent bytes. Each function writes from a place on, as far as the bytes go, and answers the place after it.
 ghost use mathlib.Core.List.{[], _∷_};
-ghost use Rattle.text.specs.Numbers.{decimalText, hexText};
-ghost use Rattle.text.specs.laws.Numbers.{wordText, byteText};
+ghost use Rattle.text.specs.Numbers.{decimalText, hexText, wordText, byteText};
 ghost use Rattle.io.specs.Digits.{glyph};
 ghost use Prim.Native.Nat.{_+_, _*_, _<_, _≤_};
 ghost use lib.ListN.{length};

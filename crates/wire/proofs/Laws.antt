@@ -14,7 +14,7 @@ use borrow.Rule.Slice.PartMut.{putMid}
 use borrow.Author.Tests.{lt-ltb, le-ltb, le-leb, lt-leb, eq-eqb, ne-eqb}
 use Rattle.wire.specs.Bytes.{be2, be4, be8, valueAt, values, risesFrom, rises, bytes2, bytes4, bytes8, valueBytes}
 use Rattle.wire.specs.Message.{SEND, ECHO, READY, EST, AUX, byKind, countOf, lengthOf, besides, valuesOf, headerFor, frontBytes, headerBytes, messageBytes, encode, atFront}
-use Rattle.wire.specs.laws.Message.{fitting, written, Wrote}
+use Rattle.wire.specs.Writing.{fitting, written, Wrote}
 use Rattle.wire.specs.declared.Message.{Message}
 use Rattle.wire.specs.declared.Message.the-variants.{Send, Echo, Ready, Est, Aux, Commit}
 use Rattle.wire.specs.declared.Header.{Header}

@@ -1,4 +1,5 @@
 pub mod Bytes
 pub mod Message
+pub mod Writing
 pub mod Reading
 pub mod laws

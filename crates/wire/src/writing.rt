@@ -10,7 +10,8 @@ ghost use Prim.Native.Nat.{_+_, _*_, _<_, _≤_};
 ghost use mathlib.Core.List.{[], _∷_, _++_};
 ghost use lib.ListN.{length, drop};
 ghost use Rattle.wire.specs.Message.{countOf, lengthOf, headerWith, headerFor, frontBytes, headerBytes, messageBytes};
-ghost use Rattle.wire.specs.laws.Message.{fitting, countedValues, written, Wrote};
+ghost use Rattle.wire.specs.Writing.{fitting, written, Wrote};
+ghost use Rattle.wire.specs.laws.Message.{countedValues};
 
 // Byte 5.
 fn count_of(m: Message) -> u8

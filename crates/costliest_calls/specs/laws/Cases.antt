@@ -10,7 +10,7 @@ use mir.Syntax.{w64}
 use borrow.Author.Tests.{eq-eqb, ne-eqb, lt-ltb, le-ltb, le-leb, lt-leb}
 use Rattle.records.specs.laws.Fill.{length-blank}
 use Rattle.wire.specs.Message.{instanceOf, roundOf, countOf, lengthOf, besides, encode, atFront}
-use Rattle.wire.specs.laws.Message.{written, Wrote}
+use Rattle.wire.specs.Writing.{written, Wrote}
 use Rattle.wire.specs.declared.Message.{Message}
 use Rattle.wire.specs.declared.Message.the-variants.{Send, Echo, Ready, Est, Aux, Commit}
 use Rattle.wire.proofs.Laws.{length-encode, written-whole}

@@ -19,8 +19,7 @@ use Rattle.text.specs.laws.Paste.{wrote-both}
 use Rattle.drill_feeder.specs.Parts.{stateOf}
 use Rattle.drill_feeder.specs.declared.Members.{Members}
 use Rattle.drill_core.specs.Judging.{afterSettings}
-use Rattle.drill_core.specs.Feeding.{Drilling, drilling}
-use Rattle.drill_core.specs.laws.Feeding.{wordsOf, storeOf}
+use Rattle.drill_core.specs.Feeding.{Drilling, drilling, wordsOf, storeOf}
 use Rattle.drill_core.specs.Output.{answerText, resultText, resultIf, results, summary, drillText, printed}
 use Rattle.drill_core.specs.declared.Drill.{Drill}
 

@@ -11,7 +11,7 @@ use Rattle.quorum.specs.laws.Bools.{not-passed, not-refused}
 use Rattle.quorum.specs.Marks.{mark}
 use Rattle.wire.specs.Bytes.{bytes2, bytes4, bytes8, valueBytes}
 use Rattle.wire.specs.Message.{headerWith, frontBytes, headerBytes, messageBytes, atFront}
-use Rattle.wire.specs.laws.Message.{fitting, Wrote}
+use Rattle.wire.specs.Writing.{fitting, Wrote}
 use Rattle.wire.specs.declared.Header.{Header}
 use Rattle.wire.specs.declared.Message.{Message}
 use Rattle.turn.specs.Turn.{turnOutcome, turnWords, turnBytes}

@@ -13,7 +13,7 @@ use Rattle.opening.specs.Opening.{openAnswer}
 use Rattle.opening.specs.laws.Cases.{accepted}
 use Rattle.delivery.specs.laws.Answers.{answer-short}
 use Rattle.delivery.specs.Delivery.{deliverAnswer}
-use Rattle.text.specs.laws.Numbers.{byteText}
+use Rattle.text.specs.Numbers.{byteText}
 use Rattle.text.specs.Fields.{eachText}
 use Rattle.text.specs.laws.Lengths.{decimal-length, figure-length, hex-length, word-length, bytes-length}
 use Rattle.journal.specs.Lines.{withEnd, openingLine, deliveryLine, recordingLine, turnLine}

@@ -5,8 +5,7 @@ use mathlib.Core.Path.{_≡_, refl, sym, ap, subst, _∙_}
 use lib.ListN.{length, replicate}
 use Rattle.io.specs.Digits.{digits, glyph}
 use Rattle.text.specs.Fields.{TAB, LF}
-use Rattle.text.specs.Numbers.{DECIMAL, WORD, decimalText, hexText}
-use Rattle.text.specs.laws.Numbers.{wordText, byteText}
+use Rattle.text.specs.Numbers.{DECIMAL, WORD, decimalText, hexText, wordText, byteText}
 use Rattle.text.specs.Paste.{Wrote}
 use Rattle.text.specs.laws.Paste.{wrote-both}
 use Rattle.text.specs.Fields.{eachText}

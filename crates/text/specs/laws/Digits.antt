@@ -12,8 +12,7 @@ use borrow.Author.Tests.{lt-ltb, le-ltb, le-leb, lt-leb, leb-true}
 use mir.Val.{Fits}
 use mir.Syntax.{w64}
 use Rattle.io.specs.Digits.{digits, glyph, Fewest}
-use Rattle.text.specs.Numbers.{decimalIn, decimalText, hexText}
-use Rattle.text.specs.laws.Numbers.{wordText, byteText}
+use Rattle.text.specs.Numbers.{decimalIn, decimalText, hexText, wordText, byteText}
 use Rattle.text.specs.Paste.{Wrote}
 use Rattle.text.specs.laws.Paste.{wrote-both, wrote-within}
 use Rattle.text.specs.Fields.{eachText}

@@ -8,8 +8,7 @@ use lib.Dec.{ltb}
 use lib.ListN.{length, length-append}
 use borrow.Author.Tests.{lt-ltb}
 use Rattle.io.specs.Digits.{digits, glyph}
-use Rattle.text.specs.Numbers.{decimalIn, decimalText, hexText}
-use Rattle.text.specs.laws.Numbers.{wordText, byteText}
+use Rattle.text.specs.Numbers.{decimalIn, decimalText, hexText, wordText, byteText}
 use Rattle.text.specs.Fields.{eachText}
 
 decimal-in : (k n : ℕ) → length (decimalIn k n) ≤ k

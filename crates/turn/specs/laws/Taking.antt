@@ -19,7 +19,7 @@ use Rattle.session.specs.declared.Session.{Session}
 use Rattle.session.specs.declared.Stored.{Stored}
 use Rattle.session.specs.declared.Stored.the-variants.{NoState, Held}
 use Rattle.wire.specs.Message.{countOf, besides, valuesOf, encode, atFront}
-use Rattle.wire.specs.laws.Message.{written, Wrote}
+use Rattle.wire.specs.Writing.{written, Wrote}
 use Rattle.wire.proofs.Laws.{written-whole}
 use Rattle.wire.specs.declared.Message.{Message}
 use Rattle.wire.specs.declared.Message.the-variants as message

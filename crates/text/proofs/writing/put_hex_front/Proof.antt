@@ -1,7 +1,7 @@
 -- `put_hex_front` writes byte by byte: after k turns the first k.
 use Prim.Native.Nat.{_-_}
 use lib.ListN.{length}
-use Rattle.text.specs.laws.Numbers.{byteText}
+use Rattle.text.specs.Numbers.{byteText}
 use Rattle.text.specs.laws.Each.{Each, each}
 use borrow.Author.Needs.{needs}
 use Rattle.text.proofs.writing.put_hex_front.Statement.{statement}

@@ -7,7 +7,8 @@ use lib.Seq.{length-take-le}
 use borrow.Author.Tests.{le-leb, lt-leb}
 use Rattle.wire.specs.declared.Header.{Header}
 use Rattle.wire.specs.Message.{messageBytes}
-use Rattle.wire.specs.laws.Message.{fitting, countedValues, Wrote}
+use Rattle.wire.specs.Writing.{fitting, Wrote}
+use Rattle.wire.specs.laws.Message.{countedValues}
 use Rattle.wire.proofs.Laws.{wrote-nothing}
 use borrow.Author.Needs.{needs}
 use Rattle.wire.proofs.writing.write_counted.Statement.{statement}

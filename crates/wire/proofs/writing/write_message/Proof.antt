@@ -9,7 +9,8 @@ use Rattle.wire.specs.declared.Message.{Message}
 use Rattle.wire.specs.declared.Message.the-variants.{Send, Echo, Ready, Est, Aux, Commit}
 use Rattle.wire.specs.declared.Header.{Header}
 use Rattle.wire.specs.Message.{besides, valuesOf, headerFor, messageBytes, encode}
-use Rattle.wire.specs.laws.Message.{fitting, countedValues, written, Wrote}
+use Rattle.wire.specs.Writing.{fitting, written, Wrote}
+use Rattle.wire.specs.laws.Message.{countedValues}
 use borrow.Author.Needs.{needs}
 use Rattle.wire.proofs.writing.write_message.Statement.{statement}
 use Rattle.wire.proofs.writing.write_message.Tie as tie

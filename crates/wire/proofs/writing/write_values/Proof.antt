@@ -7,7 +7,7 @@ use borrow.Rule.Slice.PartMut.{putMid}
 use Rattle.wire.specs.declared.Header.{Header}
 use Rattle.wire.specs.Bytes.{valueBytes}
 use Rattle.wire.specs.Message.{headerBytes, messageBytes}
-use Rattle.wire.specs.laws.Message.{fitting, Wrote}
+use Rattle.wire.specs.Writing.{fitting, Wrote}
 use Rattle.wire.proofs.Laws.{patch, length-header, length-valueBytes, wrote-short, wrote-fitting}
 use borrow.Author.Needs.{needs}
 use Rattle.wire.proofs.writing.write_values.Statement.{statement}
