@@ -1,0 +1,9 @@
+pub mod Fields
+pub mod Records
+pub mod Lines
+pub mod Converting
+pub mod Back
+pub mod Blocks
+pub mod Parts
+pub mod Stream
+pub mod laws
