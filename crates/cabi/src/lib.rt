@@ -1,7 +1,9 @@
-// The six calls of a concentrator's own program, which is written in C, the two of the coin box and the one of the calendar. Each answers
-// one number: specs/Answers.antt, Restored.antt, Replies.antt and Starts.antt have its bits.
+// The six calls of a concentrator's own program, which is written in C, the two of the coin box, the one of the calendar and the two that
+// convert delivery lists. Each answers one number: specs/Answers.antt, Restored.antt, Replies.antt, Starts.antt and Conversions.antt have
+// its bits.
 use calendar::Start;
 use coin_box::Reply;
+use csv::Conversion;
 use journal::Entry;
 use report::Answer;
 use report::Figures;
@@ -17,6 +19,7 @@ ghost use Rattle.journal.specs.Journal.{openEntry, openedWords, openedBytes, de
 ghost use Rattle.opening.specs.Given.{weightsWord};
 ghost use Rattle.opening.specs.Arguments.{arguments};
 ghost use Rattle.calendar.specs.Calendar.{startOf};
+ghost use Rattle.csv.specs.Converting.{drillOfCsv, csvOfDrill, conversion, bytesAfter};
 ghost use Rattle.coin_box.specs.Box.{boxOpenAnswer, boxOpened, requestReply, requestWords};
 ghost use Rattle.report.specs.Report.{reportAnswer, reportNamed, reportInForce};
 ghost use Rattle.restore.specs.Restoring.{restoreAnswer, restoredWords, restoredBytes};
@@ -25,6 +28,7 @@ ghost use Rattle.cabi.specs.Answers.{entryNumber, outcomeNumber, figures
 ghost use Rattle.cabi.specs.Restored.{restoredNumber};
 ghost use Rattle.cabi.specs.Replies.{bitValue, replyNumber};
 ghost use Rattle.cabi.specs.Starts.{startNumber};
+ghost use Rattle.cabi.specs.Conversions.{conversionNumber};
 ghost use Rattle.cabi.specs.laws.Cases.{lineLength, messageLength};
 ghost use Rattle.cabi.specs.laws.Starts.{minuteOf};
 
@@ -40,8 +44,8 @@ const BIT_24: u64 = 16777216;
 // .. at bit 32.
 const BIT_32: u64 = 4294967296;
 
-// A line's number is cut to 56 bits.
-const LINE_LIMIT: u64 = 72057594037927936;
+// A number in bits 8 to 63 is cut to those 56 bits.
+const BIT_56: u64 = 72057594037927936;
 
 // A turn's outcome in bits 8 to 15; idle is 0.
 const SENT: u64 = 256;
@@ -181,7 +185,7 @@ fn restored_number(a: Restored) -> u64
 {
     match a {
         Restored::Refused(k) => k,
-        Restored::Journal(line) => refusal::JOURNAL + BIT_8 * (line % LINE_LIMIT),
+        Restored::Journal(line) => refusal::JOURNAL + BIT_8 * (line % BIT_56),
         Restored::Given(m, bytes) => {
             BIT_8 * given_again(m) + BIT_16 * m + BIT_32 * (bytes % BIT_32)
         }
@@ -255,4 +259,32 @@ pub extern "C" fn pack_start_minute(windows: &[u32], closing: u64, lead: u64) ->
     ensures { λ r. ⌜ r ≡ startNumber (startOf (now (windows .entry)) closing lead) ⌝ }
 {
     start_number(calendar::start_minute(windows, closing, lead))
+}
+
+fn conversion_number(x: Conversion) -> u64
+    ensures { λ r. ⌜ r ≡ conversionNumber x ⌝ }
+{
+    match x {
+        Conversion::Record(n) => refusal::RECORD + BIT_8 * (n % BIT_56),
+        Conversion::Short => refusal::SHORT,
+        Conversion::Written(n) => BIT_8 * (n as u64 % BIT_56),
+    }
+}
+
+// Turns RFC 4180 records into drill lines.
+#[no_mangle]
+pub extern "C" fn pack_csv_to_drill(records: &[u8], lines: &mut [u8]) -> u64
+    ensures answer { λ r. ⌜ r ≡ conversionNumber (conversion (drillOfCsv (now (records .entry))) (length (now (lines .entry)))) ⌝ }
+    ensures bytes { λ _. ⌜ now (lines .exit) ≡ bytesAfter (drillOfCsv (now (records .entry))) (now (lines .entry)) ⌝ }
+{
+    conversion_number(csv::csv_to_drill(records, lines))
+}
+
+// Turns drill lines into RFC 4180 records.
+#[no_mangle]
+pub extern "C" fn pack_drill_to_csv(lines: &[u8], records: &mut [u8]) -> u64
+    ensures answer { λ r. ⌜ r ≡ conversionNumber (conversion (csvOfDrill (now (lines .entry))) (length (now (records .entry)))) ⌝ }
+    ensures bytes { λ _. ⌜ now (records .exit) ≡ bytesAfter (csvOfDrill (now (lines .entry))) (now (records .entry)) ⌝ }
+{
+    conversion_number(csv::drill_to_csv(lines, records))
 }

@@ -51,6 +51,10 @@ HELD = 11
 abbrev pub WINDOWS : ℕ
 WINDOWS = 12
 
+-- a record or line that is not taken; it has its number beside it (PROTOCOL 10.25)
+abbrev pub RECORD : ℕ
+RECORD = 13
+
 -- no complete line, or one that cannot be applied; it has the line's number beside it (PROTOCOL 10.12)
 abbrev pub JOURNAL : ℕ
 JOURNAL = 15

@@ -25,6 +25,8 @@ pub const CLOSED: u64 = 10;
 pub const HELD: u64 = 11;
 // Windows of a calendar, a closing minute or a lead outside the rules.
 pub const WINDOWS: u64 = 12;
+// A record or line that cannot be converted.
+pub const RECORD: u64 = 13;
 // No complete opening line, or a complete line of the journal that cannot be applied.
 pub const JOURNAL: u64 = 15;
 // A bit that cannot be recorded: the session is printed, there is no such vote or round, the bit is above 1 or against the one
