@@ -10,10 +10,13 @@ use Rattle.coin_box.specs.Box.{boxOpenAnswer, boxOpened, requestReply, requestW
 use Rattle.turn.specs.Turn.{turnOutcome, turnWords}
 use Rattle.journal.specs.Journal.{openEntry, openedWords, openedBytes, deliverEntry, deliveredWords, deliveredBytes, recordEntry, recordWords, recordBytes, turnRoom, turnedMessage, turnedLine}
 use Rattle.restore.specs.Restoring.{restoreAnswer, restoredWords, restoredBytes}
+use Rattle.csv.specs.Fields.{Outcome}
+use Rattle.csv.specs.Converting.{drillOfCsv, csvOfDrill, conversion, bytesAfter}
 use Rattle.report.specs.Report.{reportAnswer, reportNamed, reportInForce}
 use Rattle.cabi.specs.Answers.{entryNumber, outcomeNumber, reportNumber}
 use Rattle.cabi.specs.Restored.{restoredNumber}
 use Rattle.cabi.specs.Replies.{replyNumber}
+use Rattle.cabi.specs.Conversions.{conversionNumber}
 use Rattle.call_laws.specs.Parts.{Refused}
 
 abbrev pub OpeningKeeps : Type 0
@@ -60,6 +63,9 @@ RequestKeeps =
     (s : List ℕ) (requester vote round : ℕ) → Refused (replyNumber (requestReply s requester vote round)) →
     requestWords s requester vote round ≡ s
 
+abbrev pub ConversionKeeps : (List ℕ → Outcome (List ℕ)) → Type 0
+ConversionKeeps convert = (text lent : List ℕ) → Refused (conversionNumber (conversion (convert text) (length lent))) → bytesAfter (convert text) lent ≡ lent
+
 pub record RefusalsKeep : Type 0 where
   pub opening : OpeningKeeps
   pub delivery : DeliveryKeeps
@@ -69,3 +75,5 @@ pub record RefusalsKeep : Type 0 where
   pub restore : RestoreKeeps
   pub box-opening : BoxOpeningKeeps
   pub request : RequestKeeps
+  pub csv-to-drill : ConversionKeeps drillOfCsv
+  pub drill-to-csv : ConversionKeeps csvOfDrill

@@ -52,3 +52,11 @@ lineOf r = r / 2 ^ 8
 -- pack_minute_of
 abbrev pub minuteOf : ℕ → ℕ
 minuteOf r = r / 2 ^ 32 % 2 ^ 32
+
+-- pack_record_of
+abbrev pub recordOf : ℕ → ℕ
+recordOf r = r / 2 ^ 8
+
+-- pack_written_of
+abbrev pub writtenOf : ℕ → ℕ
+writtenOf r = r / 2 ^ 8

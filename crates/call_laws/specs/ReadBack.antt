@@ -5,7 +5,7 @@ use mathlib.Core.List.{List}
 use mathlib.Core.Path.{_≡_}
 use lib.Dec.{ltb}
 use lib.ListN.{length}
-use Rattle.settings.specs.Refusals.{JOURNAL}
+use Rattle.settings.specs.Refusals.{SHORT, RECORD, JOURNAL}
 use Rattle.opening.specs.Given.{weightsWord}
 use Rattle.opening.specs.Arguments.{Arguments}
 use Rattle.wire.specs.Message as wire
@@ -28,11 +28,15 @@ use Rattle.coin_box.specs.declared.Reply.the-variants as box
 use Rattle.calendar.specs.Calendar.{startOf}
 use Rattle.calendar.specs.declared.Start.{Start}
 use Rattle.calendar.specs.declared.Start.the-variants as calendar
+use Rattle.csv.specs.Converting.{drillOfCsv, csvOfDrill, conversion}
+use Rattle.csv.specs.declared.Conversion.{Conversion}
+use Rattle.csv.specs.declared.Conversion.the-variants as csv
 use Rattle.cabi.specs.Answers.{entryNumber, outcomeNumber, reportNumber}
 use Rattle.cabi.specs.Restored.{restoredNumber}
 use Rattle.cabi.specs.Replies.{replyNumber}
 use Rattle.cabi.specs.Starts.{startNumber}
-use Rattle.call_laws.specs.Parts.{refusalOf, outcomeOf, exitOf, toldOf, lengthOf, namedOf, bitOf, inForceOf, turnsOf, completeOf, lineOf, minuteOf}
+use Rattle.cabi.specs.Conversions.{conversionNumber}
+use Rattle.call_laws.specs.Parts.{refusalOf, outcomeOf, exitOf, toldOf, lengthOf, namedOf, bitOf, inForceOf, turnsOf, completeOf, lineOf, minuteOf, recordOf, writtenOf}
 
 -- the number r is read as the refusal k, and as nothing else
 pub record Refusal (r k : ℕ) : Type 0 where
@@ -82,6 +86,16 @@ pub record Starts (r m : ℕ) : Type 0 where
   pub accepted : refusalOf r ≡ 0
   pub minute : minuteOf r ≡ m
 
+-- as n bytes that a conversion wrote into `size` lent ones
+pub record Writes (size r n : ℕ) : Type 0 where
+  pub accepted : refusalOf r ≡ 0
+  pub written : size < 2 ^ 56 → writtenOf r ≡ n
+
+-- as record or line k of a text of `size` bytes, which is not taken
+pub record NotTaken (size r k : ℕ) : Type 0 where
+  pub refused : refusalOf r ≡ RECORD
+  pub number : size < 2 ^ 56 → recordOf r ≡ k
+
 -- ---- the number r is read as an answer
 
 abbrev pub EntryAs : ℕ → Entry → Type 0
@@ -114,6 +128,12 @@ abbrev pub StartAs : ℕ → Start → Type 0
 StartAs r (calendar.Refused k) = Refusal r k
 StartAs r (calendar.Minute m) = Starts r m
 
+-- a text of `text` bytes into `lent` ones
+abbrev pub ConversionAs : (text lent : ℕ) → ℕ → Conversion → Type 0
+ConversionAs text lent r (csv.Record k) = NotTaken text r k
+ConversionAs text lent r csv.Short = Refusal r SHORT
+ConversionAs text lent r (csv.Written n) = Writes lent r n
+
 -- ---- the number of an answer is read as that answer
 
 abbrev pub EntryBack : Entry → Type 0
@@ -134,6 +154,9 @@ ReplyBack x = ReplyAs (replyNumber x) x
 abbrev pub StartBack : Start → Type 0
 StartBack x = StartAs (startNumber x) x
 
+abbrev pub ConversionBack : (text lent : ℕ) → Conversion → Type 0
+ConversionBack text lent x = ConversionAs text lent (conversionNumber x) x
+
 -- opening a box answers 0 or its refusal
 abbrev pub NumberBack : ℕ → Type 0
 NumberBack k = (refusalOf k ≡ k) × (k / 2 ^ 8 ≡ 0)
@@ -149,3 +172,5 @@ pub record AnswersReadBack : Type 0 where
   pub box-opening : (words n ta ts : ℕ) (weights : List ℕ) (coins : ℕ) → NumberBack (boxOpenAnswer words n ta ts (weightsWord n weights) coins)
   pub request : (s : List ℕ) (requester vote round : ℕ) → ReplyBack (requestReply s requester vote round)
   pub start : (windows : List ℕ) (closing lead : ℕ) → StartBack (startOf windows closing lead)
+  pub csv-to-drill : (text : List ℕ) (lent : ℕ) → ConversionBack (length text) lent (conversion (drillOfCsv text) lent)
+  pub drill-to-csv : (text : List ℕ) (lent : ℕ) → ConversionBack (length text) lent (conversion (csvOfDrill text) lent)

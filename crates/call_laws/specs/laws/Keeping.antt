@@ -36,11 +36,15 @@ use Rattle.report.specs.declared.Admitted.the-variants as report-admitted
 use Rattle.restore.specs.Complete.{linesOf, joined}
 use Rattle.restore.specs.Restoring.{Replay, wrong, right, replay, replayAnswer, replayWords, replayBytes, lentAnswer, restoreAnswer, restoredWords, restoredBytes}
 use Rattle.restore.specs.declared.Restored.the-variants as restore
+use Rattle.csv.specs.Fields as csv
+use Rattle.csv.specs.Converting.{drillOfCsv, csvOfDrill, conversion, bytesAfter}
+use Rattle.csv.specs.declared.Conversion.the-variants as converted
 use Rattle.cabi.specs.Answers.{entryNumber, outcomeNumber}
 use Rattle.cabi.specs.Restored.{restoredNumber}
 use Rattle.cabi.specs.Replies.{replyNumber}
+use Rattle.cabi.specs.Conversions.{conversionNumber}
 use Rattle.call_laws.specs.Parts.{Refused}
-use Rattle.call_laws.specs.Keeping.{OpeningKeeps, DeliveryKeeps, RecordingKeeps, TurnKeeps, ReportKeeps, RestoreKeeps, BoxOpeningKeeps, RequestKeeps, RefusalsKeep}
+use Rattle.call_laws.specs.Keeping.{OpeningKeeps, DeliveryKeeps, RecordingKeeps, TurnKeeps, ReportKeeps, RestoreKeeps, BoxOpeningKeeps, RequestKeeps, ConversionKeeps, RefusalsKeep}
 use Rattle.call_laws.specs.laws.Turns.{taken, act-taken}
 
 -- ---- calls with a line
@@ -143,6 +147,20 @@ request-keeps s requester vote round h = go (asks s requester vote round) (unsea
     go true false r = absurd (r refl)
     go false b r = refl
 
+-- ---- conversions
+
+conversion-keeps : (convert : List ℕ → csv.Outcome (List ℕ)) → ConversionKeeps convert
+unfolding conversion bytesAfter
+conversion-keeps convert text lent = go (convert text)
+  where
+    fits : (b : Bool) (n : ℕ) (after : List ℕ) → Refused (conversionNumber (cond b converted.Short (converted.Written n))) → cond b lent after ≡ lent
+    fits true n after r = refl
+    fits false n after r = absurd (r (omega arith))
+
+    go : (x : csv.Outcome (List ℕ)) → Refused (conversionNumber (conversion x (length lent))) → bytesAfter x lent ≡ lent
+    go (csv.bad n) r = refl
+    go (csv.good t) r = fits (ltb (length lent) (length t)) (length t) _ r
+
 pub refusals-keep : RefusalsKeep
 refusals-keep =
     record {
@@ -154,4 +172,6 @@ refusals-keep =
       restore = restore-keeps;
       box-opening = box-opening-keeps;
       request = request-keeps;
+      csv-to-drill = conversion-keeps drillOfCsv;
+      drill-to-csv = conversion-keeps csvOfDrill;
     }

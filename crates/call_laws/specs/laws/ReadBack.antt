@@ -7,7 +7,7 @@ use native.Mathlib.Omega.{arith}
 use native.Mathlib.Nat.{mod-eq-of-lt}
 use lib.Dec.{eqb, ltb}
 use lib.ListN.{length}
-use borrow.Author.Tests.{eqb-false}
+use borrow.Author.Tests.{eqb-false, ltb-false}
 use Rattle.settings.specs.Refusals.{SHORT, NO-STATE, CLOSED, WINDOWS, COIN}
 use Rattle.settings.specs.declared.Settings.{Settings}
 use Rattle.records.specs.Records.{closed, coin}
@@ -38,8 +38,12 @@ use Rattle.report.specs.declared.Answer.the-variants as report
 use Rattle.restore.specs.Complete.{linesOf, joined}
 use Rattle.restore.specs.Restoring.{Replay, wrong, right, replay, lengthAgain, replayAnswer, lentAnswer, restoreAnswer}
 use Rattle.restore.specs.declared.Restored.the-variants as restore
+use Rattle.csv.specs.Fields as csv
+use Rattle.csv.specs.Converting.{drillOfCsv, csvOfDrill, conversion}
+use Rattle.csv.specs.declared.Conversion.the-variants as converted
+use Rattle.csv.specs.laws.Numbers as numbers
 use Rattle.cabi.specs.laws.Cases.{lineLength, open-few, deliver-few, record-few, sent-few, messageLength, restore-few}
-use Rattle.call_laws.specs.ReadBack.{Refusal, EntryBack, OutcomeBack, ReportBack, RestoredBack, ReplyBack, NumberBack, StartBack, AnswersReadBack}
+use Rattle.call_laws.specs.ReadBack.{Refusal, EntryBack, OutcomeBack, ReportBack, RestoredBack, ReplyBack, NumberBack, StartBack, ConversionBack, AnswersReadBack}
 use Rattle.call_laws.specs.laws.Refusals.{Fits, open-fits, box-fits, record-fits, line-fits, deliver-fits, lent-fits}
 use Rattle.call_laws.specs.laws.Turns.{taken, act-taken}
 use Rattle.call_laws.specs.laws.Figures.{Small, figures-small}
@@ -196,6 +200,21 @@ start-back ws c l = go (windows.taken ws c l) refl
     go true t = let small = start-below ws c l t in record { accepted = omega arith; minute = omega (arith, small, mod-eq-of-lt small) }
     go false t = refusal-back WINDOWS (omega arith) (omega arith)
 
+-- ---- conversions
+
+conversion-back : (text lent : ℕ) (x : csv.Outcome (List ℕ)) → numbers.Among text x → ConversionBack text lent (conversion x lent)
+unfolding conversion numbers.Among
+conversion-back text lent (csv.bad k) a =
+    let few : k ≤ text = a in
+    record { refused = omega arith; number = λ l. let small : k < 2 ^ 56 = omega arith in omega (arith, mod-eq-of-lt small) }
+conversion-back text lent (csv.good t) a = go (ltb lent (length t)) refl
+  where
+    go : (b : Bool) → ltb lent (length t) ≡ b → ConversionBack text lent (cond b converted.Short (converted.Written (length t)))
+    go true e = refusal-back SHORT (omega arith) (omega arith)
+    go false e =
+        let few : length t ≤ lent = ltb-false lent (length t) e in
+        record { accepted = omega arith; written = λ l. let small : length t < 2 ^ 56 = omega arith in omega (arith, mod-eq-of-lt small) }
+
 pub answers-read-back : AnswersReadBack
 answers-read-back =
     record {
@@ -208,4 +227,6 @@ answers-read-back =
       box-opening = box-opening-back;
       request = request-back;
       start = start-back;
+      csv-to-drill = λ text lent. conversion-back (length text) lent (drillOfCsv text) (numbers.record-among text);
+      drill-to-csv = λ text lent. conversion-back (length text) lent (csvOfDrill text) (numbers.line-among text);
     }
