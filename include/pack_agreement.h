@@ -79,6 +79,22 @@
  *     the same lead. The calendar does not know when others closed, and each closes in its own minute: two closing minutes,
  *     one just before the end of a window and one just after it, may give starts up to a week apart.
  *
+ * DELIVERY LISTS are kept by an office as records of RFC 4180; the drill reads lines. pack_csv_to_drill turns records into
+ * lines and pack_drill_to_csv lines into records, field by field, whatever the fields mean. Both read a text and write into
+ * bytes that the caller lends; they use no state, and no other call looks at what they answer.
+ *   - A record ends with CR LF or with LF, outside quotes; the last one may lack its end. A comma outside quotes stands
+ *     between any two fields. A field has no quote and is its bytes, or it stands in quotes from its first byte to its last,
+ *     every quote between them doubled, and is what stands between them, with one quote for each two. Any other quote is
+ *     broken. A CR outside quotes that no LF follows is a byte of its field, and spaces are bytes like others.
+ *   - A line ends with LF; the last one may lack it. A tab stands between any two fields, and a quote is a byte like others.
+ *   - A text without bytes has no record and no line. An empty record or line has one field, which is empty.
+ *   - A record or line is taken if it has no broken quote, at most 16 fields, no field over 64 bytes, the quotes undone, and
+ *     no field with a tab, CR or LF. Where one is not taken nothing is written for any.
+ *   - Records are written with CR LF behind each, and a field stands in quotes only where it has a comma or a quote. Lines
+ *     are written with LF behind each.
+ *   - There and back: lines that are taken, each ended by LF, turned to records and back are the same bytes. Records that
+ *     are taken, turned to lines and back, have the same fields. What one direction writes the other takes.
+ *
  * docs/HOST.md has more on what a host owes, and a session in which two did not keep it.
  */
 #ifndef PACK_AGREEMENT_H
@@ -143,8 +159,8 @@ extern "C" {
 
 /*
  * What a call answers: one number, taken apart by the functions at the end. Bits 0 to 7 are 0 where it was accepted, else
- * the number of the refusal; a refusal sets no other bit, but for the line's number with PACK_REFUSED_JOURNAL, and leaves
- * state and buffers as they were.
+ * the number of the refusal; a refusal sets no other bit, but for the number of a line with PACK_REFUSED_JOURNAL and of a
+ * record or line with PACK_REFUSED_RECORD, and leaves state and buffers as they were.
  * It is a struct so that an answer compared with a refusal or an outcome does not compile. It travels as a uint64_t does,
  * in the same register, and other languages may declare it as one.
  */
@@ -176,7 +192,7 @@ enum pack_refusal {
     PACK_REFUSED_VALUE = 7,
     /*
      * A turn or restore lent under 140 bytes for the message, an opening, delivery, turn or recording lent under 512 bytes
-     * for the line, a report lent under 16 words for either set.
+     * for the line, a report lent under 16 words for either set, a conversion lent fewer bytes than it would write.
      */
     PACK_REFUSED_SHORT = 8,
     /* Not PACK_STATE_WORDS words, or stored numbers that no session has; opening a box, not PACK_BOX_WORDS words. */
@@ -190,6 +206,8 @@ enum pack_refusal {
      * or lead over its limit.
      */
     PACK_REFUSED_WINDOWS = 12,
+    /* Conversion: a record or line that is not taken. */
+    PACK_REFUSED_RECORD = 13,
     /* A journal without a complete opening line, or with a complete line that cannot be applied. */
     PACK_REFUSED_JOURNAL = 15,
     /*
@@ -340,6 +358,26 @@ pack_answer pack_box_request(uint64_t *box, size_t words, uint64_t requester, ui
 PACK_MUST_USE
 pack_answer pack_start_minute(const uint32_t *windows, size_t numbers, uint64_t closing, uint64_t lead);
 
+/*
+ * Turns records into lines. The whole text is read before a byte is written. The lines stand at the front of the lent bytes;
+ * the others keep their value.
+ * Answer: bits 8 to 63 the number of bytes written, modulo 2^56. With PACK_REFUSED_RECORD they are the number of the first
+ * record, from 1, that is not taken, modulo 2^56.
+ * Refusals, in this order: PACK_REFUSED_RECORD, PACK_REFUSED_SHORT where the lines have more than capacity bytes.
+ */
+PACK_MUST_USE
+pack_answer pack_csv_to_drill(const uint8_t *records, size_t length, uint8_t *lines, size_t capacity);
+
+/*
+ * Turns lines into records. The whole text is read before a byte is written. The records stand at the front of the lent
+ * bytes; the others keep their value.
+ * Answer: bits 8 to 63 the number of bytes written, modulo 2^56. With PACK_REFUSED_RECORD they are the number of the first
+ * line, from 1, that is not taken, modulo 2^56.
+ * Refusals, in this order: PACK_REFUSED_RECORD, PACK_REFUSED_SHORT where the records have more than capacity bytes.
+ */
+PACK_MUST_USE
+pack_answer pack_drill_to_csv(const uint8_t *lines, size_t length, uint8_t *records, size_t capacity);
+
 /* The parts of an answer. */
 
 /* PACK_ACCEPTED, or why the call was refused. */
@@ -378,8 +416,14 @@ static inline unsigned pack_bit_of(pack_answer request) { return (unsigned)(requ
 /* The minute that the calendar names. */
 static inline uint32_t pack_minute_of(pack_answer start) { return (uint32_t)(start.number >> 32); }
 
+/* The bytes that a conversion wrote, modulo 2^56. */
+static inline size_t pack_written_of(pack_answer conversion) { return (size_t)(conversion.number >> 8); }
+
 /* The line that is refused with PACK_REFUSED_JOURNAL. */
 static inline uint64_t pack_line_of(pack_answer restore) { return restore.number >> 8; }
+
+/* The record or line that is refused with PACK_REFUSED_RECORD, modulo 2^56. */
+static inline uint64_t pack_record_of(pack_answer conversion) { return conversion.number >> 8; }
 
 /* Words for printing. */
 
@@ -400,6 +444,7 @@ static inline const char *pack_refusal_name(enum pack_refusal refusal)
     case PACK_REFUSED_CLOSED: return "CLOSED";
     case PACK_REFUSED_HELD: return "HELD";
     case PACK_REFUSED_WINDOWS: return "WINDOWS";
+    case PACK_REFUSED_RECORD: return "RECORD";
     case PACK_REFUSED_JOURNAL: return "JOURNAL";
     case PACK_REFUSED_COIN: return "COIN";
     }

@@ -1,4 +1,7 @@
-/* A session of one concentrator over the header alone, and a start; this is C and C++. Prints how it went. */
+/*
+ * A session of one concentrator over the header alone, a start, and a delivery list there and back; this is C and C++.
+ * Prints how it went.
+ */
 #include "pack_agreement.h"
 
 #include <stdio.h>
@@ -44,6 +47,29 @@ static int start_latest(void)
     return 0;
 }
 
+/* A line to its record and back. */
+static int convert_list(void)
+{
+    static const uint8_t given[] = {'a', '\t', 'b', ',', '"', '\n'};
+    uint8_t record[16], back[sizeof given];
+    pack_answer there = pack_drill_to_csv(given, sizeof given, record, sizeof record);
+    if (pack_refusal_of(there) != PACK_ACCEPTED)
+        return refused(there);
+    pack_answer here = pack_csv_to_drill(record, pack_written_of(there), back, sizeof back);
+    if (pack_refusal_of(here) != PACK_ACCEPTED)
+        return refused(here);
+    int same = pack_written_of(here) == sizeof given;
+    for (size_t k = 0; same && k < sizeof given; k++)
+        same = back[k] == given[k];
+    /* Without its CR LF. */
+    printf("%u bytes: %.*s\n", (unsigned)pack_written_of(there), (int)pack_written_of(there) - 2, (const char *)record);
+    printf("%s\n", same ? "the same line" : "another line");
+    pack_answer open_quote = pack_csv_to_drill((const uint8_t *)"\n\"", 2, back, sizeof back);
+    printf("record %u: ", (unsigned)pack_record_of(open_quote));
+    (void)refused(open_quote);
+    return 0;
+}
+
 int main(void)
 {
     static const uint32_t coins[1] = {1};
@@ -58,5 +84,7 @@ int main(void)
     pack_answer report = pack_report(state, PACK_STATE_WORDS, named, PACK_SET_WORDS, in_force, PACK_SET_WORDS);
     printf("%u turns, %u in force: %u\n", (unsigned)pack_turns_of(report), (unsigned)pack_in_force_of(report),
            (unsigned)in_force[0]);
-    return pack_refusal_of(report) == PACK_ACCEPTED ? start_latest() : refused(report);
+    if (pack_refusal_of(report) != PACK_ACCEPTED)
+        return refused(report);
+    return start_latest() == 0 ? convert_list() : 1;
 }

@@ -66,5 +66,11 @@ int main(void)
 #elif MISTAKE == 15 /* a start that nobody looks at */
     pack_start_minute(0, 0, 0, 0);
     return pack_refusal_of(turn()) != PACK_ACCEPTED;
+#elif MISTAKE == 16 /* records turned to lines, and nobody looks whether */
+    pack_csv_to_drill(message, 0, line, 0);
+    return pack_refusal_of(turn()) != PACK_ACCEPTED;
+#elif MISTAKE == 17 /* lines turned to records, likewise */
+    pack_drill_to_csv(message, 0, line, 0);
+    return pack_refusal_of(turn()) != PACK_ACCEPTED;
 #endif
 }
