@@ -172,7 +172,7 @@ pub(crate) fn checked(state: &mut Words, call: impl FnOnce(*mut u64, usize) -> u
 }
 
 /// Lends a guarded copy of a buffer that the call may write, and checks that a refusal leaves it as it was.
-fn lend<T: Copy + PartialEq>(
+pub(crate) fn lend<T: Copy + PartialEq>(
     buffer: &mut [T],
     guard: T,
     call: impl FnOnce(*mut T, usize) -> u64,

@@ -1,5 +1,5 @@
-//! A second, independent implementation of the pack agreement engine (document 01, with N1, N8 and N10 to N12 of document
-//! 02), as a check on the proved one. Each module follows one section of document 01, or one request of 02.
+//! A second, independent implementation of the pack agreement engine (document 01, with N1, N5, N8 and N10 to N12 of
+//! document 02), as a check on the proved one. Each module follows one section of document 01, or one request of 02.
 
 pub mod attack;
 pub mod box_engine;
@@ -9,6 +9,8 @@ pub mod c_box;
 #[cfg(feature = "c-engine")]
 pub mod c_calendar;
 #[cfg(feature = "c-engine")]
+pub mod c_delivery_lists;
+#[cfg(feature = "c-engine")]
 pub mod c_engine;
 pub mod calendar;
 pub mod calendar_engine;
@@ -16,6 +18,8 @@ pub mod coin_box;
 mod coins;
 mod commits;
 pub mod compare;
+pub mod delivery_list_engine;
+pub mod delivery_lists;
 pub mod drill;
 pub mod engine;
 pub mod exits;

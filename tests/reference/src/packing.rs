@@ -2,6 +2,7 @@
 //! Bits 0-7 hold the refusal, and 0 if the call was accepted.
 
 use crate::coin_box::Reply;
+use crate::delivery_lists::NotConverted;
 use crate::exits::Exit;
 use crate::journal::{NotRestored, Restored};
 use crate::message::{Message, HEAD};
@@ -79,6 +80,15 @@ pub fn pack_start(answer: &Result<u64, Refusal>) -> u64 {
     match answer {
         Ok(minute) => minute << 32,
         Err(refusal) => u64::from(refusal.number()),
+    }
+}
+
+/// A conversion: bits 8-63 the bytes written. With RECORD, the number of the record or line.
+pub fn pack_conversion(answer: &Result<usize, NotConverted>) -> u64 {
+    match answer {
+        Ok(written) => (*written as u64) << 8,
+        Err(NotConverted::Record { number }) => u64::from(Refusal::Record.number()) | number << 8,
+        Err(NotConverted::Short) => u64::from(Refusal::Short.number()),
     }
 }
 

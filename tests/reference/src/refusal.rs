@@ -19,6 +19,8 @@ pub enum Refusal {
     Held = 11,
     /// 02, N1.
     Windows = 12,
+    /// 02, N5.
+    Record = 13,
     /// 02, N10.
     Journal = 15,
     /// 02, N12.
@@ -26,7 +28,7 @@ pub enum Refusal {
 }
 
 impl Refusal {
-    pub const ALL: [Refusal; 14] = [
+    pub const ALL: [Refusal; 15] = [
         Refusal::Settings,
         Refusal::Length,
         Refusal::Kind,
@@ -39,6 +41,7 @@ impl Refusal {
         Refusal::Closed,
         Refusal::Held,
         Refusal::Windows,
+        Refusal::Record,
         Refusal::Journal,
         Refusal::Coin,
     ];
@@ -67,6 +70,7 @@ impl Refusal {
             Refusal::Closed => "CLOSED",
             Refusal::Held => "HELD",
             Refusal::Windows => "WINDOWS",
+            Refusal::Record => "RECORD",
             Refusal::Journal => "JOURNAL",
             Refusal::Coin => "COIN",
         }

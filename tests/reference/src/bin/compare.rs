@@ -10,15 +10,17 @@ use pack_reference::c_box::check_box_word_counts;
 use pack_reference::c_engine::{check_word_counts, CEngine};
 use pack_reference::coin_box::BoxOpening;
 use pack_reference::compare::{
-    damaged_deliveries, edge_calendars, edge_recordings, foreign_boxes, foreign_calls,
-    longest_sessions, random_boxes, random_calendars, random_calls, restores,
-    two_weeks_of_closings, unnamed_openings,
+    damaged_deliveries, edge_calendars, edge_delivery_lists, edge_recordings, foreign_boxes,
+    foreign_calls, longest_sessions, random_boxes, random_calendars, random_calls,
+    random_delivery_lists, restores, short_delivery_lists, two_weeks_of_closings, unnamed_openings,
 };
 use pack_reference::engine::{Lockstep, Reference};
 use pack_reference::Opening;
 
 /// Random calendars at least.
 const CALENDARS: u64 = 1_000_000;
+/// Random delivery lists at least. Each takes several calls.
+const DELIVERY_LISTS: u64 = 200_000;
 
 fn main() -> ExitCode {
     let arguments: Vec<u64> =
@@ -46,6 +48,10 @@ fn main() -> ExitCode {
     note("calendars on the edge", &edge_calendars(&engine));
     note("closings of two weeks", &two_weeks_of_closings(&engine));
     note("random calendars", &random_calendars(&engine, seed, calls.max(CALENDARS)));
+    note("short delivery lists", &short_delivery_lists(&engine, 6));
+    note("delivery lists on the edge", &edge_delivery_lists(&engine));
+    let lists = DELIVERY_LISTS.max(calls / 4);
+    note("random delivery lists", &random_delivery_lists(&engine, seed, lists));
     note("random calls", &random_calls(&engine, seed, calls));
     note("planted words", &foreign_calls(&CEngine, &CEngine, seed, foreign));
     note("planted boxes", &foreign_boxes(&CEngine, &CEngine, seed, foreign));

@@ -1,10 +1,11 @@
 //! Calls for a comparison of two engines in lockstep: random ones, damaged messages, openings with ta unnamed, recordings,
-//! restores, coin boxes, calendars, and words that no engine wrote.
+//! restores, coin boxes, calendars, delivery lists, and words that no engine wrote.
 
 mod boxes;
 mod calendars;
 mod calls;
 mod damage;
+mod delivery_lists;
 #[cfg(feature = "c-engine")]
 mod foreign;
 #[cfg(feature = "c-engine")]
@@ -22,6 +23,7 @@ pub use boxes::random_boxes;
 pub use calendars::{edge_calendars, random_calendars, two_weeks_of_closings};
 pub use calls::random_calls;
 pub use damage::damaged_deliveries;
+pub use delivery_lists::{edge_delivery_lists, random_delivery_lists, short_delivery_lists};
 #[cfg(feature = "c-engine")]
 pub use foreign::foreign_calls;
 #[cfg(feature = "c-engine")]
@@ -33,6 +35,9 @@ pub use unnamed::unnamed_openings;
 
 use crate::calendar::WEEK;
 use crate::packing::refusal;
+
+/// Lent bytes hold this before a restore or conversion.
+const UNWRITTEN: u8 = 0xa5;
 
 /// How often each answer was given.
 #[derive(Clone, Debug, Default, PartialEq, Eq)]

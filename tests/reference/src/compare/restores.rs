@@ -3,15 +3,12 @@
 use super::calls::length;
 use super::journals::{damages, made_up, mixtures};
 use super::recorded::Recording;
-use super::Answers;
+use super::{Answers, UNWRITTEN};
 use crate::attack::random::Random;
 use crate::engine::Engine;
 use crate::message::LONGEST;
 use crate::packing::{refusal, unpack_restore, RestoreAnswer};
 use crate::report::SET_WORDS;
-
-/// Lent bytes hold this before a restore.
-const UNWRITTEN: u8 = 0xa5;
 
 struct Restorer<'a, E: Engine> {
     engine: &'a E,
