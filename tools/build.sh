@@ -102,6 +102,10 @@ renew_drill() {
     renew drill target/bin/drill rt check drill
 }
 
+renew_delivery_lists() {
+    renew delivery_lists target/bin/delivery_lists rt check delivery_lists
+}
+
 # print_result TITLE LINES [COLUMN]: the lines that the drill program or the host printed, with a heading; COLUMN is the name
 # of a further one
 print_result() {
