@@ -1,12 +1,13 @@
 /*
- * Opening, delivery, turn, report, recording, the coin box and the calendar under libFuzzer: the input bytes open a feeder
- * of up to four concentrators and make a list of calls, with messages as sent, forged, damaged or of any bytes, with bits
- * from a box or any others, with planted words, and with any windows. Then the journal of each state without planted words
- * must give it back.
+ * Opening, delivery, turn, report, recording, the coin box, the calendar and the conversions of delivery lists under
+ * libFuzzer: the input bytes open a feeder of up to four concentrators and make a list of calls, with messages as sent,
+ * forged, damaged or of any bytes, with bits from a box or any others, with planted words, with any windows and any texts.
+ * Then the journal of each state without planted words must give it back.
  * The archive is not instrumented, so what the fuzzer follows are the answers (see `note`).
  */
 #include "box.h"
 #include "calendar.h"
+#include "conversions.h"
 #include "counters.h"
 #include "input.h"
 #include "kept.h"
@@ -360,8 +361,10 @@ static void call(struct input *in, struct opening *opening)
     case 11: copy_from_all(in); break;
     case 12: plant(in); break;
     case 13:
-        /* Of the four codes of a request to the box the last one is the calendar's. */
-        if (code == 0xed)
+        /* Of the four codes of a request to the box the last two are the conversions' and the calendar's. */
+        if (code == 0xad)
+            convert_any(in);
+        else if (code == 0xed)
             start_any(in);
         else
             record_coins(in, opening, code);
@@ -377,8 +380,8 @@ static void call(struct input *in, struct opening *opening)
 int LLVMFuzzerInitialize(int *count, char ***arguments)
 {
     (void)count, (void)arguments;
-    struct lent *const others[] = {&weights_lent,  &bytes_lent, &line_lent,   &named_lent,
-                                   &in_force_lent, &box_lent,   &windows_lent};
+    struct lent *const others[] = {&weights_lent, &bytes_lent,   &line_lent, &named_lent,    &in_force_lent,
+                                   &box_lent,     &windows_lent, &text_lent, &converted_lent};
     for (unsigned p = 0; p < STATES; p++)
         lent_make(&state[p]);
     for (size_t k = 0; k < sizeof others / sizeof *others; k++)
