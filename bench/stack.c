@@ -15,6 +15,10 @@
 #define N 16
 #define MESSAGES 65536
 #define JOURNAL (1 << 20)
+#define LISTED 100
+/* The longest line of a list that is taken, and its record: 16 fields of 64 quotes, which are doubled and stand in quotes. */
+#define LISTED_LINE (16 * 65)
+#define LISTED_RECORD (16 * 131 + 1)
 
 enum call {
     CALL_NONE,
@@ -27,6 +31,8 @@ enum call {
     CALL_BOX_OPEN,
     CALL_BOX_REQUEST,
     CALL_START_MINUTE,
+    CALL_CSV_TO_DRILL,
+    CALL_DRILL_TO_CSV,
     CALLS
 };
 
@@ -60,6 +66,8 @@ static uint64_t boxed[PACK_STATE_WORDS], coin_box[PACK_BOX_WORDS], vote, round_a
 /* The calendar's windows, and its closing minute. */
 static uint32_t windows[2 * PACK_WINDOWS_MAX];
 static uint64_t closing;
+/* A delivery list, as records and as lines. */
+static uint8_t records[LISTED * LISTED_RECORD], lines[LISTED * LISTED_LINE];
 
 static void run(void)
 {
@@ -92,6 +100,12 @@ static void run(void)
         break;
     case CALL_START_MINUTE:
         answer = pack_start_minute(windows, 2 * PACK_WINDOWS_MAX, closing, 0);
+        break;
+    case CALL_CSV_TO_DRILL:
+        answer = pack_csv_to_drill(records, sizeof records, lines, sizeof lines);
+        break;
+    case CALL_DRILL_TO_CSV:
+        answer = pack_drill_to_csv(lines, sizeof lines, records, sizeof records);
         break;
     default:
         break;
@@ -207,6 +221,25 @@ static bool measure_calendar(void)
     return good;
 }
 
+/* Turns a list of the longest lines to records and back, then refuses one for its last line. */
+static bool measure_lists(void)
+{
+    bool good = true;
+    memset(lines, '"', sizeof lines);
+    for (size_t k = 64; k < sizeof lines; k += 65)
+        lines[k] = k % LISTED_LINE == LISTED_LINE - 1 ? '\n' : '\t';
+    measure(CALL_DRILL_TO_CSV);
+    good = good && pack_refusal_of(answer) == PACK_ACCEPTED && pack_written_of(answer) == sizeof records;
+    measure(CALL_CSV_TO_DRILL);
+    good = good && pack_refusal_of(answer) == PACK_ACCEPTED && pack_written_of(answer) == sizeof lines;
+    records[sizeof records - 1] = '\t';
+    measure(CALL_CSV_TO_DRILL);
+    good = good && pack_refusal_of(answer) == PACK_REFUSED_RECORD && pack_record_of(answer) == LISTED;
+    lines[sizeof lines - 1] = '\r';
+    measure(CALL_DRILL_TO_CSV);
+    return good && pack_refusal_of(answer) == PACK_REFUSED_RECORD && pack_record_of(answer) == LISTED;
+}
+
 /* Says what is wrong, and gives the status. */
 static int wrong(const char *what)
 {
@@ -225,7 +258,9 @@ int main(void)
                                        "pack_record",
                                        "pack_box_open",
                                        "pack_box_request",
-                                       "pack_start_minute"};
+                                       "pack_start_minute",
+                                       "pack_csv_to_drill",
+                                       "pack_drill_to_csv"};
     measure(CALL_NONE);
     for (unsigned p = 0; p < N; p++) {
         coins[p] = 0xb5a39d71u << p % 7;
@@ -237,6 +272,8 @@ int main(void)
         return wrong("a coin is not told, or not recorded");
     if (!measure_calendar())
         return wrong("the calendar names no minute");
+    if (!measure_lists())
+        return wrong("a list is not turned, or not refused");
     printf("| call | stack, bytes |\n|---|---|\n");
     for (unsigned kind = CALL_OPEN; kind < CALLS; kind++)
         printf("| `%s` | %zu |\n", names[kind], most[kind] - most[CALL_NONE]);
