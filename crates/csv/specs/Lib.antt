@@ -3,6 +3,7 @@ pub mod Records
 pub mod Lines
 pub mod Converting
 pub mod Back
+pub mod Grammar
 pub mod Blocks
 pub mod Parts
 pub mod Stream

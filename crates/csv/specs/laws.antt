@@ -20,6 +20,9 @@ pub mod LineTheorem
 pub mod Cuts
 pub mod FieldTexts
 pub mod Reading
+pub mod Grammar
+pub mod GrammarOnly
+pub mod Canonical
 pub mod Back
 pub mod Blocks
 pub mod Parts

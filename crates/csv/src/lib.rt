@@ -14,6 +14,7 @@ ghost use mathlib.Core.Path.{_≡_};
 ghost use lib.ListN.{length};
 ghost use Rattle.csv.specs.Converting.{drillOfCsv, csvOfDrill, conversion, bytesAfter};
 ghost use Rattle.csv.specs.Back.{ThereAndBack};
+ghost use Rattle.csv.specs.Grammar.{GrammarRead};
 ghost use Rattle.csv.specs.Blocks.{BlockByBlock};
 ghost use Rattle.csv.specs.Parts.{PartsEnded};
 ghost use Rattle.csv.specs.Stream.{Streamed};
@@ -146,6 +147,11 @@ pub fn drill_to_csv(text: &[u8], out: &mut [u8]) -> Conversion
 // What one conversion writes the other takes, and turns to the same lines or to the same fields.
 pub fn there_and_back()
     ensures { λ _. ⌜ ThereAndBack ⌝ }
+{}
+
+// A text by the grammar of RFC 4180, with any choice of quotes and ends, is read as what was written, and no other text is taken.
+pub fn grammar_read()
+    ensures { λ _. ⌜ GrammarRead ⌝ }
 {}
 
 // Complete blocks of a text, converted one after the other, give what the whole text gives.

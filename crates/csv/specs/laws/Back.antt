@@ -10,7 +10,8 @@ use Rattle.csv.specs.Lines.{linesRead, linesText}
 use Rattle.csv.specs.Converting.{textOf, drillOfCsv, csvOfDrill}
 use Rattle.csv.specs.Back.{lacksEnd, Taken, ThereAndBack}
 use Rattle.csv.specs.laws.Outcomes.{not-good}
-use Rattle.csv.specs.laws.Reading.{records-of-text, records-right, lines-of-text, lines-right, text-of-lines}
+use Rattle.csv.specs.laws.Canonical.{records-of-text}
+use Rattle.csv.specs.laws.Reading.{records-right, lines-of-text, lines-right, text-of-lines}
 
 -- what a text that is written was read as
 record Source (write : List (List (List ℕ)) → List ℕ) (x : Outcome (List (List (List ℕ)))) (u : List ℕ) : Type 0 where

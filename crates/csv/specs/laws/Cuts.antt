@@ -97,7 +97,7 @@ module _ (turns : Bool → ℕ → Bool) (s : ℕ) where
   unfolding Sealed cut
   cut-at w t h = h (s ∷ t) ∙ rw (eq-eqb s s refl) (front-empty w (cut turns s false t))
 
-  cut-whole : (w : List ℕ) → Sealed false w false → cut turns s false w ≡ w ∷ []
+  pub cut-whole : (w : List ℕ) → Sealed false w false → cut turns s false w ≡ w ∷ []
   unfolding Sealed cut
   cut-whole w h = ap (cut turns s false) (sym (append-nil w)) ∙ h [] ∙ front-empty w []
 

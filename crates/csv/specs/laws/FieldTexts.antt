@@ -8,32 +8,48 @@ use lib.ListN.{length}
 use borrow.Author.Tests.{eqb-true, not-true}
 use Rattle.text.specs.Fields.{TAB, LF}
 use Rattle.csv.specs.Fields.{CR, QUOTE, COMMA, maxFieldBytes, clean, fieldTaken, fieldsTaken}
-use Rattle.csv.specs.Records.{turned, unquoted, closed, undoubled, fieldRight, fieldValue, allRight, allValues, special, needsQuotes, doubled, fieldText, fieldTexts}
+use Rattle.csv.specs.Records.{turned, unquoted, closed, undoubled, fieldRight, fieldValue, special, needsQuotes, doubled}
 use Rattle.csv.specs.Lines.{unturned}
-use Rattle.csv.specs.laws.Bools.{and-left, and-right, and-both, or-left, or-right}
-use Rattle.csv.specs.laws.Cuts.{Some, Sealed, AllSealed, sealed-nil, sealed-byte, sealed-append}
+use Rattle.csv.specs.laws.Bools.{and-left, and-right, or-left, or-right}
+use Rattle.csv.specs.laws.Cuts.{Sealed, AllSealed, sealed-nil, sealed-byte, sealed-append}
 
 -- a text without the byte s
-free : ℕ → List ℕ → Bool
+unfoldable pub free : ℕ → List ℕ → Bool
 free s [] = true
 free s (b ∷ w) = not (eqb b s) && free s w
 
 -- ---- what is taken, and what needs no quotes
 
-free-byte : (s b : ℕ) (w : List ℕ) → eqb b s ≡ false → free s w ≡ true → free s (b ∷ w) ≡ true
+pub free-byte : (s b : ℕ) (w : List ℕ) → eqb b s ≡ false → free s w ≡ true → free s (b ∷ w) ≡ true
 unfolding free
 free-byte s b w e h = rw (e, h)
 
-unquoted-byte : (b : ℕ) (w : List ℕ) → eqb b QUOTE ≡ false → unquoted w ≡ true → unquoted (b ∷ w) ≡ true
+pub free-first : (s b : ℕ) (w : List ℕ) → free s (b ∷ w) ≡ true → eqb b s ≡ false
+unfolding free
+free-first s b w h = not-true (eqb b s) (and-left (not (eqb b s)) (free s w) h)
+
+pub free-rest : (s b : ℕ) (w : List ℕ) → free s (b ∷ w) ≡ true → free s w ≡ true
+unfolding free
+free-rest s b w h = and-right (not (eqb b s)) (free s w) h
+
+pub unquoted-byte : (b : ℕ) (w : List ℕ) → eqb b QUOTE ≡ false → unquoted w ≡ true → unquoted (b ∷ w) ≡ true
 unfolding unquoted
 unquoted-byte b w e h = rw (e, h)
 
+pub unquoted-first : (b : ℕ) (w : List ℕ) → unquoted (b ∷ w) ≡ true → eqb b QUOTE ≡ false
+unfolding unquoted
+unquoted-first b w h = not-true (eqb b QUOTE) (and-left (not (eqb b QUOTE)) (unquoted w) h)
+
+pub unquoted-rest : (b : ℕ) (w : List ℕ) → unquoted (b ∷ w) ≡ true → unquoted w ≡ true
+unfolding unquoted
+unquoted-rest b w h = and-right (not (eqb b QUOTE)) (unquoted w) h
+
 -- a byte of a clean field
-clean-byte : (b : ℕ) (f : List ℕ) → clean (b ∷ f) ≡ true → (eqb b TAB || (eqb b CR || eqb b LF)) ≡ false
+pub clean-byte : (b : ℕ) (f : List ℕ) → clean (b ∷ f) ≡ true → (eqb b TAB || (eqb b CR || eqb b LF)) ≡ false
 unfolding clean
 clean-byte b f h = not-true (eqb b TAB || (eqb b CR || eqb b LF)) (and-left (not (eqb b TAB || (eqb b CR || eqb b LF))) (clean f) h)
 
-clean-rest : (b : ℕ) (f : List ℕ) → clean (b ∷ f) ≡ true → clean f ≡ true
+pub clean-rest : (b : ℕ) (f : List ℕ) → clean (b ∷ f) ≡ true → clean f ≡ true
 unfolding clean
 clean-rest b f h = and-right (not (eqb b TAB || (eqb b CR || eqb b LF))) (clean f) h
 
@@ -56,12 +72,12 @@ plain-rest : (b : ℕ) (f : List ℕ) → needsQuotes (b ∷ f) ≡ false → ne
 unfolding needsQuotes special
 plain-rest b f h = or-right (eqb b COMMA || eqb b QUOTE) (needsQuotes f) h
 
-plain-comma : (f : List ℕ) → needsQuotes f ≡ false → free COMMA f ≡ true
+pub plain-comma : (f : List ℕ) → needsQuotes f ≡ false → free COMMA f ≡ true
 unfolding free
 plain-comma [] h = refl
 plain-comma (b ∷ f) h = free-byte COMMA b f (or-left (eqb b COMMA) (eqb b QUOTE) (plain-byte b f h)) (plain-comma f (plain-rest b f h))
 
-plain-quote : (f : List ℕ) → needsQuotes f ≡ false → unquoted f ≡ true
+pub plain-quote : (f : List ℕ) → needsQuotes f ≡ false → unquoted f ≡ true
 unfolding unquoted
 plain-quote [] h = refl
 plain-quote (b ∷ f) h = unquoted-byte b f (or-right (eqb b COMMA) (eqb b QUOTE) (plain-byte b f h)) (plain-quote f (plain-rest b f h))
@@ -78,7 +94,7 @@ unfolding undoubled
 undoubled-byte b [] e = rw e
 undoubled-byte b (c ∷ g) e = rw e
 
-closed-doubled : (f : List ℕ) → closed (doubled f ++ (QUOTE ∷ [])) ≡ true
+pub closed-doubled : (f : List ℕ) → closed (doubled f ++ (QUOTE ∷ [])) ≡ true
 unfolding closed doubled
 closed-doubled [] = refl
 closed-doubled (b ∷ f) = go (eqb b QUOTE) refl (closed-doubled f)
@@ -88,7 +104,7 @@ closed-doubled (b ∷ f) = go (eqb b QUOTE) refl (closed-doubled f)
     go true e h = h
     go false e h = closed-byte b (doubled f ++ (QUOTE ∷ [])) e h
 
-undoubled-doubled : (f : List ℕ) → undoubled (doubled f ++ (QUOTE ∷ [])) ≡ f
+pub undoubled-doubled : (f : List ℕ) → undoubled (doubled f ++ (QUOTE ∷ [])) ≡ f
 unfolding undoubled doubled
 undoubled-doubled [] = refl
 undoubled-doubled (b ∷ f) = go (eqb b QUOTE) refl (eqb-true b QUOTE) (undoubled-doubled f)
@@ -98,64 +114,30 @@ undoubled-doubled (b ∷ f) = go (eqb b QUOTE) refl (eqb-true b QUOTE) (undouble
     go true e q h = rw (h, q refl)
     go false e q h = undoubled-byte b (doubled f ++ (QUOTE ∷ [])) e ∙ rw h
 
-plain-right : (f : List ℕ) → needsQuotes f ≡ false → fieldRight f ≡ true
+pub plain-right : (f : List ℕ) → unquoted f ≡ true → fieldRight f ≡ true
 unfolding fieldRight
 plain-right [] h = refl
-plain-right (b ∷ f) h = rw (or-right (eqb b COMMA) (eqb b QUOTE) (plain-byte b f h)) (plain-quote f (plain-rest b f h))
+plain-right (b ∷ f) h = rw (unquoted-first b f h) (unquoted-rest b f h)
 
-plain-value : (f : List ℕ) → needsQuotes f ≡ false → fieldValue f ≡ f
+pub plain-value : (f : List ℕ) → unquoted f ≡ true → fieldValue f ≡ f
 unfolding fieldValue
 plain-value [] h = refl
-plain-value (b ∷ f) h = rw (or-right (eqb b COMMA) (eqb b QUOTE) (plain-byte b f h))
-
-right-text : (f : List ℕ) → fieldRight (fieldText f) ≡ true
-unfolding fieldRight fieldText
-right-text f = go (needsQuotes f) refl
-  where
-    go : (x : Bool) → needsQuotes f ≡ x → fieldRight (cond x (QUOTE ∷ (doubled f ++ (QUOTE ∷ []))) f) ≡ true
-    go true e = closed-doubled f
-    go false e = plain-right f e
-
-value-text : (f : List ℕ) → fieldValue (fieldText f) ≡ f
-unfolding fieldValue fieldText
-value-text f = go (needsQuotes f) refl
-  where
-    go : (x : Bool) → needsQuotes f ≡ x → fieldValue (cond x (QUOTE ∷ (doubled f ++ (QUOTE ∷ []))) f) ≡ f
-    go true e = undoubled-doubled f
-    go false e = plain-value f e
-
-pub all-right-texts : (fs : List (List ℕ)) → allRight (fieldTexts fs) ≡ true
-unfolding allRight fieldTexts
-all-right-texts [] = refl
-all-right-texts (f ∷ fs) = and-both (right-text f) (all-right-texts fs)
-
-pub all-values-texts : (fs : List (List ℕ)) → allValues (fieldTexts fs) ≡ fs
-unfolding allValues fieldTexts
-all-values-texts [] = refl
-all-values-texts (f ∷ fs) = rw (value-text f, all-values-texts fs)
-
-pub some-texts : (fs : List (List ℕ)) → Some fs → Some (fieldTexts fs)
-unfolding Some fieldTexts
-some-texts [] h = h
-some-texts (f ∷ fs) h = tt
+plain-value (b ∷ f) h = rw (unquoted-first b f h)
 
 -- ---- where a field is not cut
 
 sealed-line : (s : ℕ) (w : List ℕ) → free s w ≡ true → Sealed unturned s false w false
-unfolding free unturned
+unfolding unturned
 sealed-line s [] h = sealed-nil unturned s false
-sealed-line s (b ∷ w) h =
-    sealed-byte unturned s false b w false (rw (not-true (eqb b s) (and-left (not (eqb b s)) (free s w) h)))
-    (sealed-line s w (and-right (not (eqb b s)) (free s w) h))
+sealed-line s (b ∷ w) h = sealed-byte unturned s false b w false (rw (free-first s b w h)) (sealed-line s w (free-rest s b w h))
 
 module _ (s : ℕ) where
-  sealed-outside : (w : List ℕ) → free s w ≡ true → unquoted w ≡ true → Sealed turned s false w false
-  unfolding free unquoted turned
+  pub sealed-outside : (w : List ℕ) → free s w ≡ true → unquoted w ≡ true → Sealed turned s false w false
+  unfolding turned
   sealed-outside [] h q = sealed-nil turned s false
   sealed-outside (b ∷ w) h q =
-      sealed-byte turned s false b w false (rw (not-true (eqb b s) (and-left (not (eqb b s)) (free s w) h)))
-      (rw (not-true (eqb b QUOTE) (and-left (not (eqb b QUOTE)) (unquoted w) q))
-      (sealed-outside w (and-right (not (eqb b s)) (free s w) h) (and-right (not (eqb b QUOTE)) (unquoted w) q)))
+      sealed-byte turned s false b w false (rw (free-first s b w h))
+      (rw (unquoted-first b w q) (sealed-outside w (free-rest s b w h) (unquoted-rest b w q)))
 
   module _ (other : eqb QUOTE s ≡ false) where
     sealed-doubled : (f : List ℕ) → Sealed turned s true (doubled f) true
@@ -170,27 +152,14 @@ module _ (s : ℕ) where
             (sealed-byte turned s false QUOTE (doubled f) true (rw other) h)
         go false e h = sealed-byte turned s true b (doubled f) true (and-false (eqb b s)) (rw e h)
 
-    sealed-quoted : (f : List ℕ) → Sealed turned s false (QUOTE ∷ (doubled f ++ (QUOTE ∷ []))) false
+    pub sealed-quoted : (f : List ℕ) → Sealed turned s false (QUOTE ∷ (doubled f ++ (QUOTE ∷ []))) false
     unfolding turned
     sealed-quoted f =
         sealed-byte turned s false QUOTE (doubled f ++ (QUOTE ∷ [])) false (rw other)
         (sealed-append turned s true true false (doubled f) (QUOTE ∷ []) (sealed-doubled f)
         (sealed-byte turned s true QUOTE [] false (and-false (eqb QUOTE s)) (sealed-nil turned s false)))
 
-    sealed-text : (f : List ℕ) → (needsQuotes f ≡ false → free s f ≡ true) → Sealed turned s false (fieldText f) false
-    unfolding fieldText
-    sealed-text f h = go (needsQuotes f) refl
-      where
-        go : (x : Bool) → needsQuotes f ≡ x → Sealed turned s false (cond x (QUOTE ∷ (doubled f ++ (QUOTE ∷ []))) f) false
-        go true e = sealed-quoted f
-        go false e = sealed-outside f (h e) (plain-quote f e)
-
-pub sealed-at-commas : (fs : List (List ℕ)) → AllSealed turned COMMA (fieldTexts fs)
-unfolding AllSealed fieldTexts
-sealed-at-commas [] = tt
-sealed-at-commas (f ∷ fs) = (sealed-text COMMA refl f (plain-comma f), sealed-at-commas fs)
-
-taken-clean : (f : List ℕ) (fs : List (List ℕ)) → fieldsTaken (f ∷ fs) ≡ true → clean f ≡ true
+pub taken-clean : (f : List ℕ) (fs : List (List ℕ)) → fieldsTaken (f ∷ fs) ≡ true → clean f ≡ true
 unfolding fieldsTaken fieldTaken
 taken-clean f fs h = and-right (leb (length f) maxFieldBytes) (clean f) (and-left (leb (length f) maxFieldBytes && clean f) (fieldsTaken fs) h)
 
@@ -199,11 +168,6 @@ unfolding fieldsTaken
 taken-rest f fs h = and-right (fieldTaken f) (fieldsTaken fs) h
 
 -- fields that are taken
-pub sealed-records : (fs : List (List ℕ)) → fieldsTaken fs ≡ true → AllSealed turned LF (fieldTexts fs)
-unfolding AllSealed fieldTexts
-sealed-records [] h = tt
-sealed-records (f ∷ fs) h = (sealed-text LF refl f (λ e. clean-lf f (taken-clean f fs h)), sealed-records fs (taken-rest f fs h))
-
 pub sealed-lines : (fs : List (List ℕ)) → fieldsTaken fs ≡ true → AllSealed unturned LF fs
 unfolding AllSealed
 sealed-lines [] h = tt

@@ -1,20 +1,20 @@
 -- What is read of a text that was written, and what is written of a text that was read.
 use Prim.Native.Nat.{ℕ, _+_}
 use mathlib.Core.Bool.{Bool, true, false, cond, _&&_, not}
-use mathlib.Core.List.{List, [], _∷_, _++_, append-assoc}
-use mathlib.Core.Path.{_≡_, refl, sym, ap, subst, _∙_}
+use mathlib.Core.List.{List, [], _∷_, _++_}
+use mathlib.Core.Path.{_≡_, refl, ap, subst, _∙_}
 use lib.Dec.{eqb, leb}
 use lib.ListN.{length}
 use borrow.Author.Tests.{eqb-true}
 use Rattle.text.specs.Fields.{TAB, LF, inFront}
-use Rattle.csv.specs.Fields.{CR, COMMA, maxFields, fieldsTaken, recordTaken, cut, unlessEmpty, pieces, joined, Outcome, bad, good, withRecord, readAll}
-use Rattle.csv.specs.Records.{turned, withoutCr, recordsIn, rawFields, allRight, allValues, recordRight, recordFields, recordsRead, fieldTexts, recordsText}
+use Rattle.csv.specs.Fields.{COMMA, maxFields, fieldsTaken, recordTaken, cut, unlessEmpty, pieces, joined, Outcome, bad, good, withRecord, readAll}
+use Rattle.csv.specs.Records.{turned, recordsIn, rawFields, allValues, recordRight, recordFields, recordsRead}
 use Rattle.csv.specs.Lines.{unturned, wholeLine, linesIn, lineFields, lineRight, linesRead, linesText}
 use Rattle.csv.specs.Back.{lacksEnd}
 use Rattle.csv.specs.laws.Bools.{and-left, and-right}
 use Rattle.csv.specs.laws.Outcomes.{not-good}
-use Rattle.csv.specs.laws.Cuts.{Some, pieces-next, cut-some, joined-cut, Sealed, sealed-nil, sealed-byte, sealed-append, sealed-joined, cut-at, cut-joined}
-use Rattle.csv.specs.laws.FieldTexts.{all-right-texts, all-values-texts, some-texts, sealed-at-commas, sealed-records, sealed-lines, sealed-at-tabs}
+use Rattle.csv.specs.laws.Cuts.{Some, pieces-next, cut-some, joined-cut, sealed-joined, cut-at, cut-joined}
+use Rattle.csv.specs.laws.FieldTexts.{sealed-lines, sealed-at-tabs}
 
 -- records that are taken and have a field each
 unfoldable pub Right : List (List (List ℕ)) → Type 0
@@ -28,11 +28,11 @@ taken-fields r h = and-right (leb (length r) maxFields) (fieldsTaken r) h
 -- ---- one record more
 
 module _ (right : List ℕ → Bool) (fieldsOf : List ℕ → List (List ℕ)) where
-  read-one : (n : ℕ) (p : List ℕ) (ps : List (List ℕ)) (r : List (List ℕ)) (rs : List (List (List ℕ))) →
-      right p ≡ true → fieldsOf p ≡ r → recordTaken r ≡ true → readAll right fieldsOf (n + 1) ps ≡ good rs →
-      readAll right fieldsOf n (p ∷ ps) ≡ good (r ∷ rs)
-  unfolding readAll withRecord
-  read-one n p ps r rs a b c d = rw (a, b, c, d)
+  pub read-one : (n : ℕ) (p : List ℕ) (ps : List (List ℕ)) (r : List (List ℕ)) (o : Outcome (List (List (List ℕ)))) →
+      right p ≡ true → fieldsOf p ≡ r → readAll right fieldsOf (n + 1) ps ≡ o →
+      readAll right fieldsOf n (p ∷ ps) ≡ cond (recordTaken r) (withRecord r o) (bad n)
+  unfolding readAll
+  read-one n p ps r o a b c = rw (a, b, c)
 
   -- what holds where reading does not stop at p
   pub record Step (n : ℕ) (p : List ℕ) (ps : List (List ℕ)) (rs : List (List (List ℕ))) : Type 0 where
@@ -69,44 +69,6 @@ module _ (right : List ℕ → Bool) (fieldsOf : List ℕ → List (List ℕ)) w
 
 -- ---- records
 
-without-cr : (p : List ℕ) → withoutCr (p ++ (CR ∷ [])) ≡ p
-unfolding withoutCr
-without-cr [] = refl
-without-cr (b ∷ []) = refl
-without-cr (b ∷ c ∷ p) = ap (λ (q : List ℕ). b ∷ q) (without-cr (c ∷ p))
-
-sealed-record : (r : List (List ℕ)) → fieldsTaken r ≡ true → Sealed turned LF false (joined COMMA (fieldTexts r) ++ (CR ∷ [])) false
-unfolding turned
-sealed-record r h =
-    sealed-append turned LF false false false (joined COMMA (fieldTexts r)) (CR ∷ [])
-    (sealed-joined turned LF COMMA refl refl (fieldTexts r) (sealed-records r h))
-    (sealed-byte turned LF false CR [] false refl (sealed-nil turned LF false))
-
-records-first : (r : List (List ℕ)) (rs : List (List (List ℕ))) → fieldsTaken r ≡ true →
-    recordsIn (recordsText (r ∷ rs)) ≡ joined COMMA (fieldTexts r) ∷ recordsIn (recordsText rs)
-unfolding recordsIn recordsText
-records-first r rs h =
-    ap (λ (t : List ℕ). pieces withoutCr (cut turned LF false t)) (sym (append-assoc (joined COMMA (fieldTexts r)) (CR ∷ []) (LF ∷ recordsText rs)))
-    ∙ ap (pieces withoutCr) (cut-at turned LF (joined COMMA (fieldTexts r) ++ (CR ∷ [])) (recordsText rs) (sealed-record r h))
-    ∙ pieces-next withoutCr (joined COMMA (fieldTexts r) ++ (CR ∷ [])) (cut turned LF false (recordsText rs)) (cut-some turned LF false (recordsText rs))
-    ∙ ap (λ (p : List ℕ). p ∷ pieces withoutCr (cut turned LF false (recordsText rs))) (without-cr (joined COMMA (fieldTexts r)))
-
-record-right : (r : List (List ℕ)) → Some r → recordRight (joined COMMA (fieldTexts r)) ≡ true
-unfolding recordRight rawFields
-record-right r h = ap allRight (cut-joined turned COMMA (fieldTexts r) (some-texts r h) (sealed-at-commas r)) ∙ all-right-texts r
-
-record-fields : (r : List (List ℕ)) → Some r → recordFields (joined COMMA (fieldTexts r)) ≡ r
-unfolding recordFields rawFields
-record-fields r h = ap allValues (cut-joined turned COMMA (fieldTexts r) (some-texts r h) (sealed-at-commas r)) ∙ all-values-texts r
-
-pub records-of-text : (n : ℕ) (rs : List (List (List ℕ))) → Right rs → recordsRead n (recordsText rs) ≡ good rs
-unfolding Right recordsRead recordsIn recordsText cut pieces unlessEmpty readAll
-records-of-text n [] h = refl
-records-of-text n (r ∷ rs) h =
-    ap (readAll recordRight recordFields n) (records-first r rs (taken-fields r (h .0)))
-    ∙ read-one recordRight recordFields n (joined COMMA (fieldTexts r)) (recordsIn (recordsText rs)) r rs
-    (record-right r (h .1)) (record-fields r (h .1)) (h .0) (records-of-text (n + 1) rs (h .2))
-
 some-values : (ps : List (List ℕ)) → Some ps → Some (allValues ps)
 unfolding Some allValues
 some-values [] h = h
@@ -134,12 +96,13 @@ unfolding lineFields
 line-fields r g h = cut-joined unturned TAB r g (sealed-at-tabs r h)
 
 pub lines-of-text : (n : ℕ) (rs : List (List (List ℕ))) → Right rs → linesRead n (linesText rs) ≡ good rs
-unfolding Right linesRead linesIn linesText cut pieces unlessEmpty readAll
+unfolding Right linesRead linesIn linesText cut pieces unlessEmpty readAll withRecord
 lines-of-text n [] h = refl
 lines-of-text n (r ∷ rs) h =
     ap (readAll lineRight lineFields n) (lines-first r rs (taken-fields r (h .0)))
-    ∙ read-one lineRight lineFields n (joined TAB r) (linesIn (linesText rs)) r rs
-    (line-right (joined TAB r)) (line-fields r (h .1) (taken-fields r (h .0))) (h .0) (lines-of-text (n + 1) rs (h .2))
+    ∙ read-one lineRight lineFields n (joined TAB r) (linesIn (linesText rs)) r (good rs)
+    (line-right (joined TAB r)) (line-fields r (h .1) (taken-fields r (h .0))) (lines-of-text (n + 1) rs (h .2))
+    ∙ rw (h .0)
 
 pub lines-right : (n : ℕ) (t : List ℕ) (rs : List (List (List ℕ))) → linesRead n t ≡ good rs → Right rs
 unfolding linesRead lineFields
