@@ -1,4 +1,4 @@
--- Records as RFC 4180, section 2, has them: PROTOCOL 19.1 to 19.4.
+-- Records as RFC 4180, section 2, has them: PROTOCOL 19.1 to 19.4. Grammar.antt has its grammar, and that both take the same texts.
 use Prim.Native.Nat.{ℕ}
 use mathlib.Core.Bool.{Bool, true, false, cond, _&&_, _||_, not}
 use mathlib.Core.List.{List, [], _∷_, _++_}
