@@ -145,7 +145,9 @@ static const struct taken records_taken[] = {
     {TEXT(",,\n"), TEXT("\t\t\n"), "three empty fields"},
     {TEXT("a\0b,\xff\x80\r\n"), TEXT("a\0b\t\xff\x80\n"), "any other byte is a byte"},
     {TEXT("\xef\xbb\xbf" "a\n"), TEXT("\xef\xbb\xbf" "a\n"), "a byte order mark is part of the first field"},
+    {TEXT("T,1\r\n"), TEXT("T\t1\n"), "an example of the rules: CR LF"},
     {TEXT("T,1\nR"), TEXT("T\t1\nR\n"), "an example of the rules: LF, and the last without its end"},
+    {TEXT(",\n"), TEXT("\t\n"), "an example of the rules: two empty fields"},
     {TEXT("\"T\",\"1\"\n"), TEXT("T\t1\n"), "an example of the rules: needless quotes"},
     {TEXT("a,\"b,c\",\"say \"\"so\"\"\"\r\n"), TEXT("a\tb,c\tsay \"so\"\n"), "an example of the rules: needed quotes"},
 };
@@ -213,6 +215,7 @@ static const struct refused records_refused[] = {
     {TEXT("a\"b"), 1, "an example of the rules: a quote inside a plain field"},
     {TEXT("a\n\"b\" ,c"), 2, "an example of the rules: a space behind a closing quote"},
     {TEXT("\"a\nb\"\n\"c"), 1, "an example of the rules: an LF in a field"},
+    {TEXT("a\rb\n"), 1, "an example of the rules: a CR in a field"},
 };
 
 static const struct refused lines_refused[] = {
