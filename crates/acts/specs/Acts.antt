@@ -4,7 +4,7 @@ use mathlib.Core.Bool.{Bool, true, false, cond}
 use lib.Dec.{eqb}
 use Rattle.quorum.specs.Lowest.{lowest}
 use Rattle.acts.specs.declared.Act.{Act}
-use Rattle.acts.specs.declared.Act.the-variants.{Idle, InForce, Commit, Send, Echo, Ready, Start, Relay, Aux, Move}
+use Rattle.acts.specs.declared.Act.the-variants.{Idle, InForce, Commit, Send, Echo, Ready, Start, Relay, Aux, Move, Finish}
 
 abbrev pub isDue : Act → Bool
 isDue Idle = false
@@ -17,6 +17,7 @@ isDue (Start i b) = true
 isDue (Relay i r b) = true
 isDue (Aux i r b) = true
 isDue (Move i r v) = true
+isDue (Finish i b) = true
 
 -- the first, unless that is idle
 unfoldable pub orAct : Act → Act → Act

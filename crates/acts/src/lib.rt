@@ -25,6 +25,8 @@ pub enum Act {
     Aux(u8, u8, u8),
     // Vote, the round that is left, and what its AUXs carry.
     Move(u8, u8, View),
+    // Vote and value.
+    Finish(u8, u8),
 }
 
 pub fn is_due(a: Act) -> bool
@@ -41,5 +43,6 @@ pub fn is_due(a: Act) -> bool
         Act::Relay(_, _, _) => true,
         Act::Aux(_, _, _) => true,
         Act::Move(_, _, _) => true,
+        Act::Finish(_, _) => true,
     }
 }

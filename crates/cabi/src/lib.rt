@@ -71,6 +71,7 @@ fn entry_number(e: Entry) -> u64
 #[no_mangle]
 pub extern "C" fn pack_open(
     state: &mut [u64],
+    version: u64,
     n: u64,
     ta: u64,
     ts: u64,
@@ -82,12 +83,13 @@ pub extern "C" fn pack_open(
     boxed: u64,
     line: &mut [u8],
 ) -> u64
-    ensures answer { λ r. ⌜ r ≡ entryNumber (openEntry (length (now (state .entry))) (arguments n ta ts own session input (now (coins .entry)) (now (weights .entry)) boxed) (length (now (line .entry)))) ⌝ }
-    ensures words { λ _. ⌜ now (state .exit) ≡ openedWords (now (state .entry)) (arguments n ta ts own session input (now (coins .entry)) (now (weights .entry)) boxed) (length (now (line .entry))) ⌝ }
-    ensures bytes { λ _. ⌜ now (line .exit) ≡ openedBytes (length (now (state .entry))) (arguments n ta ts own session input (now (coins .entry)) (now (weights .entry)) boxed) (now (line .entry)) ⌝ }
+    ensures answer { λ r. ⌜ r ≡ entryNumber (openEntry (length (now (state .entry))) (arguments version n ta ts own session input (now (coins .entry)) (now (weights .entry)) boxed) (length (now (line .entry)))) ⌝ }
+    ensures words { λ _. ⌜ now (state .exit) ≡ openedWords (now (state .entry)) (arguments version n ta ts own session input (now (coins .entry)) (now (weights .entry)) boxed) (length (now (line .entry))) ⌝ }
+    ensures bytes { λ _. ⌜ now (line .exit) ≡ openedBytes (length (now (state .entry))) (arguments version n ta ts own session input (now (coins .entry)) (now (weights .entry)) boxed) (now (line .entry)) ⌝ }
 {
     entry_number(journal::open(
         state,
+        version,
         n,
         ta,
         ts,

@@ -1,24 +1,26 @@
--- Delivery: the verdict on a message, and the words after it. A delivery records one message that came over a link, and does nothing else
--- (PROTOCOL 3.7, 9.17, 9.18).
+-- Delivery: the verdict on a message, and the words after it. A delivery records one message that came over a link, and a FINISH may decide its
+-- vote; it does nothing else (PROTOCOL 3.7, 9.17, 9.18).
 use Prim.Native.Nat.{ℕ}
 use mathlib.Core.Bool.{Bool, _||_, not, cond}
 use mathlib.Core.List.{List}
 use lib.ListN.{drop}
 use Rattle.settings.specs.Refusals.{NO-STATE, CLOSED, HELD}
-use Rattle.records.specs.Records.{closed, sendHeld, echoHeld, readyHeld, estHeld, auxHeld}
-use Rattle.records.specs.Writing.{withSend, withEcho, withReady, withEst, withAux, withCommit}
+use Rattle.records.specs.Records.{closed, version, sendHeld, echoHeld, readyHeld, estHeld, auxHeld, finishHeld}
+use Rattle.records.specs.Writing.{withSend, withEcho, withReady, withEst, withAux, withFinish, withCommit, withDecision}
 use Rattle.commits.specs.Commits.{commitHeld}
-use Rattle.session.specs.Session.{isState, sessionOf}
+use Rattle.votes.specs.Finishing.{finishDecides}
+use Rattle.settings.specs.declared.Settings.{Settings}
+use Rattle.session.specs.Session.{isState, settingsOf, sessionOf}
 use Rattle.wire.specs.Bytes.{valueAt}
 use Rattle.wire.specs.Reading.{readMessage}
 use Rattle.wire.specs.declared.Message.{Message}
-use Rattle.wire.specs.declared.Message.the-variants.{Send, Echo, Ready, Est, Aux, Commit}
+use Rattle.wire.specs.declared.Message.the-variants.{Send, Echo, Ready, Est, Aux, Commit, Finish}
 use Rattle.wire.specs.declared.Parsed.{Parsed}
 use Rattle.wire.specs.declared.Parsed.the-variants as parsed
 use Rattle.delivery.specs.declared.Verdict.{Verdict}
 use Rattle.delivery.specs.declared.Verdict.the-variants.{Refused, Accepted}
 
--- the place of a message of sender p is taken, as the table of places has it (PROTOCOL 3.1 to 3.5)
+-- the place of a message of sender p is taken, as the table of places has it (PROTOCOL 3.1 to 3.5, 3.12)
 unfoldable pub placeHeld : List ℕ → ℕ → Message → Bool
 placeHeld s p (Send i v) = sendHeld s i
 placeHeld s p (Echo i v) = echoHeld s i p
@@ -26,6 +28,7 @@ placeHeld s p (Ready i v) = readyHeld s i p
 placeHeld s p (Est i r b) = estHeld s i r b p
 placeHeld s p (Aux i r b) = auxHeld s i r 0 p || auxHeld s i r 1 p
 placeHeld s p (Commit k) = commitHeld s p
+placeHeld s p (Finish i b) = finishHeld s i 0 p || finishHeld s i 1 p
 
 -- the refusals 2 to 7, then 11 where the message's place is taken (PROTOCOL 3.6)
 unfoldable pub judged : List ℕ → ℕ → Parsed → Verdict
@@ -37,9 +40,13 @@ unfoldable pub verdict : List ℕ → ℕ → List ℕ → Verdict
 verdict s link b =
     cond (not (isState s)) (Refused NO-STATE)
     (cond (closed s) (Refused CLOSED)
-    (judged s link (readMessage (sessionOf s .settings .n) (sessionOf s .number) link b)))
+    (judged s link (readMessage (version s) (sessionOf s .settings .n) (sessionOf s .number) link b)))
 
--- the state with a message of sender p recorded; the values of a COMMIT are in the part v that starts at byte 12
+-- vote i is decided b where the FINISHes of b that are held do so (PROTOCOL 5.17)
+unfoldable pub finishSettled : Settings → List ℕ → ℕ → ℕ → List ℕ
+finishSettled g s i b = cond (finishDecides g s i b) (withDecision s i b) s
+
+-- the state with a message of sender p recorded, and with a FINISH the decision that it completes; the values of a COMMIT are in the part v that starts at byte 12
 unfoldable pub recorded : List ℕ → ℕ → Message → List ℕ → List ℕ
 recorded s p (Send i x) v = withSend s i x
 recorded s p (Echo i x) v = withEcho s i p x
@@ -47,6 +54,7 @@ recorded s p (Ready i x) v = withReady s i p x
 recorded s p (Est i r b) v = withEst s i r b p
 recorded s p (Aux i r b) v = withAux s i r b p
 recorded s p (Commit k) v = withCommit s p (valueAt v) k
+recorded s p (Finish i b) v = finishSettled (settingsOf s) (withFinish s i b p) i b
 
 -- the number of a verdict: 0 is accepted
 unfoldable pub answerOf : Verdict → ℕ

@@ -1,8 +1,10 @@
 pub mod Stored
 pub mod Cases
 pub mod Accepting
+pub mod Settling
 pub mod Frame
 pub mod Answers
 pub mod Values
 pub mod Kept
 pub mod Held
+pub mod Versions

@@ -3,13 +3,16 @@ use records::layout;
 use records::writing;
 use session::Session;
 use session::Stored;
+use settings::Settings;
 use settings::refusal;
 use wire::Message;
 use wire::Parsed;
 ghost use mathlib.Core.Path.{_≡_};
-ghost use Rattle.records.specs.Writing.{withCommitValues, withCommit};
+ghost use mathlib.Core.Bool.{true};
+ghost use Rattle.records.specs.Writing.{withFinish, withCommitValues, withCommit};
 ghost use Rattle.wire.specs.Bytes.{valueAt};
-ghost use Rattle.delivery.specs.Delivery.{placeHeld, judged, verdict, recorded, answerOf, deliverAnswer, delivered};
+ghost use Rattle.delivery.specs.Delivery.{placeHeld, judged, verdict, finishSettled, recorded, answerOf, deliverAnswer, delivered};
+ghost use Rattle.session.specs.Session.{isState, settingsOf};
 ghost use Rattle.session.specs.declared.Stored.the-variants.{Held};
 ghost use Rattle.delivery.specs.laws.Stored.{verdictFor};
 
@@ -38,6 +41,7 @@ fn place_held(s: &[u64], p: u8, m: Message) -> bool
             value: _,
         } => records::aux_held(s, instance, round, p),
         Message::Commit { count: _ } => commits::commit_held(s, p),
+        Message::Finish { instance, value: _ } => records::finish_held(s, instance, p),
     }
 }
 
@@ -48,7 +52,7 @@ fn verdict_in(s: &[u64], x: Session, link: u64, bytes: &[u8]) -> Verdict
     if records::closed(s) {
         return Verdict::Refused(refusal::CLOSED);
     }
-    let parsed = wire::read_message(bytes, x.settings.n, x.number, link);
+    let parsed = wire::read_message(bytes, records::version(s), x.settings.n, x.number, link);
     match parsed {
         Parsed::Refused(k) => Verdict::Refused(k),
         Parsed::Taken(m) => {
@@ -95,8 +99,31 @@ fn record_commit(s: &mut [u64], p: u8, count: u8, part: &[u8])
     writing::hold_commit(s, p, count);
 }
 
+// Holds FINISH b of sender p in vote i, and decides the vote where its FINISHes do.
+fn settle_finish(s: &mut [u64], g: Settings, p: u8, i: u8, b: u8)
+    ensures { λ _. ⌜ now (s .exit) ≡ finishSettled g (withFinish (now (s .entry)) i b p) i b ⌝ }
+{
+    writing::hold_finish(s, i, b, p);
+    if votes::finish_decides(s, g, i, b) {
+        writing::decide(s, i, b);
+    }
+}
+
+// The same with the settings of the state, which only a FINISH needs: they are read once more.
+fn record_finish(s: &mut [u64], p: u8, i: u8, b: u8)
+    requires { ⌜ isState (now s) ≡ true ⌝ }
+    ensures { λ _. ⌜ now (s .exit) ≡ finishSettled (settingsOf (now (s .entry))) (withFinish (now (s .entry)) i b p) i b ⌝ }
+{
+    let stored = session::state_of(&*s);
+    match stored {
+        Stored::NoState => {}
+        Stored::Held(x) => settle_finish(s, x.settings, p, i, b),
+    }
+}
+
 // Records a message of sender p; the values of a COMMIT are in the part that starts at byte 12.
 fn record(s: &mut [u64], p: u8, m: Message, part: &[u8])
+    requires { ⌜ isState (now s) ≡ true ⌝ }
     ensures { λ _. ⌜ now (s .exit) ≡ recorded (now (s .entry)) p m (now (part .entry)) ⌝ }
 {
     match m {
@@ -114,6 +141,7 @@ fn record(s: &mut [u64], p: u8, m: Message, part: &[u8])
             value,
         } => writing::hold_aux(s, instance, round, value, p),
         Message::Commit { count } => record_commit(s, p, count, part),
+        Message::Finish { instance, value } => record_finish(s, p, instance, value),
     }
 }
 

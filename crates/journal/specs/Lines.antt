@@ -23,10 +23,6 @@ LETTER-T = 84
 abbrev pub LETTER-K : ℕ
 LETTER-K = 75
 
--- the version of every session until there is another
-abbrev pub VERSION : ℕ
-VERSION = 1
-
 -- a number in its form: a decimal, or so many hexadecimal digits
 unfoldable pub numberText : ℕ → ℕ → List ℕ
 numberText form n = cond (eqb form DECIMAL) (decimalText n) (digits 16 form n)
@@ -52,7 +48,7 @@ figures o = o .weights ++ (o .boxed ∷ [])
 
 -- the numbers of an opening line, and their forms
 abbrev pub numbersOf : Arguments → List ℕ
-numbersOf o = VERSION ∷ o .n ∷ o .ta ∷ o .ts ∷ o .own ∷ o .session ∷ o .input ∷ (o .coins ++ figures o)
+numbersOf o = o .version ∷ o .n ∷ o .ta ∷ o .ts ∷ o .own ∷ o .session ∷ o .input ∷ (o .coins ++ figures o)
 
 abbrev pub formsOf : Arguments → List ℕ
 formsOf o = openingForms (length (o .coins)) (length (figures o))

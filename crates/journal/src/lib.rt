@@ -30,6 +30,7 @@ fn short_of(number: u64) -> u64
 // Opens a session in the lent words.
 pub fn open(
     state: &mut [u64],
+    version: u64,
     n: u64,
     ta: u64,
     ts: u64,
@@ -41,20 +42,44 @@ pub fn open(
     boxed: u64,
     line: &mut [u8],
 ) -> Entry
-    ensures answer { λ r. ⌜ r ≡ openEntry (length (now (state .entry))) (arguments n ta ts own session input (now (coins .entry)) (now (weights .entry)) boxed) (length (now (line .entry))) ⌝ }
-    ensures words { λ _. ⌜ now (state .exit) ≡ openedWords (now (state .entry)) (arguments n ta ts own session input (now (coins .entry)) (now (weights .entry)) boxed) (length (now (line .entry))) ⌝ }
-    ensures bytes { λ _. ⌜ now (line .exit) ≡ openedBytes (length (now (state .entry))) (arguments n ta ts own session input (now (coins .entry)) (now (weights .entry)) boxed) (now (line .entry)) ⌝ }
+    ensures answer { λ r. ⌜ r ≡ openEntry (length (now (state .entry))) (arguments version n ta ts own session input (now (coins .entry)) (now (weights .entry)) boxed) (length (now (line .entry))) ⌝ }
+    ensures words { λ _. ⌜ now (state .exit) ≡ openedWords (now (state .entry)) (arguments version n ta ts own session input (now (coins .entry)) (now (weights .entry)) boxed) (length (now (line .entry))) ⌝ }
+    ensures bytes { λ _. ⌜ now (line .exit) ≡ openedBytes (length (now (state .entry))) (arguments version n ta ts own session input (now (coins .entry)) (now (weights .entry)) boxed) (now (line .entry)) ⌝ }
 {
     if line.len() < LINE_BYTES {
-        let k = opening::answer(state.len(), n, ta, ts, own, coins, weights, boxed);
+        let k = opening::answer(state.len(), version, n, ta, ts, own, coins, weights, boxed);
         return Entry::Refused(short_of(k));
     }
-    let k = opening::open(state, n, ta, ts, own, session, input, coins, weights, boxed);
+    let k = opening::open(
+        state,
+        version,
+        n,
+        ta,
+        ts,
+        own,
+        session,
+        input,
+        coins,
+        weights,
+        boxed,
+    );
     if k != 0 {
         return Entry::Refused(k);
     }
     Entry::Line(
-        lines::put_opening(line, n, ta, ts, own, session, input, coins, weights, boxed) as u64,
+        lines::put_opening(
+            line,
+            version,
+            n,
+            ta,
+            ts,
+            own,
+            session,
+            input,
+            coins,
+            weights,
+            boxed,
+        ) as u64,
     )
 }
 

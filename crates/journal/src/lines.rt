@@ -18,8 +18,6 @@ const LETTER_T: u8 = 84;
 
 const LETTER_K: u8 = 75;
 
-const VERSION: u64 = 1;
-
 fn put_tab_decimal(out: &mut [u8], at: usize, n: u64) -> usize
     ensures { λ r. ⌜ Wrote (tabDecimal n) (now (out .entry)) at r (now (out .exit)) ⌝ }
 {
@@ -72,11 +70,11 @@ fn put_weights(out: &mut [u8], at: usize, weights: &[u8]) -> usize
 }
 
 // The letter, the version, n, ta and ts.
-fn put_settings(out: &mut [u8], n: u64, ta: u64, ts: u64) -> usize
-    ensures { λ r. ⌜ Wrote (settingsPart n ta ts) (now (out .entry)) 0 r (now (out .exit)) ⌝ }
+fn put_settings(out: &mut [u8], version: u64, n: u64, ta: u64, ts: u64) -> usize
+    ensures { λ r. ⌜ Wrote (settingsPart version n ta ts) (now (out .entry)) 0 r (now (out .exit)) ⌝ }
 {
     let first = text::put_byte(out, 0, LETTER_O);
-    let second = put_tab_decimal(out, first, VERSION);
+    let second = put_tab_decimal(out, first, version);
     let third = put_tab_decimal(out, second, n);
     let fourth = put_tab_decimal(out, third, ta);
     put_tab_decimal(out, fourth, ts)
@@ -104,6 +102,7 @@ fn put_lists(out: &mut [u8], at: usize, coins: &[u32], weights: &[u8], boxed: u6
 // The line of an opening.
 pub fn put_opening(
     out: &mut [u8],
+    version: u64,
     n: u64,
     ta: u64,
     ts: u64,
@@ -114,9 +113,9 @@ pub fn put_opening(
     weights: &[u8],
     boxed: u64,
 ) -> usize
-    ensures { λ r. ⌜ Wrote (openingLine (arguments n ta ts own session input (now (coins .entry)) (now (weights .entry)) boxed)) (now (out .entry)) 0 r (now (out .exit)) ⌝ }
+    ensures { λ r. ⌜ Wrote (openingLine (arguments version n ta ts own session input (now (coins .entry)) (now (weights .entry)) boxed)) (now (out .entry)) 0 r (now (out .exit)) ⌝ }
 {
-    let second = put_settings(out, n, ta, ts);
+    let second = put_settings(out, version, n, ta, ts);
     let third = put_input(out, second, own, session, input);
     put_lists(out, third, coins, weights, boxed)
 }

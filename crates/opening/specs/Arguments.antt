@@ -6,7 +6,8 @@ use Rattle.settings.specs.declared.Settings.{Settings}
 use Rattle.opening.specs.Given.{weightsWord}
 
 pub record Arguments : Type 0 where
-  -- the settings, ta as it is given
+  -- the version, 1 or 2 (PROTOCOL 1.21), and the settings, ta as it is given
+  pub version : ℕ
   pub n : ℕ
   pub ta : ℕ
   pub ts : ℕ
@@ -21,9 +22,9 @@ pub record Arguments : Type 0 where
   pub boxed : ℕ
 
 -- the arguments, in the order of the call
-abbrev pub arguments : (n ta ts own session input : ℕ) (coins weights : List ℕ) (boxed : ℕ) → Arguments
-arguments n ta ts own session input coins weights boxed =
-    record { n = n; ta = ta; ts = ts; own = own; session = session; input = input; coins = coins; weights = weights; boxed = boxed }
+abbrev pub arguments : (version n ta ts own session input : ℕ) (coins weights : List ℕ) (boxed : ℕ) → Arguments
+arguments version n ta ts own session input coins weights boxed =
+    record { version = version; n = n; ta = ta; ts = ts; own = own; session = session; input = input; coins = coins; weights = weights; boxed = boxed }
 
 -- the weights as one word
 abbrev pub weightsBy : Arguments → ℕ

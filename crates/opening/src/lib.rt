@@ -28,6 +28,7 @@ pub fn settings_valid(n: u64, ta: u64, ts: u64, weights: u64) -> bool
 // The answer: 0, or the number of the refusal.
 fn open_answer(
     words: usize,
+    version: u64,
     n: u64,
     ta: u64,
     ts: u64,
@@ -36,10 +37,13 @@ fn open_answer(
     coins: &[u32],
     boxed: u64,
 ) -> u64
-    ensures { λ r. ⌜ r ≡ answerWith words n ta ts weights own (now (coins .entry)) boxed ⌝ }
+    ensures { λ r. ⌜ r ≡ answerWith words version n ta ts weights own (now (coins .entry)) boxed ⌝ }
 {
     if words != layout::STATE_WORDS {
         return refusal::NO_STATE;
+    }
+    if !settings::version_known(version) {
+        return refusal::SETTINGS;
     }
     if !settings_valid(n, ta, ts, weights) {
         return refusal::SETTINGS;
@@ -56,6 +60,7 @@ fn open_answer(
 // The answer of an opening with a list of weights; session number and input, here 0, have no part in it.
 pub fn answer(
     words: usize,
+    version: u64,
     n: u64,
     ta: u64,
     ts: u64,
@@ -64,10 +69,11 @@ pub fn answer(
     weights: &[u8],
     boxed: u64,
 ) -> u64
-    ensures { λ r. ⌜ r ≡ openAnswer words (arguments n ta ts own 0 0 (now (coins .entry)) (now (weights .entry)) boxed) ⌝ }
+    ensures { λ r. ⌜ r ≡ openAnswer words (arguments version n ta ts own 0 0 (now (coins .entry)) (now (weights .entry)) boxed) ⌝ }
 {
     open_answer(
         words,
+        version,
         n,
         ta,
         ts,
@@ -115,6 +121,7 @@ fn put_settings(
 // Opens a session with the weights as one word, and answers 0 or the number of the refusal.
 fn open_weighted(
     state: &mut [u64],
+    version: u64,
     n: u64,
     ta: u64,
     ts: u64,
@@ -125,10 +132,10 @@ fn open_weighted(
     coins: &[u32],
     boxed: u64,
 ) -> u64
-    ensures answer { λ r. ⌜ r ≡ answerWith (length (now (state .entry))) n ta ts weights own (now (coins .entry)) boxed ⌝ }
-    ensures words { λ _. ⌜ now (state .exit) ≡ openedWith (now (state .entry)) n ta ts weights own session input (now (coins .entry)) boxed ⌝ }
+    ensures answer { λ r. ⌜ r ≡ answerWith (length (now (state .entry))) version n ta ts weights own (now (coins .entry)) boxed ⌝ }
+    ensures words { λ _. ⌜ now (state .exit) ≡ openedWith (now (state .entry)) version n ta ts weights own session input (now (coins .entry)) boxed ⌝ }
 {
-    let answer = open_answer(state.len(), n, ta, ts, weights, own, coins, boxed);
+    let answer = open_answer(state.len(), version, n, ta, ts, weights, own, coins, boxed);
     if answer == 0 {
         let number = n as u8;
         clear(state);
@@ -143,6 +150,7 @@ fn open_weighted(
             input,
             boxed,
         );
+        records::put(state, layout::VERSION, version);
         coins::put_coins(state, coins, number);
     }
     answer
@@ -151,6 +159,7 @@ fn open_weighted(
 // Opens a session in the lent words, and answers 0 or the number of the refusal.
 pub fn open(
     state: &mut [u64],
+    version: u64,
     n: u64,
     ta: u64,
     ts: u64,
@@ -161,9 +170,21 @@ pub fn open(
     weights: &[u8],
     boxed: u64,
 ) -> u64
-    ensures answer { λ r. ⌜ r ≡ openAnswer (length (now (state .entry))) (arguments n ta ts own session input (now (coins .entry)) (now (weights .entry)) boxed) ⌝ }
-    ensures words { λ _. ⌜ now (state .exit) ≡ opened (now (state .entry)) (arguments n ta ts own session input (now (coins .entry)) (now (weights .entry)) boxed) ⌝ }
+    ensures answer { λ r. ⌜ r ≡ openAnswer (length (now (state .entry))) (arguments version n ta ts own session input (now (coins .entry)) (now (weights .entry)) boxed) ⌝ }
+    ensures words { λ _. ⌜ now (state .exit) ≡ opened (now (state .entry)) (arguments version n ta ts own session input (now (coins .entry)) (now (weights .entry)) boxed) ⌝ }
 {
     let w = weights::weights_word(n, weights);
-    open_weighted(state, n, ta, ts, w, own, session, input, coins, boxed)
+    open_weighted(
+        state,
+        version,
+        n,
+        ta,
+        ts,
+        w,
+        own,
+        session,
+        input,
+        coins,
+        boxed,
+    )
 }

@@ -23,7 +23,10 @@
 --     140          SENDs held: mark i for instance i
 --     141          weights: of the marks p, 16 + p, 32 + p and 48 + p as many are set as p weighs
 --     142          0 where coins are printed, 1 where they are boxed
---     143 to 255   free
+--     143          the version
+--     144          FINISHes sent: mark i for vote i
+--     145 to 160   FINISHes held of each vote: marks p and 16 + p for FINISH 0 and FINISH 1 of sender p
+--     161 to 255   free
 --     256 to 511   values of the ECHOs held, 16 for each instance, by sender
 --     512 to 767   values of the READYs held, 16 for each instance, by sender
 --     768 to 1023  values of the COMMITs held, 16 for each sender, in rising order
@@ -80,6 +83,12 @@ weightsAt = 141
 abbrev pub boxedAt : ℕ
 boxedAt = 142
 
+abbrev pub versionAt : ℕ
+versionAt = 143
+
+abbrev pub finishSentAt : ℕ
+finishSentAt = 144
+
 abbrev pub coinAt : ℕ → ℕ
 coinAt i = 7 + i
 
@@ -100,6 +109,9 @@ echoMarksAt i = 87 + i
 
 abbrev pub readyMarksAt : ℕ → ℕ
 readyMarksAt i = 103 + i
+
+abbrev pub finishMarksAt : ℕ → ℕ
+finishMarksAt i = 144 + i
 
 abbrev pub commitCountAt : ℕ → ℕ
 commitCountAt p = 119 + p
@@ -145,9 +157,16 @@ estGroup b = 16 * b
 abbrev pub auxGroup : ℕ → ℕ
 auxGroup b = 32 + 16 * b
 
--- the marks of EST b and AUX b held from sender p
+-- .. and a vote's word of FINISHes 16 for FINISH b
+abbrev pub finishGroup : ℕ → ℕ
+finishGroup b = 16 * b
+
+-- the marks of EST b, AUX b and FINISH b held from sender p
 abbrev pub estMark : ℕ → ℕ → ℕ
 estMark b p = estGroup b + p
 
 abbrev pub auxMark : ℕ → ℕ → ℕ
 auxMark b p = auxGroup b + p
+
+abbrev pub finishMark : ℕ → ℕ → ℕ
+finishMark b p = finishGroup b + p

@@ -5,7 +5,7 @@ use mathlib.Core.List.{List}
 use lib.Dec.{eqb}
 use lib.ListN.{take, drop}
 use Rattle.settings.specs.Settings.{maxConcentrators, movedOutRound}
-use Rattle.records.specs.Layout.{inputAt, turnsAt, flagsAt, closedMark, sendSentMark, commitSentMark, boxedAt, coinAt, zeroMark, roundAt, estSentAt, estSentMark, auxSentAt, sendMarksAt, sendValueAt, echoMarksAt, echoValueAt, readyMarksAt, readyValueAt, echoSentAt, readySentAt, decidedZeroAt, decidedOneAt, commitCountAt, commitValueAt, voteAt, estMark, auxMark}
+use Rattle.records.specs.Layout.{inputAt, turnsAt, flagsAt, closedMark, sendSentMark, commitSentMark, versionAt, boxedAt, coinAt, zeroMark, roundAt, estSentAt, estSentMark, auxSentAt, sendMarksAt, sendValueAt, echoMarksAt, echoValueAt, readyMarksAt, readyValueAt, echoSentAt, readySentAt, finishSentAt, finishMarksAt, decidedZeroAt, decidedOneAt, commitCountAt, commitValueAt, voteAt, estMark, auxMark, finishMark}
 use Rattle.records.specs.Words.{word, marked}
 
 -- the own input, given at the opening
@@ -59,6 +59,18 @@ estHeld s i r b p = marked s (voteAt i r) (estMark b p)
 -- the AUX of sender p carries b
 unfoldable pub auxHeld : List ℕ → ℕ → ℕ → ℕ → ℕ → Bool
 auxHeld s i r b p = marked s (voteAt i r) (auxMark b p)
+
+-- a FINISH has one place for its sender and vote, whichever value it carries (PROTOCOL 3.12); the FINISH of sender p carries b
+unfoldable pub finishHeld : List ℕ → ℕ → ℕ → ℕ → Bool
+finishHeld s i b p = marked s (finishMarksAt i) (finishMark b p)
+
+-- whether the FINISH of a vote, one in all, was sent (PROTOCOL 5.14)
+unfoldable pub finishSent : List ℕ → ℕ → Bool
+finishSent s i = marked s finishSentAt i
+
+-- the version of the session (PROTOCOL 1.21)
+abbrev pub version : List ℕ → ℕ
+version s = word s versionAt
 
 -- the coin of round r is mark r of the vote's coin word (PROTOCOL 1.9)
 unfoldable pub coin : List ℕ → ℕ → ℕ → Bool

@@ -3,8 +3,8 @@ use Prim.Native.Nat.{ℕ}
 use mathlib.Core.Bool.{cond}
 use mathlib.Core.List.{List}
 use lib.Dec.{eqb}
-use Rattle.records.specs.Layout.{turnsAt, flagsAt, closedMark, sendSentMark, commitSentMark, roundAt, estSentAt, estSentMark, auxSentAt, echoSentAt, readySentAt, decidedZeroAt, decidedOneAt}
-use Rattle.records.specs.Layout.{sendMarksAt, sendValueAt, echoMarksAt, echoValueAt, readyMarksAt, readyValueAt, voteAt, estMark, auxMark, commitCountAt, commitRowAt}
+use Rattle.records.specs.Layout.{turnsAt, flagsAt, closedMark, sendSentMark, commitSentMark, roundAt, estSentAt, estSentMark, auxSentAt, echoSentAt, readySentAt, finishSentAt, decidedZeroAt, decidedOneAt}
+use Rattle.records.specs.Layout.{sendMarksAt, sendValueAt, echoMarksAt, echoValueAt, readyMarksAt, readyValueAt, voteAt, estMark, auxMark, finishMarksAt, finishMark, commitCountAt, commitRowAt}
 use Rattle.records.specs.Words.{put, setMark, storeOf}
 
 -- ---- messages that are held: p is the sender
@@ -25,6 +25,10 @@ withEst s i r b p = setMark s (voteAt i r) (estMark b p)
 
 abbrev pub withAux : List ℕ → ℕ → ℕ → ℕ → ℕ → List ℕ
 withAux s i r b p = setMark s (voteAt i r) (auxMark b p)
+
+-- FINISH b in vote i
+abbrev pub withFinish : List ℕ → ℕ → ℕ → ℕ → List ℕ
+withFinish s i b p = setMark s (finishMarksAt i) (finishMark b p)
 
 -- the values f 1 to f n of a COMMIT, and their number
 abbrev pub withCommitValues : List ℕ → ℕ → (ℕ → ℕ) → ℕ → List ℕ
@@ -59,6 +63,9 @@ withEstSent s i r b = setMark s (estSentAt i) (estSentMark r b)
 
 abbrev pub withAuxSent : List ℕ → ℕ → ℕ → List ℕ
 withAuxSent s i r = setMark s (auxSentAt i) r
+
+abbrev pub withFinishSent : List ℕ → ℕ → List ℕ
+withFinishSent s i = setMark s finishSentAt i
 
 -- vote i is in round r
 abbrev pub withRound : List ℕ → ℕ → ℕ → List ℕ

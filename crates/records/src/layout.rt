@@ -17,6 +17,8 @@ pub const WEIGHTS: usize = 141;
 
 pub const BOXED: usize = 142;
 
+pub const VERSION: usize = 143;
+
 pub const TURNS: usize = 6;
 
 pub const FLAGS: usize = 7;
@@ -44,6 +46,8 @@ pub const SEND_VALUES: usize = 71;
 pub const ECHO_MARKS: usize = 87;
 
 pub const READY_MARKS: usize = 103;
+
+pub const FINISH_MARKS: usize = 144;
 // One word for each sender.
 pub const COMMIT_COUNTS: usize = 119;
 
@@ -58,6 +62,8 @@ pub const DECIDED_ONE: usize = 139;
 
 pub const SEND_MARKS: usize = 140;
 
+pub const FINISH_SENT: usize = 144;
+
 // Rows of 16 words: for each instance by sender, for each sender by place.
 pub const ECHO_VALUES: usize = 239;
 
@@ -67,7 +73,7 @@ pub const COMMIT_VALUES: usize = 751;
 // Rows of 32 words: for each vote by round.
 pub const VOTES: usize = 991;
 
-// The groups of marks in such a word, 16 each: EST 0 and EST 1, then AUX 0 and AUX 1.
+// The groups of marks in such a word, 16 each: EST 0 and EST 1, then AUX 0 and AUX 1; FINISHes have two.
 pub const GROUP: u64 = 16;
 
 pub const AUX_ZERO: u64 = 32;

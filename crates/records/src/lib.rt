@@ -10,12 +10,12 @@ ghost use lib.ListN.{length};
 ghost use Rattle.quorum.specs.Marking.{MarksOf};
 ghost use Rattle.quorum.specs.Weights.{weigh};
 ghost use Rattle.records.specs.Words.{copied};
-ghost use Rattle.records.specs.Records.{ownInput, turnCount, closed, sendSent, commitSent, echoSent, readySent, coin, printed, coinKnown, round, estSent, auxSent, decided};
-ghost use Rattle.records.specs.Records.{sendHeld, sendValue, echoHeld, readyHeld, estHeld, auxHeld, commitCount, commitValue};
+ghost use Rattle.records.specs.Records.{ownInput, turnCount, closed, sendSent, commitSent, echoSent, readySent, finishSent, version, coin, printed, coinKnown, round, estSent, auxSent, decidedZero, decidedOne, decided};
+ghost use Rattle.records.specs.Records.{sendHeld, sendValue, echoHeld, readyHeld, estHeld, auxHeld, finishHeld, commitCount, commitValue};
 ghost use Rattle.records.specs.Layout.{auxGroup};
 ghost use Rattle.records.specs.Words.{word, put, marked, equalAt, setMark};
 ghost use Rattle.records.specs.laws.Words.{Reached};
-ghost use Rattle.records.specs.MarkWords.{decidedZeroMarks, decidedOneMarks, voteMarks};
+ghost use Rattle.records.specs.MarkWords.{decidedZeroMarks, decidedOneMarks, voteMarks, finishMarks};
 ghost use Rattle.records.specs.Sets.{SetRoom, SetCopied};
 
 // The word at k, and 0 past the end.
@@ -133,6 +133,13 @@ pub fn ready_sent(s: &[u64], i: u8) -> bool
     marked(s, layout::READY_SENT, i as u64)
 }
 
+// Whether the FINISH of vote i was sent.
+pub fn finish_sent(s: &[u64], i: u8) -> bool
+    ensures { λ r. ⌜ r ≡ finishSent (now (s .entry)) i ⌝ }
+{
+    marked(s, layout::FINISH_SENT, i as u64)
+}
+
 pub fn send_held(s: &[u64], i: u8) -> bool
     ensures { λ r. ⌜ r ≡ sendHeld (now (s .entry)) i ⌝ }
 {
@@ -164,6 +171,13 @@ pub fn coin(s: &[u64], i: u8, r: u8) -> bool
     ensures { λ c. ⌜ c ≡ coin (now (s .entry)) i r ⌝ }
 {
     marked(s, layout::COINS + i as usize, r as u64)
+}
+
+// The version of the session.
+pub fn version(s: &[u64]) -> u64
+    ensures { λ r. ⌜ r ≡ version (now (s .entry)) ⌝ }
+{
+    word(s, layout::VERSION)
 }
 
 // Whether the coins of the session are printed.
@@ -223,6 +237,20 @@ pub fn decided_one_marks(s: &[u64]) -> u64
     word(s, layout::DECIDED_ONE)
 }
 
+// Whether vote i is decided 0.
+pub fn decided_zero(s: &[u64], i: u8) -> bool
+    ensures { λ r. ⌜ r ≡ decidedZero (now (s .entry)) i ⌝ }
+{
+    marked(s, layout::DECIDED_ZERO, i as u64)
+}
+
+// Whether vote i is decided 1.
+pub fn decided_one(s: &[u64], i: u8) -> bool
+    ensures { λ r. ⌜ r ≡ decidedOne (now (s .entry)) i ⌝ }
+{
+    marked(s, layout::DECIDED_ONE, i as u64)
+}
+
 // Whether a decision stands in vote i.
 pub fn decided(s: &[u64], i: u8) -> bool
     ensures { λ r. ⌜ r ≡ decided (now (s .entry)) i ⌝ }
@@ -250,6 +278,33 @@ pub fn aux_held(s: &[u64], i: u8, r: u8, p: u8) -> bool
 {
     let w = vote_marks(s, i, r);
     quorum::mark(w, layout::AUX_ZERO + p as u64) | quorum::mark(w, layout::AUX_ONE + p as u64)
+}
+
+// The FINISHes held in vote i, two groups of 16 marks.
+pub fn finish_marks(s: &[u64], i: u8) -> u64
+    ensures { λ w. ⌜ w ≡ finishMarks (now (s .entry)) i ⌝ }
+{
+    word(s, layout::FINISH_MARKS + i as usize)
+}
+
+// Whether a FINISH of sender p is held in vote i.
+pub fn finish_held(s: &[u64], i: u8, p: u8) -> bool
+    ensures { λ c. ⌜ c ≡ (finishHeld (now (s .entry)) i 0 p || finishHeld (now (s .entry)) i 1 p) ⌝ }
+{
+    let w = finish_marks(s, i);
+    quorum::mark(w, p as u64) | quorum::mark(w, layout::GROUP + p as u64)
+}
+
+// The weight of the senders 1 to n whose FINISHes of b are held in vote i.
+pub fn finish_weight(s: &[u64], i: u8, b: u8, n: u8, weights: u64) -> u64
+    ensures { λ c. ⌜ c ≡ weigh weights (finishHeld (now (s .entry)) i b) n ⌝ }
+{
+    quorum::weigh_marks(
+        finish_marks(s, i),
+        layout::GROUP as u16 * b as u16,
+        n,
+        weights,
+    )
 }
 
 // The weight of the senders 1 to n whose ESTs of b are held in round r of vote i.

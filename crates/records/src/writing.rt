@@ -3,8 +3,8 @@ use crate::layout;
 ghost use mathlib.Core.Path.{_≡_};
 ghost use Rattle.records.specs.Layout.{commitValueAt};
 ghost use Rattle.records.specs.Words.{put, setMark};
-ghost use Rattle.records.specs.Writing.{withSend, withEcho, withReady, withEst, withAux, withCommitCount};
-ghost use Rattle.records.specs.Writing.{withClosed, withSendSent, withCommitSent, withEchoSent, withReadySent, withEstSent, withAuxSent, withRound, withDecision, withTurnCount};
+ghost use Rattle.records.specs.Writing.{withSend, withEcho, withReady, withEst, withAux, withFinish, withCommitCount};
+ghost use Rattle.records.specs.Writing.{withClosed, withSendSent, withCommitSent, withEchoSent, withReadySent, withFinishSent, withEstSent, withAuxSent, withRound, withDecision, withTurnCount};
 
 // Puts a value at a word, and sets mark p of another.
 fn hold_value(s: &mut [u64], at: usize, v: u64, marks: usize, p: u64)
@@ -75,6 +75,17 @@ pub fn hold_aux(s: &mut [u64], i: u8, r: u8, b: u8, p: u8)
     );
 }
 
+// Holds FINISH b of sender p in vote i.
+pub fn hold_finish(s: &mut [u64], i: u8, b: u8, p: u8)
+    ensures { λ _. ⌜ now (s .exit) ≡ withFinish (now (s .entry)) i b p ⌝ }
+{
+    crate::set_mark(
+        s,
+        layout::FINISH_MARKS + i as usize,
+        layout::GROUP * b as u64 + p as u64,
+    );
+}
+
 // Puts value k of the COMMIT of sender p.
 pub fn put_commit_value(s: &mut [u64], p: u8, k: u8, v: u64)
     ensures { λ _. ⌜ now (s .exit) ≡ put (now (s .entry)) (commitValueAt p k) v ⌝ }
@@ -131,6 +142,13 @@ pub fn mark_aux_sent(s: &mut [u64], i: u8, r: u8)
     ensures { λ _. ⌜ now (s .exit) ≡ withAuxSent (now (s .entry)) i r ⌝ }
 {
     crate::set_mark(s, layout::AUX_SENT + i as usize, r as u64);
+}
+
+// Marks the FINISH of vote i as sent.
+pub fn mark_finish_sent(s: &mut [u64], i: u8)
+    ensures { λ _. ⌜ now (s .exit) ≡ withFinishSent (now (s .entry)) i ⌝ }
+{
+    crate::set_mark(s, layout::FINISH_SENT, i as u64);
 }
 
 // Sets the round of vote i.

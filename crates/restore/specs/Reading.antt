@@ -46,10 +46,10 @@ weightsFrom n xs = cond (eqb (length xs) (7 + n)) (replicate n 1) (take n (drop 
 unfoldable pub boxedFrom : ℕ → List ℕ → ℕ
 boxedFrom n xs = getD xs (7 + n + n) 0
 
--- the arguments of the opening of n concentrators that the numbers of its line stand for, from the third on
+-- the arguments of the opening of n concentrators that the numbers of its line stand for; n is the second
 abbrev pub argumentsFrom : ℕ → List ℕ → Arguments
 argumentsFrom n xs =
-    arguments n (getD xs 2 0) (getD xs 3 0) (getD xs 4 0) (getD xs 5 0) (getD xs 6 0) (take n (drop 7 xs)) (weightsFrom n xs) (boxedFrom n xs)
+    arguments (getD xs 0 0) n (getD xs 2 0) (getD xs 3 0) (getD xs 4 0) (getD xs 5 0) (getD xs 6 0) (take n (drop 7 xs)) (weightsFrom n xs) (boxedFrom n xs)
 
 -- a field of bytes, each two lower-case hexadecimal digits
 unfoldable pub hexRight : List ℕ → Bool

@@ -14,7 +14,7 @@ use Rattle.recording.specs.Recording.{recordAnswer, recordedWords}
 use Rattle.turn.specs.Turn.{sentLength, turnOutcome, turnWords, turnBytes}
 use Rattle.text.specs.Fields.{fields, letter}
 use Rattle.text.specs.Numbers.{DECIMAL, valueOf, valuesOf}
-use Rattle.journal.specs.Lines.{LETTER-O, LETTER-D, LETTER-T, LETTER-K, VERSION, recordingForms}
+use Rattle.journal.specs.Lines.{LETTER-O, LETTER-D, LETTER-T, LETTER-K, recordingForms}
 use Rattle.journal.specs.Journal.{acts}
 use Rattle.restore.specs.Complete.{linesOf, joined}
 use Rattle.restore.specs.Reading.{proper, allProper, fieldAt, formsFor, argumentsFrom, hexRight, bytesOf}
@@ -36,7 +36,7 @@ openedFrom o = cond (eqb (openAnswer stateWords o) 0) (some (record { words = op
 
 -- .. of the numbers xs: version, n, ta, ts, own number, session, own input, coin words, weights, whether coins are boxed
 unfoldable pub openingFrom : (n : ℕ) → List ℕ → Option Point
-openingFrom n xs = cond (eqb (getD xs 0 0) VERSION && ltb (getD xs 5 0) (2 ^ 32)) (openedFrom (argumentsFrom n xs)) none
+openingFrom n xs = cond (ltb (getD xs 5 0) (2 ^ 32)) (openedFrom (argumentsFrom n xs)) none
 
 -- n stands in the second field; above 16 its opening is refused, whatever follows
 unfoldable pub openingRead : (n : ℕ) → List (List ℕ) → Option Point

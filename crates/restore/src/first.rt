@@ -20,8 +20,6 @@ const WORD: u8 = 8;
 
 const PACK: u8 = 16;
 
-const VERSION: u64 = 1;
-
 const LETTER_O: u8 = 79;
 
 // The fields of an opening line that were read: how many.
@@ -149,6 +147,7 @@ fn open_with(
 {
     let answer = opening::open(
         copy,
+        values[0],
         n as u64,
         values[2],
         values[3],
@@ -167,9 +166,6 @@ fn open_values(copy: &mut [u64], n: usize, count: usize, values: &[u64]) -> bool
     requires { ⌜ OpenGiven n count (now values) (now copy) ⌝ }
     ensures { λ r. ⌜ Tried (openingFrom n (take count (now (values .entry)))) (now (copy .entry)) r (now (copy .exit)) ⌝ }
 {
-    if values[0] != VERSION {
-        return false;
-    }
     if 4294967295 < values[5] {
         return false;
     }

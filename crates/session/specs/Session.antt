@@ -4,10 +4,12 @@ use mathlib.Core.Bool.{Bool, _&&_, cond}
 use mathlib.Core.List.{List}
 use lib.ListN.{length}
 use lib.Dec.{eqb, leb}
-use Rattle.settings.specs.Settings.{validSettings, settingsFrom, turnBound, movedOutRound}
+use Rattle.settings.specs.Settings.{validSettings, settingsFrom, movedOutRound}
+use Rattle.settings.specs.Versions.{versionKnown, turnBound}
 use Rattle.settings.specs.declared.Settings.{Settings}
 use Rattle.quorum.specs.Every.{every}
 use Rattle.records.specs.Layout.{stateWords, nAt, taAt, tsAt, ownAt, sessionAt, weightsAt, boxedAt, turnsAt, roundAt, commitCountAt}
+use Rattle.records.specs.Records.{version}
 use Rattle.records.specs.Words.{word}
 use Rattle.session.specs.declared.Session.{Session}
 use Rattle.session.specs.declared.Stored.{Stored}
@@ -25,10 +27,11 @@ roundsRight s n = every (λ i. leb (word s (roundAt i)) movedOutRound) n
 unfoldable pub commitsRight : List ℕ → ℕ → Bool
 commitsRight s n = every (λ p. leb (word s (commitCountAt p)) n) n
 
--- the stored numbers beside n, ta, ts and the weights: own number, kind of coins, turns within the turn bound, rounds and COMMITs (PROTOCOL 9.6)
+-- the stored numbers beside n, ta, ts and the weights: own number, kind of coins, version, turns within its turn bound, rounds and COMMITs
+-- (PROTOCOL 9.6)
 unfoldable pub numbersRight : Settings → List ℕ → Bool
 numbersRight g s =
-    numbered (g .n) (word s ownAt) && leb (word s boxedAt) 1 && leb (word s turnsAt) (turnBound g) && roundsRight s (g .n) && commitsRight s (g .n)
+    numbered (g .n) (word s ownAt) && leb (word s boxedAt) 1 && versionKnown (version s) && leb (word s turnsAt) (turnBound (version s) g) && roundsRight s (g .n) && commitsRight s (g .n)
 
 unfoldable pub settingsOf : List ℕ → Settings
 settingsOf s = settingsFrom (word s nAt) (word s taAt) (word s tsAt) (word s weightsAt)

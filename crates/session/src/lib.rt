@@ -64,7 +64,11 @@ fn numbers_right(s: &[u64], g: Settings) -> bool
     if 1 < records::word(s, layout::BOXED) {
         return false;
     }
-    if g.turn_bound() < records::word(s, layout::TURNS) {
+    let version = records::version(s);
+    if !settings::version_known(version) {
+        return false;
+    }
+    if g.turn_bound(version) < records::word(s, layout::TURNS) {
         return false;
     }
     if !all_limited(

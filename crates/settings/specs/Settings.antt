@@ -52,17 +52,13 @@ repeat g = g .ts + 1
 unfoldable pub voteQuorum : Settings → ℕ
 voteQuorum g = g .whole - g .ta
 
--- the relay threshold: ESTs behind a relay (PROTOCOL 1.17)
+-- the relay threshold: ESTs behind a relay, FINISHes behind a FINISH (PROTOCOL 1.17)
 unfoldable pub relay : Settings → ℕ
 relay g = g .ta + 1
 
--- the accept threshold: ESTs behind an accepted value (PROTOCOL 1.18)
+-- the accept threshold: ESTs behind an accepted value, FINISHes behind a decision (PROTOCOL 1.18)
 unfoldable pub accept : Settings → ℕ
 accept g = 2 * g .ta + 1
-
--- the turn bound: the most counted turns of a session at one concentrator (PROTOCOL 8.20)
-unfoldable pub turnBound : Settings → ℕ
-turnBound g = 99 * g .n + 3
 
 -- the last round (PROTOCOL 1.20)
 abbrev pub roundLimit : ℕ

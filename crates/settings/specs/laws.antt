@@ -2,4 +2,5 @@ pub mod Rules
 pub mod Thresholds
 pub mod Cases
 pub mod Unnamed
+pub mod Versions
 pub mod Counting

@@ -5,7 +5,8 @@ ghost use mathlib.Core.Path.{_≡_};
 ghost use Prim.Native.Nat.{_-_};
 ghost use Rattle.settings.specs.Settings.{largestTa, namedTa};
 ghost use Rattle.settings.specs.Check.{checkSettings};
-ghost use Rattle.settings.specs.Settings.{quorum, repeat, voteQuorum, relay, accept, turnBound};
+ghost use Rattle.settings.specs.Settings.{quorum, repeat, voteQuorum, relay, accept};
+ghost use Rattle.settings.specs.Versions.{versionKnown, finishing, turnBound};
 
 // u8 fields: no threshold can wrap, so none has a `requires`. `whole` is the sum of the weights, which are one word.
 pub struct Settings {
@@ -19,6 +20,24 @@ pub struct Settings {
 pub enum Checked {
     Valid(Settings),
     Invalid,
+}
+
+// The versions of a session: 1, and 2, in which votes wind up early.
+pub const FIRST_VERSION: u64 = 1;
+
+pub const FINISH_VERSION: u64 = 2;
+
+pub fn version_known(version: u64) -> bool
+    ensures { λ r. ⌜ r ≡ versionKnown version ⌝ }
+{
+    (FIRST_VERSION <= version) & (version <= FINISH_VERSION)
+}
+
+// Whether the sessions of a version have FINISHes.
+pub fn finishing(version: u64) -> bool
+    ensures { λ r. ⌜ r ≡ finishing version ⌝ }
+{
+    version == FINISH_VERSION
 }
 
 // a − b, and 0 where b is above a.
@@ -131,24 +150,27 @@ impl Settings {
         difference(self.whole, self.ta)
     }
 
-    // ta + 1: an EST that is relayed.
+    // ta + 1: an EST that is relayed, a FINISH that is repeated.
     pub fn relay(self) -> u64
         ensures { λ r. ⌜ r ≡ relay self ⌝ }
     {
         self.ta as u64 + 1
     }
 
-    // 2·ta + 1: a value accepted in a round.
+    // 2·ta + 1: a value accepted in a round, or decided by FINISHes.
     pub fn accept(self) -> u64
         ensures { λ r. ⌜ r ≡ accept self ⌝ }
     {
         2 * self.ta as u64 + 1
     }
 
-    // 99·n + 3: the turns of a session that are not idle.
-    pub fn turn_bound(self) -> u64
-        ensures { λ r. ⌜ r ≡ turnBound self ⌝ }
+    // 99·n + 3: the turns of a session that are not idle; with FINISHes 100·n + 3.
+    pub fn turn_bound(self, version: u64) -> u64
+        ensures { λ r. ⌜ r ≡ turnBound version self ⌝ }
     {
+        if finishing(version) {
+            return 100 * self.n as u64 + 3;
+        }
         99 * self.n as u64 + 3
     }
 }

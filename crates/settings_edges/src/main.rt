@@ -24,7 +24,19 @@ fn answer(n: u64, ta: u64, ts: u64, weights: &[u8]) -> u64 {
     let mut state = [0u64; 2048];
     let coins = [0u32; 17];
     let count = lent(n);
-    opening::open(&mut state, n, ta, ts, 1, 7, 5, &coins[..count], weights, 0)
+    opening::open(
+        &mut state,
+        1,
+        n,
+        ta,
+        ts,
+        1,
+        7,
+        5,
+        &coins[..count],
+        weights,
+        0,
+    )
 }
 
 fn print_answer(answer: u64) {
@@ -73,7 +85,7 @@ fn weighted(n: u64, ta: u64, ts: u64, weights: &[u8]) {
 fn kind_answer(kind: u64, coins: &[u32]) -> u64 {
     let mut state = [0u64; 2048];
     let ones = [1u8; 4];
-    opening::open(&mut state, 4, 1, 1, 1, 7, 5, coins, &ones, kind)
+    opening::open(&mut state, 1, 4, 1, 1, 1, 7, 5, coins, &ones, kind)
 }
 
 fn wide_coin(x: u32) -> u64 {

@@ -6,11 +6,11 @@ use lib.ListN.{length}
 use lib.Dec.{ltb}
 use Rattle.settings.specs.Refusals.{SHORT, NO-STATE, CLOSED}
 use Rattle.settings.specs.Settings.{roundLimit}
-use Rattle.records.specs.Records.{turnCount, closed, coin, decided}
-use Rattle.records.specs.Writing.{withTurnCount, withRound, withDecision, withClosed, withCommitSent, withSendSent, withEchoSent, withReadySent, withEstSent, withAuxSent}
+use Rattle.records.specs.Records.{turnCount, closed, coin, decided, version}
+use Rattle.records.specs.Writing.{withTurnCount, withRound, withDecision, withClosed, withCommitSent, withSendSent, withEchoSent, withReadySent, withEstSent, withAuxSent, withFinishSent}
 use Rattle.acts.specs.Acts.{isDue}
 use Rattle.acts.specs.declared.Act.{Act}
-use Rattle.acts.specs.declared.Act.the-variants.{Idle, InForce, Commit, Send, Echo, Ready, Start, Relay, Aux, Move}
+use Rattle.acts.specs.declared.Act.the-variants.{Idle, InForce, Commit, Send, Echo, Ready, Start, Relay, Aux, Move, Finish}
 use Rattle.acts.specs.declared.View.{View}
 use Rattle.votes.specs.Votes.{estimate, decides}
 use Rattle.session.specs.Session.{isState, sessionOf}
@@ -40,6 +40,7 @@ outcomeOf own s (Start i b) = outcome.Sent (message.Est i 1 b)
 outcomeOf own s (Relay i r b) = outcome.Sent (message.Est i r b)
 outcomeOf own s (Aux i r b) = outcome.Sent (message.Aux i r b)
 outcomeOf own s (Move i r v) = moveOutcome s i r v
+outcomeOf own s (Finish i b) = outcome.Sent (message.Finish i b)
 
 -- the length of the message that is sent, in bytes; 0 where none is
 abbrev pub sentLength : Outcome → ℕ
@@ -80,6 +81,7 @@ done s (Start i b) = entered s i 1 b
 done s (Relay i r b) = withEstSent s i r b
 done s (Aux i r b) = withAuxSent s i r
 done s (Move i r v) = moved s i r v
+done s (Finish i b) = withFinishSent s i
 
 -- the state after an act; an idle turn is not counted
 unfoldable pub applied : List ℕ → Act → List ℕ
@@ -97,7 +99,7 @@ admits s room =
 unfoldable pub bytesAfter : Session → List ℕ → Outcome → List ℕ → List ℕ
 bytesAfter x s (outcome.Refused k) out = out
 bytesAfter x s outcome.Idle out = out
-bytesAfter x s (outcome.Sent m) out = atFront (encode m (x .own) (x .number) (commitDue (x .settings) s)) out
+bytesAfter x s (outcome.Sent m) out = atFront (encode m (version s) (x .own) (x .number) (commitDue (x .settings) s)) out
 bytesAfter x s outcome.MovedOut out = out
 bytesAfter x s outcome.InForce out = out
 

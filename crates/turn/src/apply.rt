@@ -69,6 +69,7 @@ fn mark_act(s: &mut [u64], a: Act)
         Act::Relay(i, r, b) => writing::mark_est_sent(s, i, r as u16, b),
         Act::Aux(i, r, _) => writing::mark_aux_sent(s, i, r),
         Act::Move(i, r, v) => move_vote(s, i, r, v),
+        Act::Finish(i, _) => writing::mark_finish_sent(s, i),
     }
 }
 

@@ -110,18 +110,22 @@ fn outcome_of(s: &[u64], own: u8, a: Act) -> Outcome
             value: b,
         }),
         Act::Move(i, r, v) => move_outcome(s, i, r, v),
+        Act::Finish(i, b) => Outcome::Sent(Message::Finish {
+            instance: i,
+            value: b,
+        }),
     }
 }
 
-// Writes the message of an outcome that has one.
-fn write_outcome(o: Outcome, x: Session, set: &[u64; 16], out: &mut [u8])
-    ensures { λ _. ⌜ now (out .exit) ≡ writtenFor x o (now (set .entry)) (now (out .entry)) ⌝ }
+// Writes the message of an outcome that has one, in a session of that version.
+fn write_outcome(o: Outcome, version: u8, x: Session, set: &[u64; 16], out: &mut [u8])
+    ensures { λ _. ⌜ now (out .exit) ≡ writtenFor version x o (now (set .entry)) (now (out .entry)) ⌝ }
 {
     match o {
         Outcome::Refused(_) => {}
         Outcome::Idle => {}
         Outcome::Sent(m) => {
-            wire::write_message(m, x.own, x.number, set, out);
+            wire::write_message(m, version, x.own, x.number, set, out);
         }
         Outcome::MovedOut => {}
         Outcome::InForce => {}
@@ -138,7 +142,7 @@ fn take_turn(state: &mut [u64], x: Session, out: &mut [u8]) -> Outcome
     let mut set = [0u64; 16];
     let a = due::due(state, x.settings, &mut set);
     let o = outcome_of(state, x.own, a);
-    write_outcome(o, x, &set, out);
+    write_outcome(o, records::version(state) as u8, x, &set, out);
     apply::apply(state, a);
     o
 }

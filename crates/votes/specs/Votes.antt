@@ -4,8 +4,10 @@ use mathlib.Core.Bool.{Bool, true, false, _&&_, _||_, cond}
 use mathlib.Core.List.{List}
 use lib.Dec.{eqb, leb, ltb}
 use Rattle.settings.specs.Settings.{weighed, voteQuorum, relay, accept, roundLimit}
+use Rattle.settings.specs.Versions.{finishing}
 use Rattle.settings.specs.declared.Settings.{Settings}
-use Rattle.records.specs.Records.{estHeld, auxHeld, round, estSent, auxSent, decidedOne, coinKnown}
+use Rattle.records.specs.Records.{estHeld, auxHeld, round, estSent, auxSent, decidedOne, coinKnown, version}
+use Rattle.votes.specs.Finishing.{finishAct, finished}
 use Rattle.acts.specs.Acts.{orAct, firstAct}
 use Rattle.acts.specs.declared.Act.{Act}
 use Rattle.acts.specs.declared.Act.the-variants.{Idle, Start, Relay, Aux, Move}
@@ -97,13 +99,27 @@ moveAct g s i =
 unfoldable pub roundAct : Settings → List ℕ → ℕ → Act
 roundAct g s i = cond (running s i) (orAct (auxAct g s i) (moveAct g s i)) Idle
 
--- the order in a vote: start, relay, AUX, move (PROTOCOL 5.2)
+-- the steps of a vote in their order: start, relay, AUX, move (PROTOCOL 5.2)
 unfoldable pub voteAct : Settings → List ℕ → Bool → ℕ → ℕ → Act
 voteAct g s hasOutput decidedOnes i = orAct (startAct g s hasOutput decidedOnes i) (orAct (relayAct g s i) (roundAct g s i))
 
+-- .. in version 2: FINISH goes before them, and a vote that has finished does nothing more (PROTOCOL 5.14, 5.16)
+unfoldable pub windingAct : Settings → List ℕ → Bool → ℕ → ℕ → Act
+windingAct g s hasOutput decidedOnes i =
+    orAct (finishAct g s i)
+    (cond (finished s i) Idle
+    (voteAct g s hasOutput decidedOnes i))
+
+-- what is due in a vote, with FINISHes or without
+unfoldable pub voteDue : Settings → List ℕ → Bool → Bool → ℕ → ℕ → Act
+voteDue g s finishes hasOutput decidedOnes i =
+    cond finishes
+    (windingAct g s hasOutput decidedOnes i)
+    (voteAct g s hasOutput decidedOnes i)
+
 -- rule 6, lower instances first: `hasOutput i` tells whether broadcast i has output
 unfoldable pub voteRule : Settings → List ℕ → (ℕ → Bool) → Act
-voteRule g s hasOutput = firstAct (λ i. voteAct g s (hasOutput i) (votesDecidedOne g s) i) (g .n)
+voteRule g s hasOutput = firstAct (λ i. voteDue g s (finishing (version s)) (hasOutput i) (votesDecidedOne g s) i) (g .n)
 
 -- the coin as a value: 1 where its bit is set
 abbrev pub coinValue : Bool → ℕ

@@ -3,3 +3,4 @@ pub mod Votes
 pub mod Cases
 pub mod Told
 pub mod Views
+pub mod Versions

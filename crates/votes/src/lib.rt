@@ -1,5 +1,8 @@
-// Votes, rule 6 of the turn order: the start, relay, AUX or move that is due.
+// Votes, rule 6 of the turn order: the start, relay, AUX or move that is due, and in version 2 the FINISH before them.
+mod finish;
+
 use acts::Act;
+pub use finish::finish_decides;
 use settings::Settings;
 ghost use mathlib.Core.Path.{_≡_};
 ghost use Prim.Native.Nat.{min};
@@ -7,8 +10,8 @@ ghost use Rattle.settings.specs.Settings.{roundLimit};
 ghost use Rattle.records.specs.Records.{round};
 ghost use Rattle.votes.specs.Votes.{estCount, accepted, votesDecidedOne, startAct, relayValue, relayRound, relayAct, running, auxValue, auxAct};
 ghost use Rattle.quorum.specs.Marks.{mark};
-ghost use Rattle.votes.specs.Votes.{auxCount, viewOf, moveAct, roundAct, voteAct, voteRule, coinValue, estimate, decides};
-ghost use Rattle.votes.specs.laws.Given.{carriersGiven, viewGiven, moveGiven};
+ghost use Rattle.votes.specs.Votes.{auxCount, viewOf, moveAct, roundAct, voteAct, voteDue, voteRule, coinValue, estimate, decides};
+ghost use Rattle.votes.specs.laws.Given.{carriersGiven, viewGiven, moveGiven, firstFinish, over};
 
 // The weight of the senders whose ESTs of b are held in round r of vote i.
 fn est_count(s: &[u64], g: Settings, i: u8, r: u8, b: u8) -> u64
@@ -223,16 +226,52 @@ pub fn vote_act(s: &[u64], g: Settings, output: bool, ones: u64, i: u8) -> Act
     round_act(s, g, i)
 }
 
+// The FINISH of vote i, where there are FINISHes and it is due.
+fn first_finish(s: &[u64], g: Settings, finishes: bool, i: u8) -> Act
+    ensures { λ a. ⌜ a ≡ firstFinish g (now (s .entry)) finishes i ⌝ }
+{
+    if finishes {
+        return finish::finish_act(s, g, i);
+    }
+    Act::Idle
+}
+
+// Whether vote i does nothing more: there are FINISHes, and it has finished.
+fn over(s: &[u64], finishes: bool, i: u8) -> bool
+    ensures { λ t. ⌜ t ≡ over (now (s .entry)) finishes i ⌝ }
+{
+    if finishes {
+        return finish::finished(s, i);
+    }
+    false
+}
+
+// What is due in vote i, with FINISHes or without. One call of `vote_act` for both: with two it is no longer compiled into the loop
+// below (docs/PERFORMANCE.md).
+fn vote_due(s: &[u64], g: Settings, finishes: bool, output: bool, ones: u64, i: u8) -> Act
+    ensures { λ a. ⌜ a ≡ voteDue g (now (s .entry)) finishes output ones i ⌝ }
+{
+    let a = first_finish(s, g, finishes, i);
+    if acts::is_due(a) {
+        return a;
+    }
+    if over(s, finishes, i) {
+        return Act::Idle;
+    }
+    vote_act(s, g, output, ones, i)
+}
+
 // Rule 6, lower votes first: `outputs` has mark i where broadcast i has output.
 pub fn vote_rule(s: &[u64], g: Settings, outputs: u64) -> Act
     ensures { λ a. ⌜ a ≡ voteRule g (now (s .entry)) (mark outputs) ⌝ }
 {
+    let finishes = settings::finishing(records::version(s));
     let ones = votes_decided_one(s, g);
     let n = g.n;
     let mut i: u8 = 0;
     while i < n {
         i += 1;
-        let a = vote_act(s, g, quorum::mark(outputs, i as u64), ones, i);
+        let a = vote_due(s, g, finishes, quorum::mark(outputs, i as u64), ones, i);
         if acts::is_due(a) {
             return a;
         }

@@ -13,41 +13,46 @@ use lib.Dec.{ltb}
 use borrow.Rule.Slice.PartMut.{putMid}
 use borrow.Author.Tests.{lt-ltb, le-ltb, le-leb, lt-leb, eq-eqb, ne-eqb}
 use Rattle.wire.specs.Bytes.{be2, be4, be8, valueAt, values, risesFrom, rises, bytes2, bytes4, bytes8, valueBytes}
-use Rattle.wire.specs.Message.{SEND, ECHO, READY, EST, AUX, byKind, countOf, lengthOf, besides, valuesOf, headerFor, frontBytes, headerBytes, messageBytes, encode, atFront}
+use Rattle.wire.specs.Message.{SEND, ECHO, READY, EST, AUX, COMMIT, byKind, countOf, lengthOf, besides, valuesOf, headerFor, frontBytes, headerBytes, messageBytes, encode, atFront}
 use Rattle.wire.specs.Writing.{fitting, written, Wrote}
 use Rattle.wire.specs.declared.Message.{Message}
-use Rattle.wire.specs.declared.Message.the-variants.{Send, Echo, Ready, Est, Aux, Commit}
+use Rattle.wire.specs.declared.Message.the-variants.{Send, Echo, Ready, Est, Aux, Commit, Finish}
 use Rattle.wire.specs.declared.Header.{Header}
 
--- one of six by the kind, for each kind
-module _ {A : Type 0} (k : ℕ) (a b c d e f : A) where
-  pub by-send : k ≡ SEND → byKind k a b c d e f ≡ a
+-- one of seven by the kind, for each kind
+module _ {A : Type 0} (k : ℕ) (a b c d e f g : A) where
+  pub by-send : k ≡ SEND → byKind k a b c d e f g ≡ a
   unfolding byKind
   by-send p = simp (eq-eqb _ _ p)
 
   module _ (s : k ≡ SEND → ⊥) where
-    pub by-echo : k ≡ ECHO → byKind k a b c d e f ≡ b
+    pub by-echo : k ≡ ECHO → byKind k a b c d e f g ≡ b
     unfolding byKind
     by-echo p = simp (ne-eqb _ _ s, eq-eqb _ _ p)
 
     module _ (t : k ≡ ECHO → ⊥) where
-      pub by-ready : k ≡ READY → byKind k a b c d e f ≡ c
+      pub by-ready : k ≡ READY → byKind k a b c d e f g ≡ c
       unfolding byKind
       by-ready p = simp (ne-eqb _ _ s, ne-eqb _ _ t, eq-eqb _ _ p)
 
       module _ (u : k ≡ READY → ⊥) where
-        pub by-est : k ≡ EST → byKind k a b c d e f ≡ d
+        pub by-est : k ≡ EST → byKind k a b c d e f g ≡ d
         unfolding byKind
         by-est p = simp (ne-eqb _ _ s, ne-eqb _ _ t, ne-eqb _ _ u, eq-eqb _ _ p)
 
         module _ (v : k ≡ EST → ⊥) where
-          pub by-aux : k ≡ AUX → byKind k a b c d e f ≡ e
+          pub by-aux : k ≡ AUX → byKind k a b c d e f g ≡ e
           unfolding byKind
           by-aux p = simp (ne-eqb _ _ s, ne-eqb _ _ t, ne-eqb _ _ u, ne-eqb _ _ v, eq-eqb _ _ p)
 
-          pub by-commit : (k ≡ AUX → ⊥) → byKind k a b c d e f ≡ f
-          unfolding byKind
-          by-commit p = simp (ne-eqb _ _ s, ne-eqb _ _ t, ne-eqb _ _ u, ne-eqb _ _ v, ne-eqb _ _ p)
+          module _ (w : k ≡ AUX → ⊥) where
+            pub by-commit : k ≡ COMMIT → byKind k a b c d e f g ≡ f
+            unfolding byKind
+            by-commit p = simp (ne-eqb _ _ s, ne-eqb _ _ t, ne-eqb _ _ u, ne-eqb _ _ v, ne-eqb _ _ w, eq-eqb _ _ p)
+
+            pub by-finish : (k ≡ COMMIT → ⊥) → byKind k a b c d e f g ≡ g
+            unfolding byKind
+            by-finish p = simp (ne-eqb _ _ s, ne-eqb _ _ t, ne-eqb _ _ u, ne-eqb _ _ v, ne-eqb _ _ w, ne-eqb _ _ p)
 
 -- a number in a part is one in the whole
 be2-drop : (b : List ℕ) (n i : ℕ) → be2 (drop n b) i ≡ be2 b (n + i)
@@ -194,17 +199,18 @@ count-values (Ready i v) xs h = refl
 count-values (Est i r v) xs h = refl
 count-values (Aux i r v) xs h = refl
 count-values (Commit k) xs h = length-take-le k xs h
+count-values (Finish i v) xs h = refl
 
-pub length-encode : (m : Message) (s t : ℕ) (xs : List ℕ) → besides m ≤ length xs → length (encode m s t xs) ≡ lengthOf m
+pub length-encode : (m : Message) (v s t : ℕ) (xs : List ℕ) → besides m ≤ length xs → length (encode m v s t xs) ≡ lengthOf m
 unfolding encode
-length-encode m s t xs h =
-    length-message (headerFor m s t) (valuesOf m xs) ∙ ap (λ (n : ℕ). 12 + 8 * n) (count-values m xs h)
+length-encode m v s t xs h =
+    length-message (headerFor m v s t) (valuesOf m xs) ∙ ap (λ (n : ℕ). 12 + 8 * n) (count-values m xs h)
 
 -- where there is room the whole message is written
-pub written-whole : (m : Message) (s t : ℕ) (xs out : List ℕ) → besides m ≤ length xs → lengthOf m ≤ length out → written m s t xs out ≡ encode m s t xs
+pub written-whole : (m : Message) (v s t : ℕ) (xs out : List ℕ) → besides m ≤ length xs → lengthOf m ≤ length out → written m v s t xs out ≡ encode m v s t xs
 unfolding written fitting
-written-whole m s t xs out h l =
-    let n : length (encode m s t xs) ≡ lengthOf m = length-encode m s t xs h in
+written-whole m v s t xs out h l =
+    let n : length (encode m v s t xs) ≡ lengthOf m = length-encode m v s t xs h in
     simp (le-leb _ _ h, n, le-leb _ _ l)
 
 -- value k of the values

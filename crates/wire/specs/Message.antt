@@ -4,16 +4,13 @@ use mathlib.Core.Bool.{cond}
 use mathlib.Core.List.{List, [], _∷_, _++_}
 use lib.ListN.{length, take, drop}
 use lib.Dec.{eqb}
+use Rattle.settings.specs.Versions.{finishing}
 use Rattle.wire.specs.Bytes.{bytes2, bytes4, valueBytes}
 use Rattle.wire.specs.declared.Message.{Message}
-use Rattle.wire.specs.declared.Message.the-variants.{Send, Echo, Ready, Est, Aux, Commit}
+use Rattle.wire.specs.declared.Message.the-variants.{Send, Echo, Ready, Est, Aux, Commit, Finish}
 use Rattle.wire.specs.declared.Header.{Header}
 
--- byte 0, the version (PROTOCOL 2.7)
-abbrev pub VERSION : ℕ
-VERSION = 1
-
--- byte 1, the kind (PROTOCOL 2.1 to 2.6)
+-- byte 1, the kind (PROTOCOL 2.1 to 2.6, 2.20)
 abbrev pub SEND : ℕ
 SEND = 1
 
@@ -32,15 +29,23 @@ AUX = 5
 abbrev pub COMMIT : ℕ
 COMMIT = 6
 
--- one of six by the kind; that of COMMIT where it is none of the first five
-unfoldable pub byKind : {A : Type 0} → ℕ → (send echo ready est aux commit : A) → A
-byKind kind send echo ready est aux commit =
+abbrev pub FINISH : ℕ
+FINISH = 7
+
+-- the last kind of a version: only version 2 has FINISHes (PROTOCOL 2.8)
+unfoldable pub lastKind : ℕ → ℕ
+lastKind version = cond (finishing version) FINISH COMMIT
+
+-- one of seven by the kind; that of FINISH where it is none of the first six
+unfoldable pub byKind : {A : Type 0} → ℕ → (send echo ready est aux commit finish : A) → A
+byKind kind send echo ready est aux commit finish =
     cond (eqb kind SEND) send
     (cond (eqb kind ECHO) echo
     (cond (eqb kind READY) ready
     (cond (eqb kind EST) est
     (cond (eqb kind AUX) aux
-    commit))))
+    (cond (eqb kind COMMIT) commit
+    finish)))))
 
 -- byte 1 of a message
 abbrev pub kindOf : Message → ℕ
@@ -50,6 +55,7 @@ kindOf (Ready i v) = READY
 kindOf (Est i r v) = EST
 kindOf (Aux i r v) = AUX
 kindOf (Commit k) = COMMIT
+kindOf (Finish i v) = FINISH
 
 -- byte 3, the instance; a COMMIT has none, which is 0 (PROTOCOL 2.1 to 2.6)
 abbrev pub instanceOf : Message → ℕ
@@ -59,8 +65,9 @@ instanceOf (Ready i v) = i
 instanceOf (Est i r v) = i
 instanceOf (Aux i r v) = i
 instanceOf (Commit k) = 0
+instanceOf (Finish i v) = i
 
--- byte 4, the round of an EST or AUX; the other kinds have 0 (PROTOCOL 2.1 to 2.6)
+-- byte 4, the round of an EST or AUX; the other kinds have 0 (PROTOCOL 2.1 to 2.6, 2.20)
 abbrev pub roundOf : Message → ℕ
 roundOf (Send i v) = 0
 roundOf (Echo i v) = 0
@@ -68,6 +75,7 @@ roundOf (Ready i v) = 0
 roundOf (Est i r v) = r
 roundOf (Aux i r v) = r
 roundOf (Commit k) = 0
+roundOf (Finish i v) = 0
 
 -- byte 5, the number of values: one, or those of a COMMIT (PROTOCOL 2.1 to 2.6)
 abbrev pub countOf : Message → ℕ
@@ -77,6 +85,7 @@ countOf (Ready i v) = 1
 countOf (Est i r v) = 1
 countOf (Aux i r v) = 1
 countOf (Commit k) = k
+countOf (Finish i v) = 1
 
 -- twelve bytes, and eight more for each value (PROTOCOL 2.14)
 abbrev pub lengthOf : Message → ℕ
@@ -90,6 +99,7 @@ besides (Ready i v) = 0
 besides (Est i r v) = 0
 besides (Aux i r v) = 0
 besides (Commit k) = k
+besides (Finish i v) = 0
 
 -- the values of a message; those of a COMMIT are the first of xs, which stand beside it
 abbrev pub valuesOf : Message → List ℕ → List ℕ
@@ -99,11 +109,12 @@ valuesOf (Ready i v) xs = v ∷ []
 valuesOf (Est i r v) xs = v ∷ []
 valuesOf (Aux i r v) xs = v ∷ []
 valuesOf (Commit k) xs = take k xs
+valuesOf (Finish i v) xs = v ∷ []
 
--- a header with the fields that differ from message to message; the version is 1, and bytes 6 and 7 are 0 (PROTOCOL 2.7, 2.11)
-abbrev pub headerWith : (kind sender instance round count session : ℕ) → Header
-headerWith kind sender instance round count session = record {
-  version = VERSION;
+-- a header with the fields that differ from message to message; byte 0 is the version of the session, and bytes 6 and 7 are 0 (PROTOCOL 2.7, 2.11)
+abbrev pub headerWith : (version kind sender instance round count session : ℕ) → Header
+headerWith version kind sender instance round count session = record {
+  version = version;
   kind = kind;
   sender = sender;
   instance = instance;
@@ -113,9 +124,9 @@ headerWith kind sender instance round count session = record {
   session = session;
 }
 
--- the header of a message from a sender in a session
-unfoldable pub headerFor : Message → (sender session : ℕ) → Header
-headerFor m sender session = headerWith (kindOf m) sender (instanceOf m) (roundOf m) (countOf m) session
+-- the header of a message from a sender in a session of that version
+unfoldable pub headerFor : Message → (version sender session : ℕ) → Header
+headerFor m version sender session = headerWith version (kindOf m) sender (instanceOf m) (roundOf m) (countOf m) session
 
 -- bytes 0 to 7
 unfoldable pub frontBytes : Header → List ℕ
@@ -129,9 +140,9 @@ headerBytes h = frontBytes h ++ bytes4 (h .session)
 unfoldable pub messageBytes : Header → List ℕ → List ℕ
 messageBytes h xs = headerBytes h ++ valueBytes xs
 
--- the bytes of a message from a sender in a session
-unfoldable pub encode : Message → (sender session : ℕ) → List ℕ → List ℕ
-encode m sender session xs = messageBytes (headerFor m sender session) (valuesOf m xs)
+-- the bytes of a message from a sender in a session of that version
+unfoldable pub encode : Message → (version sender session : ℕ) → List ℕ → List ℕ
+encode m version sender session xs = messageBytes (headerFor m version sender session) (valuesOf m xs)
 
 -- out with w at its front: what stands behind it stays (PROTOCOL 9.4)
 unfoldable pub atFront : List ℕ → List ℕ → List ℕ

@@ -13,8 +13,8 @@ unfoldable pub fitting : List ℕ → List ℕ → List ℕ
 fitting w out = cond (leb (length w) (length out)) w []
 
 -- what is written of a message: nothing where out is too short, or xs are fewer than a COMMIT counts
-unfoldable pub written : Message → (sender session : ℕ) → List ℕ → List ℕ → List ℕ
-written m sender session xs out = cond (leb (besides m) (length xs)) (fitting (encode m sender session xs) out) []
+unfoldable pub written : Message → (version sender session : ℕ) → List ℕ → List ℕ → List ℕ
+written m version sender session xs out = cond (leb (besides m) (length xs)) (fitting (encode m version sender session xs) out) []
 
 -- the bytes w were written at the front of out, which is now after, and the answer r is their number
 pub record Wrote (w out : List ℕ) (r : ℕ) (after : List ℕ) : Type 0 where

@@ -1,6 +1,4 @@
-// The numbers of the layout: the version and the kinds.
-pub const VERSION: u8 = 1;
-
+// The numbers of the kinds.
 pub const SEND: u8 = 1;
 
 pub const ECHO: u8 = 2;
@@ -12,3 +10,5 @@ pub const EST: u8 = 4;
 pub const AUX: u8 = 5;
 
 pub const COMMIT: u8 = 6;
+
+pub const FINISH: u8 = 7;

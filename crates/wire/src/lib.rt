@@ -18,6 +18,8 @@ pub enum Message {
     Aux { instance: u8, round: u8, value: u8 },
     // Its values stand beside it, in the lent bytes.
     Commit { count: u8 },
+    // In sessions of version 2 only.
+    Finish { instance: u8, value: u8 },
 }
 
 // Bytes 0 to 11; reserved is bytes 6 and 7, high byte first.

@@ -13,7 +13,9 @@ ghost use mathlib.Core.Path.{_≡_};
 ghost use Prim.Native.Nat.{_+_, _*_, _<_, _≤_};
 ghost use lib.ListN.{length};
 ghost use Rattle.wire.specs.Bytes.{valueAt, values, rises};
-ghost use Rattle.wire.specs.Reading.{lengthRight, kindKnown, senderRight, broadcastFields, voteFields, commitFields, fieldsRight, headerOf, readValues, readChecked, readMessage};
+ghost use Rattle.wire.specs.Message.{lastKind};
+ghost use Rattle.wire.specs.declared.Message.the-variants.{Commit};
+ghost use Rattle.wire.specs.Reading.{lengthRight, kindKnown, senderRight, broadcastFields, voteFields, commitFields, fieldsRight, headerOf, takenIf, readValues, readChecked, readMessage};
 
 // Value k, from 1, of the part of a message that starts at byte 12; 0 where the part does not hold it.
 pub fn value_at(values: &[u8], k: u8) -> u64
@@ -55,10 +57,22 @@ fn length_right(bytes: &[u8]) -> bool
     bytes.len() as u64 == 12 + 8 * wide(bytes[5])
 }
 
-fn kind_known(version: u8, kind: u8) -> bool
-    ensures { λ r. ⌜ r ≡ kindKnown version kind ⌝ }
+// The last kind of a version.
+fn last_kind(version: u64) -> u8
+    ensures { λ r. ⌜ r ≡ lastKind version ⌝ }
 {
-    (version == layout::VERSION) & ((layout::SEND <= kind) & (kind <= layout::COMMIT))
+    if settings::finishing(version) {
+        layout::FINISH
+    } else {
+        layout::COMMIT
+    }
+}
+
+// Whether version and kind are those of a session of version `own`.
+fn kind_known(own: u64, version: u8, kind: u8) -> bool
+    ensures { λ r. ⌜ r ≡ kindKnown own version kind ⌝ }
+{
+    (version as u64 == own) & ((layout::SEND <= kind) & (kind <= last_kind(own)))
 }
 
 // The link's number is compared whole.
@@ -68,7 +82,7 @@ fn sender_right(n: u8, link: u64, sender: u8) -> bool
     (sender as u64 == link) & ((1 <= link) & (link <= n as u64))
 }
 
-// SEND, ECHO and READY: an instance, no round, one value.
+// SEND, ECHO, READY and FINISH: an instance, no round, one value.
 fn broadcast_fields(n: u8, h: Header) -> bool
     ensures { λ r. ⌜ r ≡ broadcastFields n h ⌝ }
 {
@@ -114,7 +128,20 @@ fn fields_right(n: u8, h: Header) -> bool
     if kind == layout::AUX {
         return vote_fields(n, h);
     }
-    commit_fields(n, h)
+    if kind == layout::COMMIT {
+        return commit_fields(n, h);
+    }
+    broadcast_fields(n, h)
+}
+
+// A COMMIT, if its values rise.
+fn read_commit(count: u8, part: &[u8]) -> Parsed
+    ensures { λ r. ⌜ r ≡ takenIf (rises (values count (now (part .entry)))) (Commit count) ⌝ }
+{
+    if rising(part, count) {
+        return Parsed::Taken(Message::Commit { count });
+    }
+    Parsed::Refused(refusal::VALUE)
 }
 
 // The message with a header whose fields are right, from the part that holds its values.
@@ -156,10 +183,14 @@ fn read_values(h: Header, part: &[u8]) -> Parsed
             value,
         });
     }
-    if rising(part, h.count) {
-        return Parsed::Taken(Message::Commit { count: h.count });
+    if kind == layout::COMMIT {
+        return read_commit(h.count, part);
     }
-    Parsed::Refused(refusal::VALUE)
+    if 1 < value {
+        return Parsed::Refused(refusal::VALUE);
+    }
+    let value = value as u8;
+    Parsed::Taken(Message::Finish { instance, value })
 }
 
 // The first twelve bytes.
@@ -180,10 +211,10 @@ fn header_of(bytes: &[u8]) -> Header
 }
 
 // The refusals 3 to 7 in their order, or the message, from a header and the part that holds the values.
-fn read_checked(n: u8, session: u32, link: u64, h: Header, part: &[u8]) -> Parsed
-    ensures { λ r. ⌜ r ≡ readChecked n session link h (now (part .entry)) ⌝ }
+fn read_checked(version: u64, n: u8, session: u32, link: u64, h: Header, part: &[u8]) -> Parsed
+    ensures { λ r. ⌜ r ≡ readChecked version n session link h (now (part .entry)) ⌝ }
 {
-    if !kind_known(h.version, h.kind) {
+    if !kind_known(version, h.version, h.kind) {
         return Parsed::Refused(refusal::KIND);
     }
     if h.session != session {
@@ -198,12 +229,12 @@ fn read_checked(n: u8, session: u32, link: u64, h: Header, part: &[u8]) -> Parse
     read_values(h, part)
 }
 
-// Reads a message that came over the link of a concentrator, at one of n in a session.
-pub fn read_message(bytes: &[u8], n: u8, session: u32, link: u64) -> Parsed
-    ensures { λ r. ⌜ r ≡ readMessage n session link (now (bytes .entry)) ⌝ }
+// Reads a message that came over the link of a concentrator, at one of n in a session of that version.
+pub fn read_message(bytes: &[u8], version: u64, n: u8, session: u32, link: u64) -> Parsed
+    ensures { λ r. ⌜ r ≡ readMessage version n session link (now (bytes .entry)) ⌝ }
 {
     if !length_right(bytes) {
         return Parsed::Refused(refusal::LENGTH);
     }
-    read_checked(n, session, link, header_of(bytes), &bytes[12..])
+    read_checked(version, n, session, link, header_of(bytes), &bytes[12..])
 }

@@ -41,6 +41,10 @@ fn count_of(m: Message) -> u8
             value: _,
         } => 1,
         Message::Commit { count } => count,
+        Message::Finish {
+            instance: _,
+            value: _,
+        } => 1,
     }
 }
 
@@ -51,11 +55,19 @@ pub fn message_length(m: Message) -> usize
     12 + 8 * (count_of(m) as usize)
 }
 
-fn header_with(kind: u8, sender: u8, instance: u8, round: u8, count: u8, session: u32) -> Header
-    ensures { λ r. ⌜ r ≡ headerWith kind sender instance round count session ⌝ }
+fn header_with(
+    version: u8,
+    kind: u8,
+    sender: u8,
+    instance: u8,
+    round: u8,
+    count: u8,
+    session: u32,
+) -> Header
+    ensures { λ r. ⌜ r ≡ headerWith version kind sender instance round count session ⌝ }
 {
     Header {
-        version: layout::VERSION,
+        version,
         kind,
         sender,
         instance,
@@ -67,30 +79,35 @@ fn header_with(kind: u8, sender: u8, instance: u8, round: u8, count: u8, session
 }
 
 // Bytes 0 to 11 of a message.
-fn header_for(m: Message, sender: u8, session: u32) -> Header
-    ensures { λ r. ⌜ r ≡ headerFor m sender session ⌝ }
+fn header_for(m: Message, version: u8, sender: u8, session: u32) -> Header
+    ensures { λ r. ⌜ r ≡ headerFor m version sender session ⌝ }
 {
     match m {
         Message::Send { instance, value: _ } => {
-            header_with(layout::SEND, sender, instance, 0, 1, session)
+            header_with(version, layout::SEND, sender, instance, 0, 1, session)
         }
         Message::Echo { instance, value: _ } => {
-            header_with(layout::ECHO, sender, instance, 0, 1, session)
+            header_with(version, layout::ECHO, sender, instance, 0, 1, session)
         }
         Message::Ready { instance, value: _ } => {
-            header_with(layout::READY, sender, instance, 0, 1, session)
+            header_with(version, layout::READY, sender, instance, 0, 1, session)
         }
         Message::Est {
             instance,
             round,
             value: _,
-        } => header_with(layout::EST, sender, instance, round, 1, session),
+        } => header_with(version, layout::EST, sender, instance, round, 1, session),
         Message::Aux {
             instance,
             round,
             value: _,
-        } => header_with(layout::AUX, sender, instance, round, 1, session),
-        Message::Commit { count } => header_with(layout::COMMIT, sender, 0, 0, count, session),
+        } => header_with(version, layout::AUX, sender, instance, round, 1, session),
+        Message::Commit { count } => {
+            header_with(version, layout::COMMIT, sender, 0, 0, count, session)
+        }
+        Message::Finish { instance, value: _ } => {
+            header_with(version, layout::FINISH, sender, instance, 0, 1, session)
+        }
     }
 }
 
@@ -152,10 +169,17 @@ pub fn write_plain(h: Header, value: u64, out: &mut [u8]) -> usize
 
 // Writes a message at the front of out and answers its length; a COMMIT's values are the first of values.
 // Where out is too short, or values are fewer than a COMMIT counts, nothing is written and the answer is 0.
-pub fn write_message(m: Message, sender: u8, session: u32, values: &[u64], out: &mut [u8]) -> usize
-    ensures { λ r. ⌜ Wrote (written m sender session (now (values .entry)) (now (out .entry))) (now (out .entry)) r (now (out .exit)) ⌝ }
+pub fn write_message(
+    m: Message,
+    version: u8,
+    sender: u8,
+    session: u32,
+    values: &[u64],
+    out: &mut [u8],
+) -> usize
+    ensures { λ r. ⌜ Wrote (written m version sender session (now (values .entry)) (now (out .entry))) (now (out .entry)) r (now (out .exit)) ⌝ }
 {
-    let h = header_for(m, sender, session);
+    let h = header_for(m, version, sender, session);
     match m {
         Message::Send { instance: _, value } => write_plain(h, value, out),
         Message::Echo { instance: _, value } => write_plain(h, value, out),
@@ -171,5 +195,6 @@ pub fn write_message(m: Message, sender: u8, session: u32, values: &[u64], out: 
             value,
         } => write_plain(h, value as u64, out),
         Message::Commit { count: _ } => write_counted(h, values, out),
+        Message::Finish { instance: _, value } => write_plain(h, value as u64, out),
     }
 }

@@ -1,4 +1,5 @@
-// Messages of concentrator 1 to one of four in session 7, each with one byte changed, and the number of the refusal (0: taken).
+// Messages of concentrator 1 to one of four in session 7, each with one byte changed, and the number of the refusal (0: taken). The session
+// is of version 1, but for FINISHes.
 use libc::STDOUT_FILENO;
 use wire::Message;
 use wire::Parsed;
@@ -16,8 +17,8 @@ fn change(bytes: &mut [u8], at: usize, byte: u8) {
     }
 }
 
-// The message m, with a byte changed, in length bytes from a link; up to 17 values stand beside a COMMIT.
-fn case(name: &[u8], m: Message, at: usize, byte: u8, length: isize, link: u64) {
+// The message m in a session of that version, with a byte changed, in length bytes from a link; up to 17 values stand beside a COMMIT.
+fn case_of(version: u8, name: &[u8], m: Message, at: usize, byte: u8, length: isize, link: u64) {
     let values = [
         5,
         6,
@@ -38,14 +39,18 @@ fn case(name: &[u8], m: Message, at: usize, byte: u8, length: isize, link: u64) 
         21,
     ];
     let mut bytes = [0u8; 160];
-    wire::write_message(m, 1, 7, &values, &mut bytes);
+    wire::write_message(m, version, 1, 7, &values, &mut bytes);
     change(&mut bytes, at, byte);
     io::write_all(STDOUT_FILENO, name);
     io::write_all(STDOUT_FILENO, b"\t");
     let end = io::count(length, &bytes);
-    let number = answer(wire::read_message(&bytes[..end], 4, 7, link));
+    let number = answer(wire::read_message(&bytes[..end], version as u64, 4, 7, link));
     io::print_decimal(STDOUT_FILENO, number);
     io::write_all(STDOUT_FILENO, b"\n");
+}
+
+fn case(name: &[u8], m: Message, at: usize, byte: u8, length: isize, link: u64) {
+    case_of(1, name, m, at, byte, length, link);
 }
 
 fn send() -> Message {
@@ -102,9 +107,29 @@ fn fields() {
     case(b"COMMIT that falls", commit(3), 35, 1, 36, 1);
 }
 
+fn finish() -> Message {
+    Message::Finish {
+        instance: 4,
+        value: 1,
+    }
+}
+
+fn finishes() {
+    case_of(2, b"FINISH", finish(), 0, 2, 20, 1);
+    case_of(2, b"FINISH of version 1", finish(), 0, 1, 20, 1);
+    case_of(1, b"FINISH in version 1", finish(), 0, 1, 20, 1);
+    case_of(2, b"kind 8 in version 2", finish(), 1, 8, 20, 1);
+    case_of(2, b"SEND in version 2", send(), 0, 2, 20, 1);
+    case_of(2, b"FINISH of instance 5", finish(), 3, 5, 20, 1);
+    case_of(2, b"FINISH round 1", finish(), 4, 1, 20, 1);
+    case_of(2, b"FINISH count 2 in 28 bytes", finish(), 5, 2, 28, 1);
+    case_of(2, b"FINISH value 2", finish(), 19, 2, 20, 1);
+}
+
 fn main() {
     taken();
     lengths();
     origins();
     fields();
+    finishes();
 }

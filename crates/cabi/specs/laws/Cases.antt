@@ -13,7 +13,7 @@ use mir.Syntax.{w64}
 use Rattle.settings.specs.declared.Settings.{Settings}
 use Rattle.records.specs.Records.{coin}
 use Rattle.acts.specs.declared.Act.{Act}
-use Rattle.acts.specs.declared.Act.the-variants.{Idle, InForce, Commit, Send, Echo, Ready, Start, Relay, Aux, Move}
+use Rattle.acts.specs.declared.Act.the-variants.{Idle, InForce, Commit, Send, Echo, Ready, Start, Relay, Aux, Move, Finish}
 use Rattle.votes.specs.Votes.{estimate}
 use Rattle.wire.specs.Message.{lengthOf}
 use Rattle.wire.specs.declared.Message.{Message}
@@ -71,6 +71,7 @@ act-few own g s (Ready i v) t = omega arith
 act-few own g s (Start i b) t = omega arith
 act-few own g s (Relay i r b) t = omega arith
 act-few own g s (Aux i r b) t = omega arith
+act-few own g s (Finish i b) t = omega arith
 act-few own g s (Move i r v) t = go (ltb r 32)
   where
     go : (b : Bool) → sentLength (cond b (turn.Sent (message.Est i (r + 1) (estimate (coin s i r) v))) turn.MovedOut) ≤ 140

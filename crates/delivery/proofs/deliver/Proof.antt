@@ -26,7 +26,7 @@ part-record-end : tie.Need-part-record-end
 part-record-end c = search needs
 
 record-requires : tie.Need-record-requires
-record-requires c κs = search needs
+record-requires c κs = search deliver-cases
 
 same-length : tie.Need-same-length
 same-length c = search needs

@@ -40,6 +40,12 @@ enum-told c = search needs
 commit-held-requires : tie.Need-commit-held-requires
 commit-held-requires c κs = search needs
 
+enum-known-m-6 : tie.Need-enum-known-m-6
+enum-known-m-6 c = search needs
+
+finish-held-requires : tie.Need-finish-held-requires
+finish-held-requires c κs = search needs
+
 returns : tie.Need-returns
 returns c = search place-cases
 
@@ -58,6 +64,9 @@ returns-5 c = search place-cases
 returns-6 : tie.Need-returns-6
 returns-6 c = search place-cases
 
+returns-7 : tie.Need-returns-7
+returns-7 c = search place-cases
+
 pub place-held-spec : {M : Type 1} → statement M
 place-held-spec =
     tie.close
@@ -74,9 +83,12 @@ place-held-spec =
     aux-held-requires
     enum-told
     commit-held-requires
+    enum-known-m-6
+    finish-held-requires
     returns
     returns-2
     returns-3
     returns-4
     returns-5
-    returns-6)
+    returns-6
+    returns-7)

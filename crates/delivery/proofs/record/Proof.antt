@@ -40,6 +40,12 @@ enum-known-m-6 c = search needs
 record-commit-requires : tie.Need-record-commit-requires
 record-commit-requires c κs = search needs
 
+enum-known-m-7 : tie.Need-enum-known-m-7
+enum-known-m-7 c = search needs
+
+record-finish-requires : tie.Need-record-finish-requires
+record-finish-requires c κs = search needs
+
 same-length : tie.Need-same-length
 same-length c = search needs
 
@@ -76,6 +82,12 @@ same-length-6 c = search needs
 returns-6 : tie.Need-returns-6
 returns-6 c = search record-cases
 
+same-length-7 : tie.Need-same-length-7
+same-length-7 c = search needs
+
+returns-7 : tie.Need-returns-7
+returns-7 c = search record-cases
+
 pub record-spec : {M : Type 1} → statement M
 record-spec =
     tie.close
@@ -92,6 +104,8 @@ record-spec =
     hold-aux-requires
     enum-known-m-6
     record-commit-requires
+    enum-known-m-7
+    record-finish-requires
     same-length
     returns
     same-length-2
@@ -103,4 +117,6 @@ record-spec =
     same-length-5
     returns-5
     same-length-6
-    returns-6)
+    returns-6
+    same-length-7
+    returns-7)

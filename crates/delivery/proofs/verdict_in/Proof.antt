@@ -11,6 +11,9 @@ closed-requires c κs = search needs
 returns : tie.Need-returns
 returns c = search verdict-cases
 
+version-requires : tie.Need-version-requires
+version-requires c κs = search needs
+
 read-message-requires : tie.Need-read-message-requires
 read-message-requires c κs = search needs
 
@@ -41,6 +44,7 @@ verdict-in-spec =
     (tie.spec
     closed-requires
     returns
+    version-requires
     read-message-requires
     enum-known-parsed
     enum-known-parsed-2

@@ -11,7 +11,7 @@ use Rattle.settings.specs.Refusals.{LENGTH, KIND, SESSION, SENDER, FIELD, VALUE
 use Rattle.session.specs.Session.{stored}
 use Rattle.session.specs.declared.Stored.{Stored}
 use Rattle.session.specs.declared.Stored.the-variants.{NoState, Held}
-use Rattle.wire.specs.Message.{SEND, ECHO, READY, EST, AUX, byKind}
+use Rattle.wire.specs.Message.{SEND, ECHO, READY, EST, AUX, COMMIT, byKind}
 use Rattle.wire.specs.Reading.{lengthRight, headerOf, kindKnown, senderRight, fieldsRight, takenIf, readValues, readChecked, readMessage}
 use Rattle.wire.specs.declared.Header.{Header}
 use Rattle.wire.specs.declared.Message.{Message}
@@ -44,31 +44,32 @@ taken-if : (t : Bool) (m : Message) → NumberedParse (takenIf t m)
 unfolding takenIf
 taken-if t m = or-refused t (parsed.Taken m) VALUE (omega arith) (taken-parse m)
 
-by-kind : (k : ℕ) (a b c d e f : Parsed) → NumberedParse a → NumberedParse b → NumberedParse c → NumberedParse d → NumberedParse e → NumberedParse f → NumberedParse (byKind k a b c d e f)
+by-kind : (k : ℕ) (a b c d e f g : Parsed) → NumberedParse a → NumberedParse b → NumberedParse c → NumberedParse d → NumberedParse e → NumberedParse f → NumberedParse g → NumberedParse (byKind k a b c d e f g)
 unfolding byKind
-by-kind k a b c d e f ha hb hc hd he hf =
+by-kind k a b c d e f g ha hb hc hd he hf hg =
     either-parse (eqb k SEND) a _ ha
     (either-parse (eqb k ECHO) b _ hb
     (either-parse (eqb k READY) c _ hc
     (either-parse (eqb k EST) d _ hd
-    (either-parse (eqb k AUX) e f he hf))))
+    (either-parse (eqb k AUX) e _ he
+    (either-parse (eqb k COMMIT) f g hf hg)))))
 
 values-numbered : (h : Header) (v : List ℕ) → NumberedParse (readValues h v)
 unfolding readValues
-values-numbered h v = by-kind _ _ _ _ _ _ _ (taken-parse _) (taken-parse _) (taken-parse _) (taken-if _ _) (taken-if _ _) (taken-if _ _)
+values-numbered h v = by-kind _ _ _ _ _ _ _ _ (taken-parse _) (taken-parse _) (taken-parse _) (taken-if _ _) (taken-if _ _) (taken-if _ _) (taken-if _ _)
 
-checked-numbered : (n session link : ℕ) (h : Header) (v : List ℕ) → NumberedParse (readChecked n session link h v)
+checked-numbered : (w n session link : ℕ) (h : Header) (v : List ℕ) → NumberedParse (readChecked w n session link h v)
 unfolding readChecked
-checked-numbered n session link h v =
-    or-refused (kindKnown (h .version) (h .kind)) _ KIND (omega arith)
+checked-numbered w n session link h v =
+    or-refused (kindKnown w (h .version) (h .kind)) _ KIND (omega arith)
     (or-refused (eqb (h .session) session) _ SESSION (omega arith)
     (or-refused (senderRight n link (h .sender)) _ SENDER (omega arith)
     (or-refused (fieldsRight n h) _ FIELD (omega arith)
     (values-numbered h v))))
 
-message-numbered : (n session link : ℕ) (b : List ℕ) → NumberedParse (readMessage n session link b)
+message-numbered : (w n session link : ℕ) (b : List ℕ) → NumberedParse (readMessage w n session link b)
 unfolding readMessage
-message-numbered n session link b = or-refused (lengthRight b) _ LENGTH (omega arith) (checked-numbered n session link (headerOf b) (drop 12 b))
+message-numbered w n session link b = or-refused (lengthRight b) _ LENGTH (omega arith) (checked-numbered w n session link (headerOf b) (drop 12 b))
 
 unfoldable NumberedVerdict : Verdict → Type 0
 NumberedVerdict (Refused k) = 1 ≤ k
@@ -86,7 +87,7 @@ judged-numbered s p (parsed.Taken m) h = either-verdict (placeHeld s p m) (Refus
 for-numbered : (y : Stored) (s : List ℕ) (link : ℕ) (b : List ℕ) → NumberedVerdict (verdictFor y s link b)
 unfolding verdictFor NumberedVerdict
 for-numbered NoState s link b = omega arith
-for-numbered (Held x) s link b = either-verdict (closed s) (Refused CLOSED) _ (omega arith) (judged-numbered s link _ (message-numbered _ _ link b))
+for-numbered (Held x) s link b = either-verdict (closed s) (Refused CLOSED) _ (omega arith) (judged-numbered s link _ (message-numbered _ _ _ link b))
 
 verdict-numbered : (s : List ℕ) (link : ℕ) (b : List ℕ) → NumberedVerdict (verdict s link b)
 verdict-numbered s link b = rw (verdict-stored s link b) (for-numbered (stored s) s link b)

@@ -2,23 +2,27 @@
 use Prim.Native.Nat.{ℕ}
 use mathlib.Core.Bool.{Bool, true, false, _||_}
 use mathlib.Core.List.{List}
-use mathlib.Core.Path.{_≡_, refl}
+use mathlib.Core.Path.{_≡_, refl, sym, ap, _∙_}
+use native.Mathlib.Omega.{arith}
 use lib.ListN.{length}
-use Rattle.records.specs.Records.{closed, sendHeld, echoHeld, readyHeld, estHeld, auxHeld}
-use Rattle.records.specs.Writing.{withSend, withEcho, withReady, withEst, withAux, withCommit}
+use Rattle.records.specs.Records.{closed, version, sendHeld, echoHeld, readyHeld, estHeld, auxHeld, finishHeld}
+use Rattle.records.specs.Writing.{withSend, withEcho, withReady, withEst, withAux, withFinish, withCommit, withDecision}
 use Rattle.commits.specs.Commits.{commitHeld}
 use Rattle.session.specs.laws.Cases.{size-wrong}
-use Rattle.session.specs.Session.{stored}
+use Rattle.votes.specs.Finishing.{finishDecides}
+use Rattle.settings.specs.declared.Settings.{Settings}
+use Rattle.session.specs.Session.{isState, settingsOf, sessionWith, sessionOf, stored}
+use Rattle.session.specs.laws.Session.{held-read}
 use Rattle.session.specs.declared.Session.{Session}
 use Rattle.session.specs.declared.Stored.{Stored}
 use Rattle.session.specs.declared.Stored.the-variants.{NoState, Held}
 use Rattle.wire.specs.Bytes.{valueAt}
 use Rattle.wire.specs.Reading.{readMessage}
 use Rattle.wire.specs.declared.Message.{Message}
-use Rattle.wire.specs.declared.Message.the-variants.{Send, Echo, Ready, Est, Aux, Commit}
+use Rattle.wire.specs.declared.Message.the-variants.{Send, Echo, Ready, Est, Aux, Commit, Finish}
 use Rattle.wire.specs.declared.Parsed.{Parsed}
 use Rattle.wire.specs.declared.Parsed.the-variants as parsed
-use Rattle.delivery.specs.Delivery.{placeHeld, judged, verdict, recorded}
+use Rattle.delivery.specs.Delivery.{placeHeld, judged, verdict, finishSettled, recorded}
 use Rattle.delivery.specs.laws.Stored.{verdictFor, verdict-stored}
 use Rattle.delivery.specs.declared.Verdict.{Verdict}
 use Rattle.delivery.specs.declared.Verdict.the-variants.{Refused, Accepted}
@@ -48,25 +52,29 @@ module _ (s : List ℕ) (p : ℕ) (m : Message) (c : Bool) where
   unfolding placeHeld
   place-commit k e f = rw e f
 
-pub ruleset place-cases = (place-send, place-echo, place-ready, place-est, place-aux, place-commit)
+  pub place-finish : (i b : ℕ) → m ≡ Finish i b → c ≡ (finishHeld s i 0 p || finishHeld s i 1 p) → c ≡ placeHeld s p m
+  unfolding placeHeld
+  place-finish i b e f = rw e f
+
+pub ruleset place-cases = (place-send, place-echo, place-ready, place-est, place-aux, place-commit, place-finish)
 
 module _ (x : Session) (s : List ℕ) (link : ℕ) (b : List ℕ) (c : Bool) (ec : c ≡ closed s) where
   pub in-closed : c ≡ true → Refused 10 ≡ verdictFor (Held x) s link b
   unfolding verdictFor
   in-closed t = rw (← ec, t)
 
-  module _ (tc : c ≡ false) (y : Parsed) (ey : y ≡ readMessage (x .settings .n) (x .number) link b) where
+  module _ (tc : c ≡ false) (w : ℕ) (ew : w ≡ version s) (y : Parsed) (ey : y ≡ readMessage w (x .settings .n) (x .number) link b) where
     pub in-refused : (k : ℕ) → y ≡ parsed.Refused k → Refused k ≡ verdictFor (Held x) s link b
     unfolding verdictFor judged
-    in-refused k t = rw (← ec, tc, ← ey, t)
+    in-refused k t = rw (← ec, tc, ← ew, ← ey, t)
 
     pub in-held : (m : Message) (h : Bool) → y ≡ parsed.Taken m → h ≡ placeHeld s link m → h ≡ true → Refused 11 ≡ verdictFor (Held x) s link b
     unfolding verdictFor judged
-    in-held m h t eh th = rw (← ec, tc, ← ey, t, ← eh, th)
+    in-held m h t eh th = rw (← ec, tc, ← ew, ← ey, t, ← eh, th)
 
     pub in-accepted : (m : Message) (h : Bool) → y ≡ parsed.Taken m → h ≡ placeHeld s link m → h ≡ false → Accepted m ≡ verdictFor (Held x) s link b
     unfolding verdictFor judged
-    in-accepted m h t eh th = rw (← ec, tc, ← ey, t, ← eh, th)
+    in-accepted m h t eh th = rw (← ec, tc, ← ew, ← ey, t, ← eh, th)
 
 pub no-state : (s : List ℕ) (link : ℕ) (b : List ℕ) (y : Stored) → y ≡ stored s → y ≡ NoState → Refused 9 ≡ verdict s link b
 unfolding verdictFor
@@ -79,6 +87,29 @@ pub no-size : (s : List ℕ) (link : ℕ) (b : List ℕ) → (length s ≡ 2048 
 no-size s link b h = no-state s link b NoState (size-wrong s h) refl
 
 pub ruleset verdict-cases = (in-closed, in-refused, in-held, in-accepted, no-size, no-state, a-state)
+
+-- the decision of FINISHes
+module _ (g : Settings) (s s1 t : List ℕ) (p i b : ℕ) (e : s1 ≡ withFinish s i b p) (d : Bool) (f : d ≡ finishDecides g s1 i b) where
+  pub finish-decided : d ≡ true → t ≡ withDecision s1 i b → t ≡ finishSettled g (withFinish s i b p) i b
+  unfolding finishSettled
+  finish-decided h q = rw (← e, ← f, h) q
+
+  pub finish-open : d ≡ false → s1 ≡ finishSettled g (withFinish s i b p) i b
+  unfolding finishSettled
+  finish-open h = rw (← e, ← f, h)
+
+pub ruleset settle-cases = (finish-decided, finish-open)
+
+module _ (s : List ℕ) (p i b : ℕ) (y : Stored) (e : y ≡ stored s) where
+  pub finish-nowhere : isState s ≡ true → y ≡ NoState → s ≡ finishSettled (settingsOf s) (withFinish s i b p) i b
+  unfolding stored
+  finish-nowhere h n = absurd (let z : _≡_ {A = Stored} NoState (Held (sessionOf s)) = sym n ∙ e ∙ rw h in let o : _≡_ {A = ℕ} 0 1 = cc in omega arith)
+
+  pub finish-here : (x : Session) (t : List ℕ) → y ≡ Held x → t ≡ finishSettled (x .settings) (withFinish s i b p) i b → t ≡ finishSettled (settingsOf s) (withFinish s i b p) i b
+  unfolding sessionOf sessionWith
+  finish-here x t h q = q ∙ ap (λ (k : Session). finishSettled (k .settings) (withFinish s i b p) i b) (held-read s x (sym e ∙ h) .same)
+
+pub ruleset finish-cases = (finish-nowhere, finish-here)
 
 module _ (s t v : List ℕ) (p : ℕ) (m : Message) where
   pub record-send : (i x : ℕ) → m ≡ Send i x → t ≡ withSend s i x → t ≡ recorded s p m v
@@ -105,4 +136,8 @@ module _ (s t v : List ℕ) (p : ℕ) (m : Message) where
   unfolding recorded
   record-commit k e f = rw e f
 
-pub ruleset record-cases = (record-send, record-echo, record-ready, record-est, record-aux, record-commit)
+  pub record-finish : (i b : ℕ) → m ≡ Finish i b → t ≡ finishSettled (settingsOf s) (withFinish s i b p) i b → t ≡ recorded s p m v
+  unfolding recorded
+  record-finish i b e f = rw e f
+
+pub ruleset record-cases = (record-send, record-echo, record-ready, record-est, record-aux, record-commit, record-finish)

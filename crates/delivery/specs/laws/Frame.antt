@@ -9,15 +9,18 @@ use native.Mathlib.Decide.{ℕ-discrete}
 use lib.ListN.{length}
 use Rattle.quorum.specs.Marks.{mark}
 use Rattle.quorum.specs.laws.Marks.{mark-came}
-use Rattle.records.specs.Layout.{sendMarksAt, sendValueAt, echoMarksAt, echoValueAt, readyMarksAt, readyValueAt, voteAt, estMark, auxMark, commitCountAt, commitRowAt}
+use Rattle.records.specs.Layout.{sendMarksAt, sendValueAt, echoMarksAt, echoValueAt, readyMarksAt, readyValueAt, voteAt, estMark, auxMark, finishMarksAt, finishMark, commitCountAt, commitRowAt, decidedZeroAt, decidedOneAt}
 use Rattle.records.specs.Words.{word, put, marked, setMark}
 use Rattle.records.specs.laws.Words.{length-put, length-setMark, word-put-other, word-setMark-same, word-setMark-other}
 use Rattle.records.specs.Words.{storeOf}
 use Rattle.records.specs.laws.Fill.{length-storeOf, store-other}
 use Rattle.wire.specs.Bytes.{valueAt}
 use Rattle.wire.specs.declared.Message.{Message}
-use Rattle.wire.specs.declared.Message.the-variants.{Send, Echo, Ready, Est, Aux, Commit}
+use Rattle.wire.specs.declared.Message.the-variants.{Send, Echo, Ready, Est, Aux, Commit, Finish}
+use Rattle.records.specs.Writing.{withFinish}
+use Rattle.session.specs.Session.{settingsOf}
 use Rattle.delivery.specs.Delivery.{recorded}
+use Rattle.delivery.specs.laws.Settling.{settled-word, settled-length}
 
 -- a message of sender p within the layout; a SEND's instance is its sender (PROTOCOL 2.1)
 abbrev pub InLayout : ℕ → Message → Type 0
@@ -27,10 +30,11 @@ InLayout p (Ready i x) = (1 ≤ p) × (p ≤ 16) × (1 ≤ i) × (i ≤ 16)
 InLayout p (Est i r b) = (1 ≤ p) × (p ≤ 16) × (1 ≤ i) × (i ≤ 16) × (1 ≤ r) × (r ≤ 32) × (b ≤ 1)
 InLayout p (Aux i r b) = (1 ≤ p) × (p ≤ 16) × (1 ≤ i) × (i ≤ 16) × (1 ≤ r) × (r ≤ 32) × (b ≤ 1)
 InLayout p (Commit k) = (1 ≤ p) × (p ≤ 16) × (k ≤ 16)
+InLayout p (Finish i b) = (1 ≤ p) × (p ≤ 16) × (1 ≤ i) × (i ≤ 16) × (b ≤ 1)
 
 -- a word of the marks of messages that are held
 abbrev pub MarkWord : ℕ → Type 0
-MarkWord a = ((88 ≤ a) × (a ≤ 119)) ⊎ ((a ≡ 140) ⊎ ((1024 ≤ a) × (a ≤ 1535)))
+MarkWord a = ((88 ≤ a) × (a ≤ 119)) ⊎ ((a ≡ 140) ⊎ (((1024 ≤ a) × (a ≤ 1535)) ⊎ ((145 ≤ a) × (a ≤ 160))))
 
 -- the mark that recording a message of sender p sets; a COMMIT has none
 abbrev pub markWordOf : ℕ → Message → ℕ
@@ -40,6 +44,7 @@ markWordOf p (Ready i x) = readyMarksAt i
 markWordOf p (Est i r b) = voteAt i r
 markWordOf p (Aux i r b) = voteAt i r
 markWordOf p (Commit k) = 0
+markWordOf p (Finish i b) = finishMarksAt i
 
 abbrev pub markOf : ℕ → Message → ℕ
 markOf p (Send i x) = i
@@ -48,6 +53,7 @@ markOf p (Ready i x) = p
 markOf p (Est i r b) = estMark b p
 markOf p (Aux i r b) = auxMark b p
 markOf p (Commit k) = 0
+markOf p (Finish i b) = finishMark b p
 
 -- a word of values or of the count of a COMMIT, which is no word of marks
 abbrev pub ValueWord : ℕ → Type 0
@@ -56,13 +62,16 @@ ValueWord a = ((72 ≤ a) × (a ≤ 87)) ⊎ (((120 ≤ a) × (a ≤ 135)) ⊎ (
 pub no-marks : (a k : ℕ) → ValueWord a → MarkWord k → k ≢ a
 no-marks a k (inl x) (inl y) e = omega arith
 no-marks a k (inl x) (inr (inl y)) e = omega arith
-no-marks a k (inl x) (inr (inr y)) e = omega arith
+no-marks a k (inl x) (inr (inr (inl y))) e = omega arith
+no-marks a k (inl x) (inr (inr (inr y))) e = omega arith
 no-marks a k (inr (inl x)) (inl y) e = omega arith
 no-marks a k (inr (inl x)) (inr (inl y)) e = omega arith
-no-marks a k (inr (inl x)) (inr (inr y)) e = omega arith
+no-marks a k (inr (inl x)) (inr (inr (inl y))) e = omega arith
+no-marks a k (inr (inl x)) (inr (inr (inr y))) e = omega arith
 no-marks a k (inr (inr x)) (inl y) e = omega arith
 no-marks a k (inr (inr x)) (inr (inl y)) e = omega arith
-no-marks a k (inr (inr x)) (inr (inr y)) e = omega arith
+no-marks a k (inr (inr x)) (inr (inr (inl y))) e = omega arith
+no-marks a k (inr (inr x)) (inr (inr (inr y))) e = omega arith
 
 -- a mark that is set after one was set was set before, or is that one
 mark-set : (s : List ℕ) (w q a j : ℕ) → w < length s → marked (setMark s w q) a j ≡ true → (marked s a j ≡ true) ⊎ ((a ≡ w) × (j ≡ q))
@@ -89,6 +98,13 @@ value-then-mark s k v w q a j l ne e = of (mark-set (put s k v) w q a j (rw leng
     of (inl x) = inl (sym (mark-put s k v a j ne) ∙ x)
     of (inr x) = inr x
 
+-- decisions are no marks of messages
+not-decision : (a : ℕ) → MarkWord a → (a ≢ decidedZeroAt) × (a ≢ decidedOneAt)
+not-decision a (inl y) = ((λ z. omega arith), λ z. omega arith)
+not-decision a (inr (inl y)) = ((λ z. omega arith), λ z. omega arith)
+not-decision a (inr (inr (inl y))) = ((λ z. omega arith), λ z. omega arith)
+not-decision a (inr (inr (inr y))) = ((λ z. omega arith), λ z. omega arith)
+
 -- no new mark but that of the message
 pub mark-recorded : (s v : List ℕ) (p : ℕ) (m : Message) (a j : ℕ) → length s ≡ 2048 → InLayout p m → MarkWord a → marked (recorded s p m v) a j ≡ true → (marked s a j ≡ true) ⊎ ((a ≡ markWordOf p m) × (j ≡ markOf p m))
 unfolding recorded marked
@@ -110,8 +126,11 @@ mark-recorded s v p (Commit k) a j l h t e = inl (kept ∙ e)
 
     kept : marked s a j ≡ marked (put (storeOf (valueAt v) (commitRowAt p) s k) (commitCountAt p) k) a j
     kept = ap (λ (x : ℕ). mark x j) (sym (word-put-other _ (commitCountAt p) k a count ∙ store-other (valueAt v) (commitRowAt p) s k a value))
+mark-recorded s v p (Finish i b) a j l h t e =
+    mark-set s (finishMarksAt i) (finishMark b p) a j (omega arith)
+    (ap (λ (x : ℕ). mark x j) (sym (settled-word (settingsOf s) (withFinish s i b p) i b a (not-decision a t .0) (not-decision a t .1))) ∙ e)
 
--- the words that recording a message of sender p may change
+-- the words that recording a message of sender p may change; a FINISH may decide its vote
 abbrev pub Changed : ℕ → Message → ℕ → Type 0
 Changed p (Send i x) a = (a ≡ sendValueAt i) ⊎ (a ≡ sendMarksAt)
 Changed p (Echo i x) a = (a ≡ echoValueAt i p) ⊎ (a ≡ echoMarksAt i)
@@ -119,6 +138,7 @@ Changed p (Ready i x) a = (a ≡ readyValueAt i p) ⊎ (a ≡ readyMarksAt i)
 Changed p (Est i r b) a = a ≡ voteAt i r
 Changed p (Aux i r b) a = a ≡ voteAt i r
 Changed p (Commit k) a = (a ≡ commitCountAt p) ⊎ ((commitRowAt p < a) × (a ≤ commitRowAt p + k))
+Changed p (Finish i b) a = (a ≡ finishMarksAt i) ⊎ ((decidedZeroAt ≤ a) × (a ≤ decidedOneAt))
 
 -- every other word stays
 pub word-recorded : (s v : List ℕ) (p : ℕ) (m : Message) (a : ℕ) → (Changed p m a → ⊥) → word (recorded s p m v) a ≡ word s a
@@ -131,6 +151,9 @@ word-recorded s v p (Aux i r b) a h = word-setMark-other s (voteAt i r) (auxMark
 word-recorded s v p (Commit k) a h =
     word-put-other _ (commitCountAt p) k a (λ z. h (inl z))
     ∙ store-other (valueAt v) (commitRowAt p) s k a (λ j lo hi z. h (inr (omega arith, omega arith)))
+word-recorded s v p (Finish i b) a h =
+    settled-word (settingsOf s) (withFinish s i b p) i b a (λ z. h (inr (omega arith, omega arith))) (λ z. h (inr (omega arith, omega arith)))
+    ∙ word-setMark-other s (finishMarksAt i) (finishMark b p) a (λ z. h (inl z))
 
 pub length-recorded : (s v : List ℕ) (p : ℕ) (m : Message) → length (recorded s p m v) ≡ length s
 unfolding recorded
@@ -140,3 +163,4 @@ length-recorded s v p (Ready i x) = simp (length-setMark, length-put)
 length-recorded s v p (Est i r b) = length-setMark s (voteAt i r) (estMark b p)
 length-recorded s v p (Aux i r b) = length-setMark s (voteAt i r) (auxMark b p)
 length-recorded s v p (Commit k) = length-put _ (commitCountAt p) k ∙ length-storeOf (valueAt v) (commitRowAt p) s k
+length-recorded s v p (Finish i b) = settled-length (settingsOf s) (withFinish s i b p) i b ∙ length-setMark s (finishMarksAt i) (finishMark b p)

@@ -8,7 +8,7 @@ use native.Mathlib.Omega.{arith}
 use lib.ListN.{length}
 use borrow.Author.Tests.{lt-ltb}
 use Rattle.quorum.specs.Marks.{mark}
-use Rattle.records.specs.Layout.{sendMarksAt, sendValueAt, echoMarksAt, echoValueAt, readyMarksAt, readyValueAt, voteAt, estMark, auxMark, commitCountAt, commitRowAt}
+use Rattle.records.specs.Layout.{sendMarksAt, sendValueAt, echoMarksAt, echoValueAt, readyMarksAt, readyValueAt, voteAt, estMark, auxMark, finishMarksAt, finishMark, commitCountAt, commitRowAt}
 use Rattle.records.specs.Words.{put, marked}
 use Rattle.records.specs.laws.Words.{length-put, word-put-same, marked-new, marked-kept}
 use Rattle.records.specs.Words.{storeOf}
@@ -17,8 +17,11 @@ use Rattle.records.specs.Records.{commitCount}
 use Rattle.commits.specs.Commits.{commitHeld}
 use Rattle.wire.specs.Bytes.{valueAt}
 use Rattle.wire.specs.declared.Message.{Message}
-use Rattle.wire.specs.declared.Message.the-variants.{Send, Echo, Ready, Est, Aux, Commit}
+use Rattle.wire.specs.declared.Message.the-variants.{Send, Echo, Ready, Est, Aux, Commit, Finish}
+use Rattle.records.specs.Writing.{withFinish}
+use Rattle.session.specs.Session.{settingsOf}
 use Rattle.delivery.specs.Delivery.{placeHeld, recorded}
+use Rattle.delivery.specs.laws.Settling.{settled-kept}
 use Rattle.delivery.specs.laws.Frame.{InLayout, MarkWord, ValueWord, markWordOf, markOf, mark-put, no-marks, Changed, word-recorded}
 use Rattle.delivery.specs.laws.Kept.{SetAfter, before, now, set-after}
 
@@ -30,6 +33,7 @@ NotCommit (Ready i x) = Unit {0}
 NotCommit (Est i r b) = Unit {0}
 NotCommit (Aux i r b) = Unit {0}
 NotCommit (Commit k) = ⊥
+NotCommit (Finish i b) = Unit {0}
 
 module _ (s v : List ℕ) (size : length s ≡ 2048) (p : ℕ) where
   put-keeps : (a x : ℕ) → ValueWord a → (k : ℕ) → MarkWord k → (q : ℕ) → marked s k q ≡ true → marked (put s a x) k q ≡ true
@@ -47,6 +51,7 @@ module _ (s v : List ℕ) (size : length s ≡ 2048) (p : ℕ) where
       out : Changed p (Commit c) k → ⊥
       out (inl z) = no-marks (commitCountAt p) k (inr (inl (omega arith, omega arith))) w z
       out (inr z) = no-marks k k (inr (inr (omega arith, omega arith))) w refl
+  marks-recorded (Finish i b) h k w q e = settled-kept (settingsOf s) (withFinish s i b p) i b k q (marked-kept s (finishMarksAt i) (finishMark b p) k q e)
 
   put-size : (a x : ℕ) → length (put s a x) ≡ 2048
   put-size a x = length-put s a x ∙ size
@@ -59,6 +64,9 @@ module _ (s v : List ℕ) (size : length s ≡ 2048) (p : ℕ) where
   new-recorded (Est i r b) h c = marked-new s (voteAt i r) (estMark b p) (omega arith) (omega arith) (omega arith)
   new-recorded (Aux i r b) h c = marked-new s (voteAt i r) (auxMark b p) (omega arith) (omega arith) (omega arith)
   new-recorded (Commit k) h c = absurd c
+  new-recorded (Finish i b) h c =
+      settled-kept (settingsOf s) (withFinish s i b p) i b (finishMarksAt i) (finishMark b p)
+      (marked-new s (finishMarksAt i) (finishMark b p) (omega arith) (omega arith) (omega arith))
 
   pub commit-recorded : (c : ℕ) → 1 ≤ c → p ≤ 16 → commitHeld (recorded s p (Commit c) v) p ≡ true
   unfolding recorded commitHeld commitCount

@@ -17,9 +17,12 @@ use Rattle.commits.specs.Commits.{commitHeld}
 use Rattle.commits.specs.laws.Sets.{listed, listed-agree, set-listed, set-agree}
 use Rattle.wire.specs.Bytes.{valueAt, values}
 use Rattle.wire.specs.declared.Message.{Message}
-use Rattle.wire.specs.declared.Message.the-variants.{Send, Echo, Ready, Est, Aux, Commit}
+use Rattle.wire.specs.declared.Message.the-variants.{Send, Echo, Ready, Est, Aux, Commit, Finish}
 use Rattle.wire_laws.specs.Proper.{Layout}
+use Rattle.records.specs.Writing.{withFinish}
+use Rattle.session.specs.Session.{settingsOf}
 use Rattle.delivery.specs.Delivery.{recorded}
+use Rattle.delivery.specs.laws.Settling.{settled-fit}
 use Rattle.delivery.specs.laws.Frame.{InLayout, Changed, word-recorded, length-recorded}
 use Rattle.delivery.specs.laws.Values.{values-listed}
 
@@ -31,14 +34,15 @@ in-layout n p (Ready i x) few lo hi l = (lo, omega arith, l .0, omega arith)
 in-layout n p (Est i r b) few lo hi l = (lo, omega arith, l .0, omega arith, l .2, l .3, l .4)
 in-layout n p (Aux i r b) few lo hi l = (lo, omega arith, l .0, omega arith, l .2, l .3, l .4)
 in-layout n p (Commit k) few lo hi l = (lo, omega arith, omega arith)
+in-layout n p (Finish i b) few lo hi l = (lo, omega arith, l .0, omega arith, l .2)
 
 -- ---- words that record no message
 
--- settings, coins, rounds, what was sent and what is decided
+-- settings, coins, rounds and what was sent
 abbrev pub Untouched : ℕ → Type 0
-Untouched a = (a ≤ 71) ⊎ ((136 ≤ a) × (a ≤ 139))
+Untouched a = (a ≤ 71) ⊎ ((136 ≤ a) × (a ≤ 137))
 
-changed-where : (p : ℕ) (m : Message) (a : ℕ) → InLayout p m → Changed p m a → ((72 ≤ a) × (a ≤ 135)) ⊎ (140 ≤ a)
+changed-where : (p : ℕ) (m : Message) (a : ℕ) → InLayout p m → Changed p m a → ((72 ≤ a) × (a ≤ 135)) ⊎ (138 ≤ a)
 changed-where p (Send i x) a h (inl e) = inl (omega arith, omega arith)
 changed-where p (Send i x) a h (inr e) = inr (omega arith)
 changed-where p (Echo i x) a h (inl e) = inr (omega arith)
@@ -49,8 +53,10 @@ changed-where p (Est i r b) a h e = inr (omega arith)
 changed-where p (Aux i r b) a h e = inr (omega arith)
 changed-where p (Commit k) a h (inl e) = inl (omega arith, omega arith)
 changed-where p (Commit k) a h (inr e) = inr (omega arith)
+changed-where p (Finish i b) a h (inl e) = inr (omega arith)
+changed-where p (Finish i b) a h (inr e) = inr (omega arith)
 
-apart : (a : ℕ) → Untouched a → ((72 ≤ a) × (a ≤ 135)) ⊎ (140 ≤ a) → ⊥
+apart : (a : ℕ) → Untouched a → ((72 ≤ a) × (a ≤ 135)) ⊎ (138 ≤ a) → ⊥
 apart a (inl u) (inl c) = omega arith
 apart a (inl u) (inr c) = omega arith
 apart a (inr u) (inl c) = omega arith
@@ -59,8 +65,8 @@ apart a (inr u) (inr c) = omega arith
 pub word-untouched : (s v : List ℕ) (p : ℕ) (m : Message) (a : ℕ) → InLayout p m → Untouched a → word (recorded s p m v) a ≡ word s a
 word-untouched s v p m a h u = word-recorded s v p m a (λ c. apart a u (changed-where p m a h c))
 
--- the words of the weights and of the kind of coins, and free ones (PROTOCOL 17.11, 17.12, 17.16)
-no-free : (p : ℕ) (m : Message) (a : ℕ) → InLayout p m → 141 ≤ a → a ≤ 255 → Changed p m a → ⊥
+-- the words of the weights, of the kind of coins, of the version and of the FINISHes sent (PROTOCOL 17.11, 17.12, 17.22, 17.23)
+no-free : (p : ℕ) (m : Message) (a : ℕ) → InLayout p m → 141 ≤ a → a ≤ 144 → Changed p m a → ⊥
 no-free p (Send i x) a h lo hi (inl e) = omega arith
 no-free p (Send i x) a h lo hi (inr e) = omega arith
 no-free p (Echo i x) a h lo hi (inl e) = omega arith
@@ -71,8 +77,10 @@ no-free p (Est i r b) a h lo hi e = omega arith
 no-free p (Aux i r b) a h lo hi e = omega arith
 no-free p (Commit k) a h lo hi (inl e) = omega arith
 no-free p (Commit k) a h lo hi (inr e) = omega arith
+no-free p (Finish i b) a h lo hi (inl e) = omega arith
+no-free p (Finish i b) a h lo hi (inr e) = omega arith
 
-pub word-free : (s v : List ℕ) (p : ℕ) (m : Message) (a : ℕ) → InLayout p m → 141 ≤ a → a ≤ 255 → word (recorded s p m v) a ≡ word s a
+pub word-free : (s v : List ℕ) (p : ℕ) (m : Message) (a : ℕ) → InLayout p m → 141 ≤ a → a ≤ 144 → word (recorded s p m v) a ≡ word s a
 word-free s v p m a h lo hi = word-recorded s v p m a (no-free p m a h lo hi)
 
 -- ---- words of 64 bits
@@ -85,6 +93,7 @@ ValueFits (Ready i x) v = x < 2 ^ 64
 ValueFits (Est i r b) v = Unit {0}
 ValueFits (Aux i r b) v = Unit {0}
 ValueFits (Commit k) v = (j : ℕ) → valueAt v j < 2 ^ 64
+ValueFits (Finish i b) v = Unit {0}
 
 pub fit-recorded : (s v : List ℕ) (p : ℕ) (m : Message) → InLayout p m → ValueFits m v → Fit s → Fit (recorded s p m v)
 unfolding recorded
@@ -94,6 +103,7 @@ fit-recorded s v p (Ready i x) h x-fits f = fit-setMark _ _ _ (fit-put s _ x f x
 fit-recorded s v p (Est i r b) h u f = fit-setMark s _ _ f
 fit-recorded s v p (Aux i r b) h u f = fit-setMark s _ _ f
 fit-recorded s v p (Commit k) h all f = fit-put _ _ k (fit-storeOf (valueAt v) _ s k f (λ j lo hi. all j)) (omega arith)
+fit-recorded s v p (Finish i b) h u f = settled-fit (settingsOf s) (withFinish s i b p) i b (fit-setMark s _ _ f)
 
 -- ---- the sets of COMMITs
 
@@ -179,3 +189,10 @@ set-after s v p (Commit c) k size h lo hi = by (ℕ-discrete k p)
     by : Dec (k ≡ p) → SetAfter s v p (Commit c) k
     by (yes e) = now c e refl (rw e (set-now s v p c size (h .0) (h .1) (h .2)))
     by (no ne) = set-kept s v p (Commit c) k size hi (other ne)
+set-after s v p (Finish i b) k size h lo hi = set-kept s v p (Finish i b) k size hi out
+  where
+    out : (a : ℕ) → CommitWord k a → Changed p (Finish i b) a → ⊥
+    out a (inl c) (inl d) = omega arith
+    out a (inl c) (inr d) = omega arith
+    out a (inr c) (inl d) = omega arith
+    out a (inr c) (inr d) = omega arith

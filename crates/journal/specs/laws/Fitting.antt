@@ -38,9 +38,9 @@ pack-length : (n : ℕ) → length (tabPack n) ≡ 17
 unfolding tabPack
 pack-length n = omega (arith, hex-length n)
 
-settings-length : (n ta ts : ℕ) → length (settingsPart n ta ts) ≤ 85
+settings-length : (version n ta ts : ℕ) → length (settingsPart version n ta ts) ≤ 85
 unfolding settingsPart
-settings-length n ta ts = rw (length-append, length-append, length-append) (omega (arith, tab-length 1, tab-length n, tab-length ta, tab-length ts))
+settings-length version n ta ts = rw (length-append, length-append, length-append) (omega (arith, tab-length version, tab-length n, tab-length ta, tab-length ts))
 
 input-length : (own session input : ℕ) → length (inputPart own session input) ≤ 59
 unfolding inputPart
@@ -64,7 +64,7 @@ opening-fits words o e =
     let f = figures-length (o .weights) (one-digit (o .n) (o .weights) w) in
     let l = lists-length (o .coins) (o .weights) (o .boxed) f (omega (arith, w .few, c)) (omega (arith, w .few, w .number)) in
     rw (← opening-parts o, length-append, length-append)
-    (omega (arith, settings-length (o .n) (o .ta) (o .ts), input-length (o .own) (o .session) (o .input), l))
+    (omega (arith, settings-length (o .version) (o .n) (o .ta) (o .ts), input-length (o .own) (o .session) (o .input), l))
 
 pub delivery-fits : (s : List ℕ) (link : ℕ) (b : List ℕ) → deliverAnswer s link b ≡ 0 → length (deliveryLine link b) ≤ 512
 delivery-fits s link b e =

@@ -11,7 +11,7 @@ use Rattle.text.specs.laws.Paste.{wrote-both}
 use Rattle.text.specs.Fields.{eachText}
 use Rattle.text.specs.laws.Each.{each-append}
 use Rattle.opening.specs.Arguments.{Arguments}
-use Rattle.journal.specs.Lines.{LETTER-O, VERSION, numberText, numberTexts, tabbed, openingForms, figures, numbersOf, formsOf, openingText, hexBytes, deliveryText, recordingText, withEnd, openingLine, deliveryLine, recordingLine, turnLine}
+use Rattle.journal.specs.Lines.{LETTER-O, numberText, numberTexts, tabbed, openingForms, figures, numbersOf, formsOf, openingText, hexBytes, deliveryText, recordingText, withEnd, openingLine, deliveryLine, recordingLine, turnLine}
 
 -- a field after its tab
 unfoldable pub tabDecimal : ℕ → List ℕ
@@ -23,8 +23,8 @@ tabWord n = TAB ∷ wordText n
 unfoldable pub tabPack : ℕ → List ℕ
 tabPack n = TAB ∷ hexText n
 
-unfoldable pub settingsPart : (n ta ts : ℕ) → List ℕ
-settingsPart n ta ts = LETTER-O ∷ (tabDecimal VERSION ++ (tabDecimal n ++ (tabDecimal ta ++ tabDecimal ts)))
+unfoldable pub settingsPart : (version n ta ts : ℕ) → List ℕ
+settingsPart version n ta ts = LETTER-O ∷ (tabDecimal version ++ (tabDecimal n ++ (tabDecimal ta ++ tabDecimal ts)))
 
 unfoldable pub inputPart : (own session input : ℕ) → List ℕ
 inputPart own session input = tabDecimal own ++ (tabDecimal session ++ tabPack input)
@@ -105,10 +105,10 @@ wrote-lists coins weights boxed s s1 s2 s3 s4 a r1 r2 r3 r4 h1 h2 h3 h4 =
     (wrote-both _ _ s1 s2 s4 r1 r2 r4 h2
     (wrote-both _ _ s2 s3 s4 r2 r3 r4 h3 h4))
 
-pub wrote-settings : (n ta ts : ℕ) (s s1 s2 s3 s4 s5 : List ℕ) (r1 r2 r3 r4 r5 : ℕ) → Wrote (79 ∷ []) s 0 r1 s1 → Wrote (tabDecimal 1) s1 r1 r2 s2 →
-    Wrote (tabDecimal n) s2 r2 r3 s3 → Wrote (tabDecimal ta) s3 r3 r4 s4 → Wrote (tabDecimal ts) s4 r4 r5 s5 → Wrote (settingsPart n ta ts) s 0 r5 s5
+pub wrote-settings : (version n ta ts : ℕ) (s s1 s2 s3 s4 s5 : List ℕ) (r1 r2 r3 r4 r5 : ℕ) → Wrote (79 ∷ []) s 0 r1 s1 → Wrote (tabDecimal version) s1 r1 r2 s2 →
+    Wrote (tabDecimal n) s2 r2 r3 s3 → Wrote (tabDecimal ta) s3 r3 r4 s4 → Wrote (tabDecimal ts) s4 r4 r5 s5 → Wrote (settingsPart version n ta ts) s 0 r5 s5
 unfolding settingsPart
-wrote-settings n ta ts s s1 s2 s3 s4 s5 r1 r2 r3 r4 r5 h1 h2 h3 h4 h5 =
+wrote-settings version n ta ts s s1 s2 s3 s4 s5 r1 r2 r3 r4 r5 h1 h2 h3 h4 h5 =
     wrote-both (79 ∷ []) _ s s1 s5 0 r1 r5 h1
     (wrote-both _ _ s1 s2 s5 r1 r2 r5 h2
     (wrote-both _ _ s2 s3 s5 r2 r3 r5 h3
@@ -140,18 +140,18 @@ nested v n a t o e i c d =
 module _ (o : Arguments) where
   -- the fields up to the own input, and x after them
   abbrev line : List ℕ → List ℕ
-  line x = fieldsThen (decimalText 1) (decimalText (o .n)) (decimalText (o .ta)) (decimalText (o .ts)) (decimalText (o .own)) (decimalText (o .session)) (digits 16 16 (o .input)) x
+  line x = fieldsThen (decimalText (o .version)) (decimalText (o .n)) (decimalText (o .ta)) (decimalText (o .ts)) (decimalText (o .own)) (decimalText (o .session)) (digits 16 16 (o .input)) x
 
-  pub opening-parts : settingsPart (o .n) (o .ta) (o .ts) ++ (inputPart (o .own) (o .session) (o .input) ++ listsPart (o .coins) (o .weights) (o .boxed)) ≡ openingLine o
+  pub opening-parts : settingsPart (o .version) (o .n) (o .ta) (o .ts) ++ (inputPart (o .own) (o .session) (o .input) ++ listsPart (o .coins) (o .weights) (o .boxed)) ≡ openingLine o
   unfolding settingsPart inputPart openingText openingForms withEnd tabDecimal tabPack tabs numberTexts numberText hexText
   opening-parts =
-      ap (λ (x : List ℕ). settingsPart (o .n) (o .ta) (o .ts) ++ (inputPart (o .own) (o .session) (o .input) ++ x)) (lists-flag o)
-      ∙ nested (decimalText 1) (decimalText (o .n)) (decimalText (o .ta)) (decimalText (o .ts)) (decimalText (o .own)) (decimalText (o .session)) (digits 16 16 (o .input))
+      ap (λ (x : List ℕ). settingsPart (o .version) (o .n) (o .ta) (o .ts) ++ (inputPart (o .own) (o .session) (o .input) ++ x)) (lists-flag o)
+      ∙ nested (decimalText (o .version)) (decimalText (o .n)) (decimalText (o .ta)) (decimalText (o .ts)) (decimalText (o .own)) (decimalText (o .session)) (digits 16 16 (o .input))
       (eachText tabWord (o .coins)) (eachText tabDecimal (figures o))
       ∙ ap (λ (x : List ℕ). line x ++ (10 ∷ [])) (sym (lists-tabs (o .coins) (figures o)))
       ∙ ap (λ (x : List ℕ). x ++ (10 ∷ [])) (sym (tabbed-tabs (79 ∷ []) (numberTexts (formsOf o) (numbersOf o))))
 
-  pub wrote-opening : (s s1 s2 s3 : List ℕ) (r1 r2 r3 : ℕ) → Wrote (settingsPart (o .n) (o .ta) (o .ts)) s 0 r1 s1 →
+  pub wrote-opening : (s s1 s2 s3 : List ℕ) (r1 r2 r3 : ℕ) → Wrote (settingsPart (o .version) (o .n) (o .ta) (o .ts)) s 0 r1 s1 →
       Wrote (inputPart (o .own) (o .session) (o .input)) s1 r1 r2 s2 → Wrote (listsPart (o .coins) (o .weights) (o .boxed)) s2 r2 r3 s3 → Wrote (openingLine o) s 0 r3 s3
   wrote-opening s s1 s2 s3 r1 r2 r3 h1 h2 h3 =
       subst (λ (t : List ℕ). Wrote t s 0 r3 s3) opening-parts

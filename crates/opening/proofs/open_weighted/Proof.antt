@@ -19,6 +19,9 @@ named-ta-requires c κs = search needs
 put-settings-requires : tie.Need-put-settings-requires
 put-settings-requires c κs = search needs
 
+put-requires : tie.Need-put-requires
+put-requires c κs = search needs
+
 put-coins-requires : tie.Need-put-coins-requires
 put-coins-requires c κs = search needs
 
@@ -40,6 +43,7 @@ open-weighted-spec =
     clear-requires
     named-ta-requires
     put-settings-requires
+    put-requires
     put-coins-requires
     same-length
     returns

@@ -10,7 +10,7 @@ use lib.ListN.{length}
 use Rattle.records.specs.laws.Bounds.{Fit, fit-put, fit-storeOf, fit-blank}
 use Rattle.records.specs.Words.{blank}
 use Rattle.records.specs.laws.Fill.{length-blank, word-blank, length-storeOf, store-other, store-same}
-use Rattle.records.specs.Layout.{stateWords, nAt, taAt, tsAt, ownAt, sessionAt, inputAt, weightsAt, boxedAt, turnsAt, flagsAt, coinAt}
+use Rattle.records.specs.Layout.{stateWords, nAt, taAt, tsAt, ownAt, sessionAt, inputAt, weightsAt, boxedAt, versionAt, turnsAt, flagsAt, coinAt}
 use Rattle.records.specs.Words.{word}
 use Rattle.records.specs.laws.Words.{length-put, word-put-same, word-put-other, word-past-end}
 use Rattle.opening.specs.Opening.{withSettings, withCoins, openWords}
@@ -25,10 +25,11 @@ module _ (s : List ℕ) (o : Arguments) where
   unfolding withSettings
   length-settled = simp length-put
 
-  settled-other : (a : ℕ) → 6 ≤ a → (a ≤ 142 → a < 141) → word settled a ≡ word s a
+  settled-other : (a : ℕ) → 6 ≤ a → (a ≤ 143 → a < 141) → word settled a ≡ word s a
   unfolding withSettings
   settled-other a h ne =
-      word-put-other _ boxedAt (o .boxed) a (λ z. omega (arith, ne (omega arith)))
+      word-put-other _ versionAt (o .version) a (λ z. omega (arith, ne (omega arith)))
+      ∙ word-put-other _ boxedAt (o .boxed) a (λ z. omega (arith, ne (omega arith)))
       ∙ word-put-other _ weightsAt (weightsBy o) a (λ z. omega (arith, ne (omega arith)))
       ∙ word-put-other _ inputAt (o .input) a (λ z. omega arith)
       ∙ word-put-other _ sessionAt (o .session) a (λ z. omega arith)
@@ -37,18 +38,19 @@ module _ (s : List ℕ) (o : Arguments) where
       ∙ word-put-other _ taAt (taBy o) a (λ z. omega arith)
       ∙ word-put-other s nAt (o .n) a (λ z. omega arith)
 
-  fit-settled : Fit s → o .n < 2 ^ 64 → taBy o < 2 ^ 64 → o .ts < 2 ^ 64 → o .own < 2 ^ 64 → o .session < 2 ^ 64 → o .input < 2 ^ 64 → weightsBy o < 2 ^ 64 → o .boxed < 2 ^ 64 → Fit settled
+  fit-settled : Fit s → o .n < 2 ^ 64 → taBy o < 2 ^ 64 → o .ts < 2 ^ 64 → o .own < 2 ^ 64 → o .session < 2 ^ 64 → o .input < 2 ^ 64 → weightsBy o < 2 ^ 64 → o .boxed < 2 ^ 64 → o .version < 2 ^ 64 → Fit settled
   unfolding withSettings
-  fit-settled f a b c d e g k x =
+  fit-settled f a b c d e g k x y =
       let first = fit-put _ tsAt (o .ts) (fit-put _ taAt (taBy o) (fit-put s nAt (o .n) f a) b) c in
       let second = fit-put _ inputAt (o .input) (fit-put _ sessionAt (o .session) (fit-put _ ownAt (o .own) first d) e) g in
-      fit-put _ boxedAt (o .boxed) (fit-put _ weightsAt (weightsBy o) second k) x
+      fit-put _ versionAt (o .version) (fit-put _ boxedAt (o .boxed) (fit-put _ weightsAt (weightsBy o) second k) x) y
 
   module _ (long : 6 ≤ length s) where
     settled-n : word settled nAt ≡ o .n
     unfolding withSettings
     settled-n =
-        word-put-other _ boxedAt (o .boxed) nAt (λ z. omega arith)
+        word-put-other _ versionAt (o .version) nAt (λ z. omega arith)
+        ∙ word-put-other _ boxedAt (o .boxed) nAt (λ z. omega arith)
         ∙ word-put-other _ weightsAt (weightsBy o) nAt (λ z. omega arith)
         ∙ word-put-other _ inputAt (o .input) nAt (λ z. omega arith)
         ∙ word-put-other _ sessionAt (o .session) nAt (λ z. omega arith)
@@ -60,7 +62,8 @@ module _ (s : List ℕ) (o : Arguments) where
     settled-ta : word settled taAt ≡ taBy o
     unfolding withSettings
     settled-ta =
-        word-put-other _ boxedAt (o .boxed) taAt (λ z. omega arith)
+        word-put-other _ versionAt (o .version) taAt (λ z. omega arith)
+        ∙ word-put-other _ boxedAt (o .boxed) taAt (λ z. omega arith)
         ∙ word-put-other _ weightsAt (weightsBy o) taAt (λ z. omega arith)
         ∙ word-put-other _ inputAt (o .input) taAt (λ z. omega arith)
         ∙ word-put-other _ sessionAt (o .session) taAt (λ z. omega arith)
@@ -71,7 +74,8 @@ module _ (s : List ℕ) (o : Arguments) where
     settled-ts : word settled tsAt ≡ o .ts
     unfolding withSettings
     settled-ts =
-        word-put-other _ boxedAt (o .boxed) tsAt (λ z. omega arith)
+        word-put-other _ versionAt (o .version) tsAt (λ z. omega arith)
+        ∙ word-put-other _ boxedAt (o .boxed) tsAt (λ z. omega arith)
         ∙ word-put-other _ weightsAt (weightsBy o) tsAt (λ z. omega arith)
         ∙ word-put-other _ inputAt (o .input) tsAt (λ z. omega arith)
         ∙ word-put-other _ sessionAt (o .session) tsAt (λ z. omega arith)
@@ -81,7 +85,8 @@ module _ (s : List ℕ) (o : Arguments) where
     settled-own : word settled ownAt ≡ o .own
     unfolding withSettings
     settled-own =
-        word-put-other _ boxedAt (o .boxed) ownAt (λ z. omega arith)
+        word-put-other _ versionAt (o .version) ownAt (λ z. omega arith)
+        ∙ word-put-other _ boxedAt (o .boxed) ownAt (λ z. omega arith)
         ∙ word-put-other _ weightsAt (weightsBy o) ownAt (λ z. omega arith)
         ∙ word-put-other _ inputAt (o .input) ownAt (λ z. omega arith)
         ∙ word-put-other _ sessionAt (o .session) ownAt (λ z. omega arith)
@@ -90,7 +95,8 @@ module _ (s : List ℕ) (o : Arguments) where
     settled-session : word settled sessionAt ≡ o .session
     unfolding withSettings
     settled-session =
-        word-put-other _ boxedAt (o .boxed) sessionAt (λ z. omega arith)
+        word-put-other _ versionAt (o .version) sessionAt (λ z. omega arith)
+        ∙ word-put-other _ boxedAt (o .boxed) sessionAt (λ z. omega arith)
         ∙ word-put-other _ weightsAt (weightsBy o) sessionAt (λ z. omega arith)
         ∙ word-put-other _ inputAt (o .input) sessionAt (λ z. omega arith)
         ∙ word-put-same _ sessionAt (o .session) (simp length-put (omega arith))
@@ -98,7 +104,8 @@ module _ (s : List ℕ) (o : Arguments) where
     settled-input : word settled inputAt ≡ o .input
     unfolding withSettings
     settled-input =
-        word-put-other _ boxedAt (o .boxed) inputAt (λ z. omega arith)
+        word-put-other _ versionAt (o .version) inputAt (λ z. omega arith)
+        ∙ word-put-other _ boxedAt (o .boxed) inputAt (λ z. omega arith)
         ∙ word-put-other _ weightsAt (weightsBy o) inputAt (λ z. omega arith)
         ∙ word-put-same _ inputAt (o .input) (simp length-put (omega arith))
 
@@ -172,25 +179,33 @@ module _ (o : Arguments) where
     unfolding withSettings
     first-weights =
         first-base weightsAt (λ j lo hi z. omega arith)
+        ∙ word-put-other _ versionAt (o .version) weightsAt (λ z. omega arith)
         ∙ word-put-other _ boxedAt (o .boxed) weightsAt (λ z. omega arith)
         ∙ word-put-same _ weightsAt (weightsBy o) (simp length-put (rw length-blank (omega arith)))
 
     pub first-boxed : word first boxedAt ≡ o .boxed
     unfolding withSettings
-    first-boxed = first-base boxedAt (λ j lo hi z. omega arith) ∙ word-put-same _ boxedAt (o .boxed) (simp length-put (rw length-blank (omega arith)))
+    first-boxed =
+        first-base boxedAt (λ j lo hi z. omega arith)
+        ∙ word-put-other _ versionAt (o .version) boxedAt (λ z. omega arith)
+        ∙ word-put-same _ boxedAt (o .boxed) (simp length-put (rw length-blank (omega arith)))
+
+    pub first-version : word first versionAt ≡ o .version
+    unfolding withSettings
+    first-version = first-base versionAt (λ j lo hi z. omega arith) ∙ word-put-same _ versionAt (o .version) (simp length-put (rw length-blank (omega arith)))
 
     -- nothing is recorded
-    pub first-zero : (a : ℕ) → 24 ≤ a → (a ≤ 142 → a < 141) → word first a ≡ 0
+    pub first-zero : (a : ℕ) → 24 ≤ a → (a ≤ 143 → a < 141) → word first a ≡ 0
     first-zero a h ne = first-base a (λ j lo hi z. omega arith) ∙ settled-other (blank stateWords) o a (omega arith) ne ∙ empty (decLt a stateWords)
       where
         empty : Dec (a < stateWords) → word (blank stateWords) a ≡ 0
         empty (yes l) = word-blank stateWords a l
         empty (no l) = sym (word-past-end (blank stateWords) a (rw length-blank (omega arith)))
 
-  pub fit-first : o .n < 2 ^ 64 → taBy o < 2 ^ 64 → o .ts < 2 ^ 64 → o .own < 2 ^ 64 → o .session < 2 ^ 64 → o .input < 2 ^ 64 → weightsBy o < 2 ^ 64 → o .boxed < 2 ^ 64 →
+  pub fit-first : o .n < 2 ^ 64 → taBy o < 2 ^ 64 → o .ts < 2 ^ 64 → o .own < 2 ^ 64 → o .session < 2 ^ 64 → o .input < 2 ^ 64 → weightsBy o < 2 ^ 64 → o .boxed < 2 ^ 64 → o .version < 2 ^ 64 →
       ((i : ℕ) → item (o .coins) i < 2 ^ 64) → Fit first
   unfolding openWords withCoins
-  fit-first a b c d e g v x h =
+  fit-first a b c d e g v x y h =
       fit-storeOf (item (o .coins)) (coinAt 0) base (o .n)
-      (fit-settled (blank stateWords) o (fit-blank stateWords) a b c d e g v x)
+      (fit-settled (blank stateWords) o (fit-blank stateWords) a b c d e g v x y)
       (λ k lo hi. h k)

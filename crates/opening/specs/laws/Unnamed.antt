@@ -1,5 +1,6 @@
 -- An opening that leaves ta unnamed is one that names the largest ta which an opening with the other arguments takes (PROTOCOL 1.7).
 use Prim.Native.Nat.{ℕ, _*_, _≤_}
+use mathlib.Core.Bool.{true}
 use mathlib.Core.List.{List}
 use mathlib.Core.Path.{_≡_, ap}
 use native.Mathlib.Omega.{arith}
@@ -10,9 +11,10 @@ use Rattle.settings.specs.Settings.{UNNAMED, settingsFrom}
 use Rattle.settings.specs.laws.Rules.{valid-rules, whole-few}
 use Rattle.settings.specs.laws.Cases.{named}
 use Rattle.settings.specs.laws.Unnamed.{unnamedTa, Largest, unnamed-largest, none-allowed}
+use Rattle.settings.specs.Versions.{versionKnown}
 use Rattle.settings.specs.Refusals.{SETTINGS}
-use Rattle.records.specs.Words.{blank}
-use Rattle.records.specs.Layout.{stateWords}
+use Rattle.records.specs.Words.{put, blank}
+use Rattle.records.specs.Layout.{stateWords, versionAt}
 use Rattle.opening.specs.Arguments.{Arguments, weightsBy, taBy}
 use Rattle.opening.specs.Opening.{openAnswer, withSettings, withCoins, openWords, opened}
 use Rattle.opening.specs.laws.WeightsWord.{settingsWith}
@@ -21,7 +23,7 @@ use Rattle.opening.specs.laws.Cases.{Accepted, accepted, accepted-answer
 module _ (s : List ℕ) (o : Arguments) where
   -- the same arguments with another ta
   abbrev naming : ℕ → Arguments
-  naming ta = record { n = o .n; ta = ta; ts = o .ts; own = o .own; session = o .session; input = o .input; coins = o .coins; weights = o .weights; boxed = o .boxed }
+  naming ta = record { version = o .version; n = o .n; ta = ta; ts = o .ts; own = o .own; session = o .session; input = o .input; coins = o .coins; weights = o .weights; boxed = o .boxed }
 
   abbrev largest-ta : ℕ
   largest-ta = unnamedTa (o .n) (o .ts) (weightsBy o)
@@ -40,6 +42,7 @@ module _ (s : List ℕ) (o : Arguments) where
       accepted-answer (length s) (naming UNNAMED)
       (record {
         size = a .size;
+        known = a .known;
         valid = unnamed-largest (o .n) (o .ts) (weightsBy o) (taBy (naming ta)) (a .valid) .allowed;
         own-number = a .own-number;
         given = a .given;
@@ -70,12 +73,12 @@ module _ (s : List ℕ) (o : Arguments) where
     unfolding opened openWords withSettings settingsWith
     same-words =
         rw (eq-eqb (openAnswer (length s) (naming UNNAMED)) 0 e, eq-eqb (openAnswer (length s) (naming largest-ta)) 0 opens-named)
-        (ap (λ (m : ℕ). withCoins (settingsWith (blank stateWords) (o .n) m (o .ts) (weightsBy o) (o .own) (o .session) (o .input) (o .boxed)) (o .coins) (o .n)) same)
+        (ap (λ (m : ℕ). withCoins (put (settingsWith (blank stateWords) (o .n) m (o .ts) (weightsBy o) (o .own) (o .session) (o .input) (o .boxed)) versionAt (o .version)) (o .coins) (o .n)) same)
 
     pub unnamed-named : NamesLargest
     unnamed-named = record { largest = unnamed-largest (o .n) (o .ts) (weightsBy o) largest-ta (told .valid); opens = opens-named; words = same-words }
 
   -- where no ta is allowed, an unnamed one is refused (PROTOCOL 1.7)
-  pub unnamed-refused : length s ≡ stateWords → wholeOf (weightsBy o) (o .n) ≤ 2 * o .ts → openAnswer (length s) (naming UNNAMED) ≡ SETTINGS
+  pub unnamed-refused : length s ≡ stateWords → versionKnown (o .version) ≡ true → wholeOf (weightsBy o) (o .n) ≤ 2 * o .ts → openAnswer (length s) (naming UNNAMED) ≡ SETTINGS
   unfolding openAnswer
-  unnamed-refused size h = rw (eq-eqb (length s) stateWords size, none-allowed (o .n) (o .ts) (weightsBy o) h largest-ta)
+  unnamed-refused size k h = rw (eq-eqb (length s) stateWords size, k, none-allowed (o .n) (o .ts) (weightsBy o) h largest-ta)

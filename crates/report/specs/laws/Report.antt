@@ -9,7 +9,8 @@ use lib.Seq.{take-at}
 use lib.Dec.{ltb}
 use borrow.Author.Tests.{ltb-false, le-ltb}
 use Rattle.quorum.specs.laws.Bools.{or-passed}
-use Rattle.settings.specs.laws.Thresholds.{ruled-bounds}
+use Rattle.settings.specs.laws.Versions.{bound-few}
+use Rattle.records.specs.Records.{version}
 use Rattle.settings.specs.declared.Settings.{Settings}
 use Rattle.exits.specs.Exits.{exitNow}
 use Rattle.session.specs.Session.{isState, stored, settingsOf, sessionWith, sessionOf}
@@ -72,9 +73,9 @@ reported s a b f e = of (admits s a b) refl e
         record { state = x .state; same = sym q ∙ ap (λ (y : Settings). figuresOf y s) (x .same) }
 
 -- the turn bound of 16 concentrators (PROTOCOL 8.20)
-pub turns-few : (s : List ℕ) (f : Figures) → Reported s f → f .turns ≤ 1587
+pub turns-few : (s : List ℕ) (f : Figures) → Reported s f → f .turns ≤ 1603
 unfolding figuresOf
-turns-few s f r = rw (r .same) (omega (arith, r .state .turns, ruled-bounds (settingsOf s) (r .state .ruled) .bound-few))
+turns-few s f r = rw (r .same) (omega (arith, r .state .turns, bound-few (version s) (settingsOf s) (r .state .ruled)))
 
 -- a state lent 16 words for each set gives its figures and sets
 module _ (s : List ℕ) (e : isState s ≡ true) where

@@ -14,7 +14,7 @@ use Rattle.opening.specs.Arguments.{Arguments}
 use Rattle.opening.specs.Opening.{openAnswer}
 use Rattle.text.specs.Fields.{fields, letter}
 use Rattle.text.specs.Numbers.{DECIMAL, valueOf, valuesOf}
-use Rattle.journal.specs.Lines.{LETTER-O, VERSION}
+use Rattle.journal.specs.Lines.{LETTER-O}
 use Rattle.restore.specs.Reading.{allProper, fieldAt, formsFor, argumentsFrom}
 use Rattle.restore.specs.Complete.{linesOf, joined}
 use Rattle.restore.specs.Restoring.{Point, Replay, wrong, right, openedFrom, openingFrom, openingRead, firstOf, firstLine, nextLine, appliedOr, further, replayFrom, replay, lengthAgain, bytesAgain, replayAnswer, replayWords, replayBytes}
@@ -233,7 +233,7 @@ unturned-first (f ∷ fs) =
     let xs : List ℕ = valuesOf (formsFor n (length fs)) fs in
     unturned-if (eqb (letter f) LETTER-O) _
     (unturned-if (leb n 16 && allProper (formsFor n (length fs)) fs) _
-    (unturned-if (eqb (getD xs 0 0) VERSION && ltb (getD xs 5 0) (2 ^ 32)) _
+    (unturned-if (ltb (getD xs 5 0) (2 ^ 32)) _
     (unturned-opened (argumentsFrom n xs))))
 
 -- the cases of the first line

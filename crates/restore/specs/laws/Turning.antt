@@ -100,6 +100,7 @@ quiet-act own w (act.Start i b) e = no-truth e
 quiet-act own w (act.Relay i r b) e = no-truth e
 quiet-act own w (act.Aux i r b) e = no-truth e
 quiet-act own w (act.Move i r v) e = no-truth (sym (move-acts (ltb r roundLimit) _ refl) ∙ e)
+quiet-act own w (act.Finish i b) e = no-truth e
 
 quiet-bytes : (x : Session) (w : List ℕ) (o : Outcome) (out : List ℕ) → acts o ≡ false → bytesAfter x w o out ≡ out
 unfolding bytesAfter

@@ -33,7 +33,8 @@ use Rattle.turn.specs.Turn.{turnOutcome, turnWords}
 use Rattle.io.specs.Digits.{digits, glyph}
 use Rattle.text.specs.Fields.{TAB, LF, inFront, fields, letter}
 use Rattle.text.specs.Numbers.{DECIMAL, WORD, PACK, digitOf, allDigits, valueOf, decimalIn, decimalText}
-use Rattle.journal.specs.Lines.{VERSION, numberText, numberTexts, tabbed, openingForms, figures, numbersOf, formsOf, openingText, hexBytes, deliveryText, turnText, recordingForms, recordingText}
+use Rattle.settings.specs.laws.Versions.{version-known}
+use Rattle.journal.specs.Lines.{numberText, numberTexts, tabbed, openingForms, figures, numbersOf, formsOf, openingText, hexBytes, deliveryText, turnText, recordingForms, recordingText}
 use Rattle.journal.specs.Journal.{acts}
 use Rattle.journal.specs.laws.Journal.{acts-outcome, acts-words}
 use Rattle.restore.specs.Reading.{fieldAt, figureCount, formsFor, weightsFrom, boxedFrom, hexRight, bytesOf}
@@ -197,6 +198,9 @@ module _ (o : Arguments) (taken : openAnswer stateWords o ≡ 0) where
       go true f l = omega (arith, eqb-true (o .ta) 255 f)
       go false f l = omega (arith, ts-small)
 
+  version-small : o .version < 2 ^ 64
+  version-small = omega (arith, version-known (o .version) (told .known) .high)
+
   own-small : o .own < 2 ^ 64
   unfolding numbered
   own-small = omega (arith, leb-true (o .own) (o .n) (and-right (leb 1 (o .own)) (leb (o .own) (o .n)) (told .own-number)), rules .few)
@@ -211,9 +215,9 @@ module _ (o : Arguments) (taken : openAnswer stateWords o ≡ 0) where
     all-fit : AllFit (formsOf o) xs
     unfolding openingForms
     all-fit =
-        all-fit-append (DECIMAL ∷ DECIMAL ∷ DECIMAL ∷ DECIMAL ∷ DECIMAL ∷ DECIMAL ∷ PACK ∷ []) (VERSION ∷ o .n ∷ o .ta ∷ o .ts ∷ o .own ∷ o .session ∷ o .input ∷ [])
+        all-fit-append (DECIMAL ∷ DECIMAL ∷ DECIMAL ∷ DECIMAL ∷ DECIMAL ∷ DECIMAL ∷ PACK ∷ []) (o .version ∷ o .n ∷ o .ta ∷ o .ts ∷ o .own ∷ o .session ∷ o .input ∷ [])
         (replicate (length (o .coins)) WORD ++ replicate (length (figures o)) DECIMAL) (o .coins ++ figures o)
-        (decimal-fits 1 (omega arith), (decimal-fits (o .n) (omega (arith, rules .few)), (decimal-fits (o .ta) ta-small, (decimal-fits (o .ts) ts-small, rest-fit))))
+        (decimal-fits (o .version) version-small, (decimal-fits (o .n) (omega (arith, rules .few)), (decimal-fits (o .ta) ta-small, (decimal-fits (o .ts) ts-small, rest-fit))))
         (all-fit-append (replicate (length (o .coins)) WORD) (o .coins) (replicate (length (figures o)) DECIMAL) (figures o)
         (words-fit (o .coins) coins-fit)
         (weights-fit (figures o) (figures-small (o .weights) (o .boxed) (coined .kind) weight-small)))

@@ -9,13 +9,14 @@ use lib.Dec.{leb}
 use borrow.Author.Tests.{eq-eqb, ne-eqb, lt-leb, le-leb, not-true, not-false, leb-true}
 use Rattle.quorum.specs.laws.Bools.{and-left, and-right}
 use Rattle.settings.specs.Check.{checkSettings}
-use Rattle.settings.specs.Settings.{turnBound}
+use Rattle.settings.specs.Versions.{versionKnown, turnBound}
 use Rattle.settings.specs.laws.Rules.{Taken, check-taken, check-refused}
 use Rattle.settings.specs.declared.Settings.{Settings}
 use Rattle.settings.specs.declared.Checked.{Checked}
 use Rattle.settings.specs.declared.Checked.the-variants.{Valid, Invalid}
 use Rattle.quorum.specs.Every.{every}
 use Rattle.records.specs.Layout.{nAt, taAt, tsAt, ownAt, weightsAt, boxedAt, turnsAt}
+use Rattle.records.specs.Records.{version}
 use Rattle.records.specs.Words.{word}
 use Rattle.session.specs.Session.{numbered, roundsRight, commitsRight, numbersRight, settingsOf, isState, sessionWith, sessionOf, stored}
 use Rattle.session.specs.laws.Session.{storedWith}
@@ -33,27 +34,32 @@ module _ (g : Settings) (s : List ℕ) (own : ℕ) (eo : own ≡ word s ownAt) (
     unfolding numbersRight
     boxed-wrong l = rw (← eo, ← eb, not-false b tb, ← ex, lt-leb x 1 l)
 
-    module _ (lx : x ≤ 1) (k turns : ℕ) (ek : k ≡ turnBound g) (et : turns ≡ word s turnsAt) where
-      pub turns-wrong : k < turns → false ≡ numbersRight g s
+    module _ (lx : x ≤ 1) (v : ℕ) (ev : v ≡ version s) (w : Bool) (ew : w ≡ versionKnown v) where
+      pub version-wrong : not w ≡ true → false ≡ numbersRight g s
       unfolding numbersRight
-      turns-wrong l = rw (← eo, ← eb, not-false b tb, ← ex, le-leb x 1 lx, ← ek, ← et, lt-leb turns k l)
+      version-wrong t = rw (← eo, ← eb, not-false b tb, ← ex, le-leb x 1 lx, ← ev, ← ew, not-true w t)
 
-      module _ (lt : turns ≤ k) (r : Bool) (er : r ≡ every (λ i. leb (word s (23 + i)) 33) (g .n)) where
-        pub rounds-wrong : not r ≡ true → false ≡ numbersRight g s
-        unfolding numbersRight roundsRight
-        rounds-wrong t = rw (← eo, ← eb, not-false b tb, ← ex, le-leb x 1 lx, ← ek, ← et, le-leb turns k lt, ← er, not-true r t)
+      module _ (tw : not w ≡ false) (k turns : ℕ) (ek : k ≡ turnBound v g) (et : turns ≡ word s turnsAt) where
+        pub turns-wrong : k < turns → false ≡ numbersRight g s
+        unfolding numbersRight
+        turns-wrong l = rw (← eo, ← eb, not-false b tb, ← ex, le-leb x 1 lx, ← ev, ← ew, not-false w tw, ← ek, ← et, lt-leb turns k l)
 
-        pub commits-asked : (c : Bool) → not r ≡ false → c ≡ every (λ p. leb (word s (119 + p)) (g .n)) (g .n) → c ≡ numbersRight g s
-        unfolding numbersRight roundsRight commitsRight
-        commits-asked c t ec = rw (← eo, ← eb, not-false b tb, ← ex, le-leb x 1 lx, ← ek, ← et, le-leb turns k lt, ← er, not-false r t) ec
+        module _ (lt : turns ≤ k) (r : Bool) (er : r ≡ every (λ i. leb (word s (23 + i)) 33) (g .n)) where
+          pub rounds-wrong : not r ≡ true → false ≡ numbersRight g s
+          unfolding numbersRight roundsRight
+          rounds-wrong t = rw (← eo, ← eb, not-false b tb, ← ex, le-leb x 1 lx, ← ev, ← ew, not-false w tw, ← ek, ← et, le-leb turns k lt, ← er, not-true r t)
 
-pub ruleset number-cases = (own-wrong, boxed-wrong, turns-wrong, rounds-wrong, commits-asked)
+          pub commits-asked : (c : Bool) → not r ≡ false → c ≡ every (λ p. leb (word s (119 + p)) (g .n)) (g .n) → c ≡ numbersRight g s
+          unfolding numbersRight roundsRight commitsRight
+          commits-asked c t ec = rw (← eo, ← eb, not-false b tb, ← ex, le-leb x 1 lx, ← ev, ← ew, not-false w tw, ← ek, ← et, le-leb turns k lt, ← er, not-false r t) ec
+
+pub ruleset number-cases = (own-wrong, boxed-wrong, version-wrong, turns-wrong, rounds-wrong, commits-asked)
 
 pub own-small : (g : Settings) (s : List ℕ) (b : Bool) → b ≡ numbersRight g s → b ≡ true → g .n < 256 → word s ownAt < 256
 unfolding numbersRight numbered
 own-small g s b e t h =
     let all : numbersRight g s ≡ true = sym e ∙ t in
-    let o : leb 1 (word s ownAt) && leb (word s ownAt) (g .n) ≡ true = and-left _ _ (and-left _ _ (and-left _ _ (and-left _ _ all))) in
+    let o : leb 1 (word s ownAt) && leb (word s ownAt) (g .n) ≡ true = and-left _ _ (and-left _ _ (and-left _ _ (and-left _ _ (and-left _ _ all)))) in
     let l : word s ownAt ≤ g .n = leb-true (word s ownAt) (g .n) (and-right (leb 1 (word s ownAt)) _ o) in
     omega arith
 

@@ -5,10 +5,13 @@ use mathlib.Core.Bool.{Bool, _&&_, cond, true, false}
 use mathlib.Core.List.{List}
 use lib.ListN.{length}
 use lib.Dec.{eqb, leb}
-use Rattle.settings.specs.Settings.{validSettings, turnBound}
+use Rattle.settings.specs.Settings.{validSettings}
+use Rattle.settings.specs.Versions.{versionKnown, turnBound}
+use Rattle.settings.specs.laws.Versions.{Known, version-known, known-version}
 use Rattle.settings.specs.declared.Settings.{Settings}
 use Rattle.quorum.specs.Every.{every}
 use Rattle.records.specs.Layout.{nAt, taAt, tsAt, ownAt, weightsAt, boxedAt, turnsAt, roundAt, commitCountAt}
+use Rattle.records.specs.Records.{version}
 use Rattle.records.specs.Words.{word}
 use Rattle.session.specs.declared.Session.{Session}
 use Rattle.session.specs.declared.Stored.{Stored}
@@ -31,7 +34,8 @@ pub record State (s : List ℕ) : Type 0 where
   pub own-low : 1 ≤ word s ownAt
   pub own-high : word s ownAt ≤ word s nAt
   pub kind : word s boxedAt ≤ 1
-  pub turns : word s turnsAt ≤ turnBound (settingsOf s)
+  pub known : Known (version s)
+  pub turns : word s turnsAt ≤ turnBound (version s) (settingsOf s)
   pub rounds : (i : ℕ) → 1 ≤ i → i ≤ word s nAt → word s (roundAt i) ≤ 33
   pub counts : (p : ℕ) → 1 ≤ p → p ≤ word s nAt → word s (commitCountAt p) ≤ word s nAt
 
@@ -44,24 +48,27 @@ is-state s e =
     let low = leb 1 (word s ownAt) in
     let high = leb (word s ownAt) n in
     let kind = leb (word s boxedAt) 1 in
-    let bound = leb (word s turnsAt) (turnBound (settingsOf s)) in
+    let known = versionKnown (version s) in
+    let bound = leb (word s turnsAt) (turnBound (version s) (settingsOf s)) in
     let rounds = every (λ i. leb (word s (roundAt i)) 33) n in
     let counts = every (λ p. leb (word s (commitCountAt p)) n) n in
-    let a = and-left (sized && valid) ((low && high) && kind && bound && rounds && counts) e in
-    let b = and-right (sized && valid) ((low && high) && kind && bound && rounds && counts) e in
-    let c = and-left ((low && high) && kind && bound && rounds) counts b in
-    let d = and-left ((low && high) && kind && bound) rounds c in
-    let f = and-left ((low && high) && kind) bound d in
-    let o = and-left (low && high) kind f in
+    let a = and-left (sized && valid) ((low && high) && kind && known && bound && rounds && counts) e in
+    let b = and-right (sized && valid) ((low && high) && kind && known && bound && rounds && counts) e in
+    let c = and-left ((low && high) && kind && known && bound && rounds) counts b in
+    let d = and-left ((low && high) && kind && known && bound) rounds c in
+    let f = and-left ((low && high) && kind && known) bound d in
+    let k = and-left ((low && high) && kind) known f in
+    let o = and-left (low && high) kind k in
     record {
       size = eqb-true (length s) 2048 (and-left sized valid a);
       ruled = valid-rules n (word s taAt) (word s tsAt) (word s weightsAt) (and-right sized valid a);
       own-low = leb-true 1 (word s ownAt) (and-left low high o);
       own-high = leb-true (word s ownAt) n (and-right low high o);
-      kind = leb-true (word s boxedAt) 1 (and-right (low && high) kind f);
-      turns = leb-true (word s turnsAt) (turnBound (settingsOf s)) (and-right ((low && high) && kind) bound d);
-      rounds = λ i lo hi. leb-true (word s (roundAt i)) 33 (every-each (λ j. leb (word s (roundAt j)) 33) n (and-right ((low && high) && kind && bound) rounds c) i lo hi);
-      counts = λ p lo hi. leb-true (word s (commitCountAt p)) n (every-each (λ j. leb (word s (commitCountAt j)) n) n (and-right ((low && high) && kind && bound && rounds) counts b) p lo hi);
+      kind = leb-true (word s boxedAt) 1 (and-right (low && high) kind k);
+      known = version-known (version s) (and-right ((low && high) && kind) known f);
+      turns = leb-true (word s turnsAt) (turnBound (version s) (settingsOf s)) (and-right ((low && high) && kind && known) bound d);
+      rounds = λ i lo hi. leb-true (word s (roundAt i)) 33 (every-each (λ j. leb (word s (roundAt j)) 33) n (and-right ((low && high) && kind && known && bound) rounds c) i lo hi);
+      counts = λ p lo hi. leb-true (word s (commitCountAt p)) n (every-each (λ j. leb (word s (commitCountAt j)) n) n (and-right ((low && high) && kind && known && bound && rounds) counts b) p lo hi);
     }
 
 pub state-is : (s : List ℕ) → State s → isState s ≡ true
@@ -73,7 +80,8 @@ state-is s h =
       le-leb 1 (word s ownAt) (h .own-low),
       le-leb (word s ownAt) (word s nAt) (h .own-high),
       le-leb (word s boxedAt) 1 (h .kind),
-      le-leb (word s turnsAt) (turnBound (settingsOf s)) (h .turns),
+      known-version (version s) (h .known),
+      le-leb (word s turnsAt) (turnBound (version s) (settingsOf s)) (h .turns),
       each-every (λ i. leb (word s (roundAt i)) 33) (word s nAt) (λ i low high. le-leb (word s (roundAt i)) 33 (h .rounds i low high)),
       each-every (λ p. leb (word s (commitCountAt p)) (word s nAt)) (word s nAt) (λ p low high. le-leb (word s (commitCountAt p)) (word s nAt) (h .counts p low high)),
     )

@@ -2,7 +2,7 @@
 use Prim.Native.Nat.{ℕ, _+_, _*_, _≤_}
 use mathlib.Core.Path.{_≡_, refl}
 use native.Mathlib.Omega.{arith}
-use Rattle.settings.specs.Settings.{quorum, repeat, voteQuorum, relay, accept, turnBound}
+use Rattle.settings.specs.Settings.{quorum, repeat, voteQuorum, relay, accept}
 use Rattle.settings.specs.Rules.{Ruled}
 use Rattle.settings.specs.declared.Settings.{Settings}
 
@@ -18,10 +18,6 @@ module _ (g : Settings) where
   pub accept-sum : accept g ≡ 2 * g .ta + 1
   unfolding accept
   accept-sum = refl
-
-  pub turn-bound-sum : turnBound g ≡ 99 * g .n + 3
-  unfolding turnBound
-  turn-bound-sum = refl
 
   module _ (c : ℕ) where
     pub quorum-reached : quorum g ≤ c → g .whole ≤ c + g .ts
@@ -40,13 +36,11 @@ module _ (g : Settings) where
 pub record Bounds (g : Settings) : Type 0 where
   pub quorum-some : 1 ≤ quorum g
   pub vote-quorum-some : 1 ≤ voteQuorum g
-  pub bound-few : turnBound g ≤ 1587
 
 pub ruled-bounds : (g : Settings) → Ruled g → Bounds g
-unfolding quorum voteQuorum turnBound
+unfolding quorum voteQuorum
 ruled-bounds g r =
     record {
       quorum-some = omega arith;
       vote-quorum-some = omega arith;
-      bound-few = omega arith;
     }

@@ -37,6 +37,9 @@ enum-known-a-8 c = search needs
 move-outcome-requires : tie.Need-move-outcome-requires
 move-outcome-requires c κs = search needs
 
+enum-known-a-9 : tie.Need-enum-known-a-9
+enum-known-a-9 c = search needs
+
 returns : tie.Need-returns
 returns c = search outcome-cases
 
@@ -67,6 +70,9 @@ returns-9 c = search outcome-cases
 returns-10 : tie.Need-returns-10
 returns-10 c = search outcome-cases
 
+returns-11 : tie.Need-returns-11
+returns-11 c = search outcome-cases
+
 pub outcome-of-spec : {M : Type 1} → statement M
 outcome-of-spec =
     tie.close
@@ -82,6 +88,7 @@ outcome-of-spec =
     enum-known-a-7
     enum-known-a-8
     move-outcome-requires
+    enum-known-a-9
     returns
     returns-2
     returns-3
@@ -91,4 +98,5 @@ outcome-of-spec =
     returns-7
     returns-8
     returns-9
-    returns-10)
+    returns-10
+    returns-11)

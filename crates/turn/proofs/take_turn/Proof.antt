@@ -10,6 +10,12 @@ due-requires c κs = search taking-cases
 outcome-of-requires : tie.Need-outcome-of-requires
 outcome-of-requires c κs = search needs
 
+version-requires : tie.Need-version-requires
+version-requires c κs = search needs
+
+cast-write-outcome : tie.Need-cast-write-outcome
+cast-write-outcome c = search needs
+
 write-outcome-requires : tie.Need-write-outcome-requires
 write-outcome-requires c κs = search needs
 
@@ -31,6 +37,8 @@ take-turn-spec =
     (tie.spec
     due-requires
     outcome-of-requires
+    version-requires
+    cast-write-outcome
     write-outcome-requires
     apply-requires
     same-length

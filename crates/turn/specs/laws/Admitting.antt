@@ -8,7 +8,8 @@ use lib.Dec.{ltb}
 use lib.ListN.{length}
 use borrow.Author.Tests.{ltb-false}
 use Rattle.settings.specs.Rules.{Ruled}
-use Rattle.settings.specs.laws.Thresholds.{ruled-bounds}
+use Rattle.settings.specs.laws.Versions.{bound-few}
+use Rattle.records.specs.Records.{version}
 use Rattle.records.specs.Layout.{turnsAt}
 use Rattle.records.specs.Words.{word}
 use Rattle.records.specs.Records.{closed}
@@ -61,4 +62,4 @@ module _ (s : List ℕ) (room : ℕ) (x : Session) (h : Admitting s room x) wher
 
   -- the stored count has room for one more turn
   pub admitted-turns : word s turnsAt ≤ 65535
-  admitted-turns = omega (arith, h .state .turns, ruled-bounds (settingsOf s) (h .state .ruled) .bound-few)
+  admitted-turns = omega (arith, h .state .turns, bound-few (version s) (settingsOf s) (h .state .ruled))

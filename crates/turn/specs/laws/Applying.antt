@@ -5,10 +5,10 @@ use mathlib.Core.List.{List}
 use mathlib.Core.Path.{_≡_}
 use borrow.Author.Tests.{lt-ltb, le-ltb}
 use Rattle.records.specs.Records.{turnCount, coin, decided}
-use Rattle.records.specs.Writing.{withTurnCount, withRound, withDecision, withClosed, withCommitSent, withSendSent, withEchoSent, withReadySent, withEstSent, withAuxSent}
+use Rattle.records.specs.Writing.{withTurnCount, withRound, withDecision, withClosed, withCommitSent, withSendSent, withEchoSent, withReadySent, withEstSent, withAuxSent, withFinishSent}
 use Rattle.acts.specs.Acts.{isDue}
 use Rattle.acts.specs.declared.Act.{Act}
-use Rattle.acts.specs.declared.Act.the-variants.{Idle, InForce, Commit, Send, Echo, Ready, Start, Relay, Aux, Move}
+use Rattle.acts.specs.declared.Act.the-variants.{Idle, InForce, Commit, Send, Echo, Ready, Start, Relay, Aux, Move, Finish}
 use Rattle.acts.specs.declared.View.{View}
 use Rattle.votes.specs.Votes.{estimate, decides}
 use Rattle.turn.specs.Turn.{withTurnCounted, entered, newDecision, moveDecided, moved, done, applied}
@@ -85,6 +85,10 @@ module _ (s t : List ℕ) (a : Act) where
   unfolding done
   mark-move i r v e f = rw e f
 
+  pub mark-finish : (i b : ℕ) → a ≡ Finish i b → t ≡ withFinishSent s i → t ≡ done s a
+  unfolding done
+  mark-finish i b e f = rw e f
+
   pub act-done : (u : List ℕ) (d : Bool) → d ≡ isDue a → d ≡ true → t ≡ withTurnCounted s → u ≡ done t a → u ≡ applied s a
   unfolding applied
   act-done u d e h f g = rw (← e, h, ← f) g
@@ -95,4 +99,4 @@ nothing-done s a d e h = rw (← e, h)
 
 pub ruleset apply-cases = (turn-counted, last-left, round-entered, decision, decision-taken, round-left, no-decision, act-done, nothing-done)
 
-pub ruleset mark-cases = (mark-idle, mark-in-force, mark-commit, mark-send, mark-echo, mark-ready, mark-start, mark-relay, mark-aux, mark-move)
+pub ruleset mark-cases = (mark-idle, mark-in-force, mark-commit, mark-send, mark-echo, mark-ready, mark-start, mark-relay, mark-aux, mark-move, mark-finish)

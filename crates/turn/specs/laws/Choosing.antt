@@ -23,7 +23,9 @@ use Rattle.broadcasts.specs.Leading.{present}
 use Rattle.broadcasts.specs.Broadcasts.{output, echoRule, readyRule}
 use Rattle.broadcasts.specs.Outputs.{Outputs}
 use Rattle.broadcasts.specs.laws.Broadcasts.{outputs-marks}
-use Rattle.votes.specs.Votes.{votesDecidedOne, voteAct, voteRule}
+use Rattle.settings.specs.Versions.{finishing}
+use Rattle.records.specs.Records.{version}
+use Rattle.votes.specs.Votes.{votesDecidedOne, voteDue, voteRule}
 use Rattle.exits.specs.Exits.{Exit, named}
 use Rattle.exits.specs.Stated.{Stated}
 use Rattle.exits.specs.declared.Named.{Named}
@@ -209,8 +211,9 @@ module _ (g : Settings) (s : List ℕ) (outputs : ℕ) (values : List ℕ) (r : 
   rule-same : voteRule g s (mark outputs) ≡ voteRule g s (λ i. present (output g s i))
   unfolding voteRule
   rule-same =
-      first-agree (λ i. voteAct g s (mark outputs i) (votesDecidedOne g s) i) (λ i. voteAct g s (present (output g s i)) (votesDecidedOne g s) i) (g .n)
-      (λ i a b. ap (λ (o : Bool). voteAct g s o (votesDecidedOne g s) i) (outputs-marks g s outputs values r x i a b))
+      let w : Bool = finishing (version s) in
+      first-agree (λ i. voteDue g s w (mark outputs i) (votesDecidedOne g s) i) (λ i. voteDue g s w (present (output g s i)) (votesDecidedOne g s) i) (g .n)
+      (λ i a b. ap (λ (o : Bool). voteDue g s w o (votesDecidedOne g s) i) (outputs-marks g s outputs values r x i a b))
 
   pub later-same : (y : Named) → Stated y (exitNow g s) → laterRules g s outputs (eqb (y .exit) 1) ≡ orAct (sendRule s) (orAct (echoRule g s) (orAct (readyRule g s) (votesRule g s)))
   unfolding laterRules lastRules votesRule

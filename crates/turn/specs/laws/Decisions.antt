@@ -14,7 +14,7 @@ use Rattle.records.specs.Words.{word, marked, setMark}
 use Rattle.records.specs.laws.Words.{word-setMark-same, word-setMark-other}
 use Rattle.records.specs.Records.{coin, decidedZero, decidedOne, decided}
 use Rattle.acts.specs.declared.Act.{Act}
-use Rattle.acts.specs.declared.Act.the-variants.{Idle, InForce, Commit, Send, Echo, Ready, Start, Relay, Aux, Move}
+use Rattle.acts.specs.declared.Act.the-variants.{Idle, InForce, Commit, Send, Echo, Ready, Start, Relay, Aux, Move, Finish}
 use Rattle.acts.specs.declared.View.{View}
 use Rattle.votes.specs.Votes.{estimate}
 use Rattle.turn.specs.Turn.{withTurnCounted, entered, newDecision, moveDecided, moved, applied}
@@ -54,6 +54,10 @@ module _ (s : List ℕ) (j r : ℕ) (v : View) where
 away : (z : Bool) (k : ℕ) → k < 138 → decidedAt z ≡ k → ⊥
 away true k l e = omega arith
 away false k l e = omega arith
+
+above : (z : Bool) → decidedAt z ≡ 144 → ⊥
+above true e = omega arith
+above false e = omega arith
 
 module _ (s : List ℕ) (size : length s ≡ 2048) where
   kept : (t : List ℕ) (k i : ℕ) → word t k ≡ word s k → mark (word t k) i ≡ true → mark (word s k) i ≡ true
@@ -97,6 +101,7 @@ module _ (s : List ℕ) (size : length s ≡ 2048) where
     decided-came (Start j b) p h = other (Start j b) (away z (23 + j) (omega arith), away z (39 + j) (omega arith)) h
     decided-came (Relay j r b) p h = other (Relay j r b) (away z (39 + j) (omega arith)) h
     decided-came (Aux j r b) p h = other (Aux j r b) (away z (55 + j) (omega arith)) h
+    decided-came (Finish j b) p h = other (Finish j b) (above z) h
     decided-came (Move j r v) p h = of (move-came j r v z i (before h))
       where
         b : ℕ

@@ -11,18 +11,19 @@ use borrow.Author.Tests.{eqb-false, leb-true}
 use Rattle.quorum.specs.laws.Bools.{and-left, and-right}
 use Rattle.settings.specs.Rules.{Ruled}
 use Rattle.settings.specs.Settings.{quorum, repeat}
+use Rattle.settings.specs.Versions.{finishing}
 use Rattle.settings.specs.declared.Settings.{Settings}
 use Rattle.quorum.specs.laws.Lowest.{Lowest, lowest-is}
 use Rattle.records.specs.Layout.{inputAt}
 use Rattle.records.specs.Words.{word}
-use Rattle.records.specs.Records.{sendSent, commitSent, commitCount, commitSet, decidedZero, decidedOne}
+use Rattle.records.specs.Records.{sendSent, commitSent, commitCount, commitSet, decidedZero, decidedOne, version}
 use Rattle.acts.specs.Acts.{orAct}
 use Rattle.acts.specs.declared.Act.{Act}
-use Rattle.acts.specs.declared.Act.the-variants.{Idle, InForce, Commit, Send, Echo, Ready, Start, Relay, Aux, Move}
+use Rattle.acts.specs.declared.Act.the-variants.{Idle, InForce, Commit, Send, Echo, Ready, Start, Relay, Aux, Move, Finish}
 use Rattle.broadcasts.specs.Leading.{present}
 use Rattle.broadcasts.specs.Broadcasts.{output, echoRule, readyRule}
 use Rattle.broadcasts.specs.laws.Due.{echo-rule-holds, ready-rule-holds}
-use Rattle.votes.specs.Votes.{votesDecidedOne, voteAct, voteRule}
+use Rattle.votes.specs.Votes.{votesDecidedOne, voteDue, voteRule}
 use Rattle.acts.specs.laws.Choices.{all-cond, all-or, all-first}
 use Rattle.votes.specs.laws.Told.{StartTold, Told, Among}
 use Rattle.votes.specs.laws.Votes.{vote-told}
@@ -121,14 +122,15 @@ module _ (g : Settings) (s : List ℕ) where
         go (Relay j r b) t = (among j (t .0), t .1)
         go (Aux j r b) t = (among j (t .0), t .1)
         go (Move j r v) t = (among j (t .0), t .1)
+        go (Finish j b) t = (among j (t .0), t .1)
 
     module _ (ruled : Ruled g) where
       votes-told : P (votesRule g s)
       unfolding votesRule voteRule
       votes-told =
           all-cond P (eqb (exitNow g s .number) 1) Idle (voteRule g s (λ i. present (output g s i))) (λ e. tt)
-          (λ e. all-first P (λ i. voteAct g s (present (output g s i)) (votesDecidedOne g s) i) (g .n) tt
-          (λ i low high. of-vote i low high (voteAct g s (present (output g s i)) (votesDecidedOne g s) i) (vote-told g ruled s (present (output g s i)) (votesDecidedOne g s) i _ refl)))
+          (λ e. all-first P (λ i. voteDue g s (finishing (version s)) (present (output g s i)) (votesDecidedOne g s) i) (g .n) tt
+          (λ i low high. of-vote i low high (voteDue g s (finishing (version s)) (present (output g s i)) (votesDecidedOne g s) i) (vote-told g ruled s (present (output g s i)) (votesDecidedOne g s) i _ refl)))
 
       -- rules 3 to 6, which send no COMMIT
       pub later-told : P (orAct (sendRule s) (orAct (echoRule g s) (orAct (readyRule g s) (votesRule g s))))

@@ -17,7 +17,7 @@ use Rattle.records.specs.Records.{coin}
 use Rattle.records.specs.Writing.{withDecision}
 use Rattle.acts.specs.Acts.{isDue}
 use Rattle.acts.specs.declared.Act.{Act}
-use Rattle.acts.specs.declared.Act.the-variants.{Idle, InForce, Commit, Send, Echo, Ready, Start, Relay, Aux, Move}
+use Rattle.acts.specs.declared.Act.the-variants.{Idle, InForce, Commit, Send, Echo, Ready, Start, Relay, Aux, Move, Finish}
 use Rattle.acts.specs.declared.View.{View}
 use Rattle.votes.specs.Votes.{estimate}
 use Rattle.turn.specs.laws.Told.{ActTold}
@@ -35,6 +35,7 @@ Spared (Start i b) j = (j ≢ 23 + i) × (j ≢ 39 + i)
 Spared (Relay i r b) j = j ≢ 39 + i
 Spared (Aux i r b) j = j ≢ 55 + i
 Spared (Move i r v) j = (j ≢ 23 + i) × (j ≢ 39 + i) × (j ≢ 138) × (j ≢ 139)
+Spared (Finish i b) j = j ≢ 144
 
 -- the vote of an act is one of 1 to 16
 abbrev pub Placed : Act → Type 0
@@ -48,6 +49,7 @@ Placed (Start i b) = (1 ≤ i) × (i ≤ 16)
 Placed (Relay i r b) = (1 ≤ i) × (i ≤ 16)
 Placed (Aux i r b) = (1 ≤ i) × (i ≤ 16)
 Placed (Move i r v) = (1 ≤ i) × (i ≤ 16)
+Placed (Finish i b) = (1 ≤ i) × (i ≤ 16)
 
 -- an act that is due is of one of the votes 1 to n
 pub told-placed : (g : Settings) (s : List ℕ) → Ruled g → (a : Act) → ActTold g s a → Placed a
@@ -61,6 +63,7 @@ told-placed g s r (Start i b) t = (t .0 .low, omega (arith, t .0 .high, r .few))
 told-placed g s r (Relay i n b) t = (t .0 .low, omega (arith, t .0 .high, r .few))
 told-placed g s r (Aux i n b) t = (t .0 .low, omega (arith, t .0 .high, r .few))
 told-placed g s r (Move i n v) t = (t .0 .low, omega (arith, t .0 .high, r .few))
+told-placed g s r (Finish i b) t = (t .0 .low, omega (arith, t .0 .high, r .few))
 
 -- the two steps of a move
 module _ (s : List ℕ) (i r b : ℕ) where
@@ -113,6 +116,7 @@ length-done s (Ready i v) = length-setMark s _ _
 length-done s (Start i b) = length-entered s i 1 b
 length-done s (Relay i r b) = length-setMark s _ _
 length-done s (Aux i r b) = length-setMark s _ _
+length-done s (Finish i b) = length-setMark s _ _
 length-done s (Move i r v) = length-entered (moveDecided s i r v) i (r + 1) _ ∙ length-decided s i r v
 
 pub word-done-other : (s : List ℕ) (a : Act) (j : ℕ) → Spared a j → word (done s a) j ≡ word s j
@@ -126,6 +130,7 @@ word-done-other s (Ready i v) j h = word-setMark-other s 137 i j h
 word-done-other s (Start i b) j h = word-entered-other s i 1 b j (h .0) (h .1)
 word-done-other s (Relay i r b) j h = word-setMark-other s (39 + i) _ j h
 word-done-other s (Aux i r b) j h = word-setMark-other s (55 + i) r j h
+word-done-other s (Finish i b) j h = word-setMark-other s 144 i j h
 word-done-other s (Move i r v) j h = word-entered-other (moveDecided s i r v) i (r + 1) _ j (h .0) (h .1) ∙ word-decided-other s i r v j (h .2) (h .3)
 
 -- what is counted
@@ -148,6 +153,7 @@ spares-turns (Ready i v) p = λ e. omega arith
 spares-turns (Start i b) p = (λ e. omega arith, λ e. omega arith)
 spares-turns (Relay i r b) p = λ e. omega arith
 spares-turns (Aux i r b) p = λ e. omega arith
+spares-turns (Finish i b) p = λ e. omega arith
 spares-turns (Move i r v) p = (λ e. omega arith, λ e. omega arith, λ e. omega arith, λ e. omega arith)
 
 -- the words that no act changes: the settings, the coins, and what deliveries record
@@ -155,7 +161,8 @@ pub data Kept (j : ℕ) : Type 0 where
   setting : j < 6 → Kept j
   coins : 8 ≤ j → j < 24 → Kept j
   held : 72 ≤ j → j < 136 → Kept j
-  beyond : 140 ≤ j → Kept j
+  between : 140 ≤ j → j < 144 → Kept j
+  beyond : 145 ≤ j → Kept j
 
 -- between the words that acts write
 record Apart (j : ℕ) : Type 0 where
@@ -166,16 +173,19 @@ record Apart (j : ℕ) : Type 0 where
   ready : j ≢ 137
   zeros : j ≢ 138
   ones : j ≢ 139
+  finish : j ≢ 144
 
 apart : (j : ℕ) → Kept j → Apart j
 apart j (setting l) =
-    record { turns = λ e. omega arith; flags = λ e. omega arith; votes = λ i a b. (λ e. omega arith, λ e. omega arith, λ e. omega arith); echo = λ e. omega arith; ready = λ e. omega arith; zeros = λ e. omega arith; ones = λ e. omega arith }
+    record { turns = λ e. omega arith; flags = λ e. omega arith; votes = λ i a b. (λ e. omega arith, λ e. omega arith, λ e. omega arith); echo = λ e. omega arith; ready = λ e. omega arith; zeros = λ e. omega arith; ones = λ e. omega arith; finish = λ e. omega arith }
 apart j (coins l m) =
-    record { turns = λ e. omega arith; flags = λ e. omega arith; votes = λ i a b. (λ e. omega arith, λ e. omega arith, λ e. omega arith); echo = λ e. omega arith; ready = λ e. omega arith; zeros = λ e. omega arith; ones = λ e. omega arith }
+    record { turns = λ e. omega arith; flags = λ e. omega arith; votes = λ i a b. (λ e. omega arith, λ e. omega arith, λ e. omega arith); echo = λ e. omega arith; ready = λ e. omega arith; zeros = λ e. omega arith; ones = λ e. omega arith; finish = λ e. omega arith }
 apart j (held l m) =
-    record { turns = λ e. omega arith; flags = λ e. omega arith; votes = λ i a b. (λ e. omega arith, λ e. omega arith, λ e. omega arith); echo = λ e. omega arith; ready = λ e. omega arith; zeros = λ e. omega arith; ones = λ e. omega arith }
+    record { turns = λ e. omega arith; flags = λ e. omega arith; votes = λ i a b. (λ e. omega arith, λ e. omega arith, λ e. omega arith); echo = λ e. omega arith; ready = λ e. omega arith; zeros = λ e. omega arith; ones = λ e. omega arith; finish = λ e. omega arith }
+apart j (between l m) =
+    record { turns = λ e. omega arith; flags = λ e. omega arith; votes = λ i a b. (λ e. omega arith, λ e. omega arith, λ e. omega arith); echo = λ e. omega arith; ready = λ e. omega arith; zeros = λ e. omega arith; ones = λ e. omega arith; finish = λ e. omega arith }
 apart j (beyond l) =
-    record { turns = λ e. omega arith; flags = λ e. omega arith; votes = λ i a b. (λ e. omega arith, λ e. omega arith, λ e. omega arith); echo = λ e. omega arith; ready = λ e. omega arith; zeros = λ e. omega arith; ones = λ e. omega arith }
+    record { turns = λ e. omega arith; flags = λ e. omega arith; votes = λ i a b. (λ e. omega arith, λ e. omega arith, λ e. omega arith); echo = λ e. omega arith; ready = λ e. omega arith; zeros = λ e. omega arith; ones = λ e. omega arith; finish = λ e. omega arith }
 
 spares-kept : (a : Act) (j : ℕ) → Placed a → Apart j → Spared a j
 spares-kept Idle j p x = tt
@@ -187,6 +197,7 @@ spares-kept (Ready i v) j p x = x .ready
 spares-kept (Start i b) j p x = let y = x .votes i (p .0) (p .1) in (y .0, y .1)
 spares-kept (Relay i r b) j p x = x .votes i (p .0) (p .1) .1
 spares-kept (Aux i r b) j p x = x .votes i (p .0) (p .1) .2
+spares-kept (Finish i b) j p x = x .finish
 spares-kept (Move i r v) j p x = let y = x .votes i (p .0) (p .1) in (y .0, y .1, x .zeros, x .ones)
 
 module _ (s : List ℕ) (a : Act) where

@@ -10,14 +10,14 @@ use lib.ListN.{length}
 use Rattle.settings.specs.Settings.{roundLimit}
 use Rattle.quorum.specs.Marks.{mark}
 use Rattle.quorum.specs.laws.Marks.{mark-same}
-use Rattle.records.specs.Layout.{flagsAt, closedMark, sendSentMark, commitSentMark, echoSentAt, readySentAt, decidedZeroAt, decidedOneAt, roundAt, estSentAt, estSentMark, auxSentAt}
+use Rattle.records.specs.Layout.{flagsAt, closedMark, sendSentMark, commitSentMark, echoSentAt, readySentAt, decidedZeroAt, decidedOneAt, roundAt, estSentAt, estSentMark, auxSentAt, finishSentAt}
 use Rattle.records.specs.Words.{word, put, marked, setMark}
 use Rattle.records.specs.laws.Words.{word-put-other, word-setMark-same, marked-kept}
-use Rattle.records.specs.Records.{closed, sendSent, commitSent, echoSent, readySent, auxSent, estSent, coin}
+use Rattle.records.specs.Records.{closed, sendSent, commitSent, echoSent, readySent, auxSent, estSent, finishSent, coin}
 use Rattle.records.specs.Writing.{withDecision}
 use Rattle.acts.specs.Acts.{isDue}
 use Rattle.acts.specs.declared.Act.{Act}
-use Rattle.acts.specs.declared.Act.the-variants.{Idle, InForce, Commit, Send, Echo, Ready, Start, Relay, Aux, Move}
+use Rattle.acts.specs.declared.Act.the-variants.{Idle, InForce, Commit, Send, Echo, Ready, Start, Relay, Aux, Move, Finish}
 use Rattle.acts.specs.declared.View.{View}
 use Rattle.votes.specs.Votes.{estimate}
 use Rattle.turn.specs.Turn.{withTurnCounted, entered, newDecision, moveDecided, moved, applied}
@@ -71,6 +71,7 @@ module _ (k : ℕ) (m : MarkWord k) where
   keeps-done s (Start i b) x p h = keeps-entered s i 1 b (x .0) (x .1) p h
   keeps-done s (Relay i r b) x p h = keeps-mark k s (estSentAt i) (estSentMark r b) p h
   keeps-done s (Aux i r b) x p h = keeps-mark k s (auxSentAt i) r p h
+  keeps-done s (Finish i b) x p h = keeps-mark k s finishSentAt i p h
   keeps-done s (Move i r v) x p h = keeps-entered (moveDecided s i r v) i (r + 1) (estimate (coin s i r) v) (x .0) (x .1) p (keeps-decided s i r v p h)
 
   -- marks never vanish
@@ -116,3 +117,7 @@ module _ (s : List ℕ) (size : length s ≡ 2048) where
   pub aux-marked : (i r b : ℕ) → i ≤ 16 → 1 ≤ r → r ≤ 32 → auxSent (applied s (Aux i r b)) i r ≡ true
   unfolding applied turn.done auxSent
   aux-marked i r b high low last = set-here (auxSentAt i) r (omega arith) low (omega arith)
+
+  pub finish-marked : (i b : ℕ) → 1 ≤ i → i ≤ 16 → finishSent (applied s (Finish i b)) i ≡ true
+  unfolding applied turn.done finishSent
+  finish-marked i b low high = set-here finishSentAt i (omega arith) low (omega arith)

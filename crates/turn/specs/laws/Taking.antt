@@ -8,9 +8,9 @@ use lib.ListN.{length, take, length-take}
 use lib.Seq.{take-all}
 use lib.Dec.{ltb}
 use borrow.Author.Tests.{lt-ltb, le-ltb}
-use Rattle.records.specs.Records.{closed, coin}
+use Rattle.records.specs.Records.{closed, coin, version}
 use Rattle.acts.specs.declared.Act.{Act}
-use Rattle.acts.specs.declared.Act.the-variants.{Idle, InForce, Commit, Send, Echo, Ready, Start, Relay, Aux, Move}
+use Rattle.acts.specs.declared.Act.the-variants.{Idle, InForce, Commit, Send, Echo, Ready, Start, Relay, Aux, Move, Finish}
 use Rattle.acts.specs.declared.View.{View}
 use Rattle.votes.specs.Votes.{estimate}
 use Rattle.session.specs.laws.Cases.{size-wrong}
@@ -109,34 +109,38 @@ module _ (own : ℕ) (s : List ℕ) (a : Act) where
   unfolding outcomeOf
   of-move i r v o e f = rw e f
 
-pub ruleset outcome-cases = (move-sends, move-out, of-idle, of-in-force, of-commit, of-send, of-echo, of-ready, of-start, of-relay, of-aux, of-move)
+  pub of-finish : (i b : ℕ) → a ≡ Finish i b → outcome.Sent (message.Finish i b) ≡ outcomeOf own s a
+  unfolding outcomeOf
+  of-finish i b e = rw e
+
+pub ruleset outcome-cases = (move-sends, move-out, of-idle, of-in-force, of-commit, of-send, of-echo, of-ready, of-start, of-relay, of-aux, of-move, of-finish)
 
 -- the bytes out with the message of an outcome at their front; the values of a COMMIT are the first of xs
-unfoldable pub writtenFor : Session → Outcome → List ℕ → List ℕ → List ℕ
-writtenFor x (outcome.Refused k) xs out = out
-writtenFor x outcome.Idle xs out = out
-writtenFor x (outcome.Sent m) xs out = atFront (written m (x .own) (x .number) xs out) out
-writtenFor x outcome.MovedOut xs out = out
-writtenFor x outcome.InForce xs out = out
+unfoldable pub writtenFor : ℕ → Session → Outcome → List ℕ → List ℕ → List ℕ
+writtenFor v x (outcome.Refused k) xs out = out
+writtenFor v x outcome.Idle xs out = out
+writtenFor v x (outcome.Sent m) xs out = atFront (written m v (x .own) (x .number) xs out) out
+writtenFor v x outcome.MovedOut xs out = out
+writtenFor v x outcome.InForce xs out = out
 
-module _ (x : Session) (o : Outcome) (xs out : List ℕ) where
-  pub write-refused : (k : ℕ) → o ≡ outcome.Refused k → out ≡ writtenFor x o xs out
+module _ (v : ℕ) (x : Session) (o : Outcome) (xs out : List ℕ) where
+  pub write-refused : (k : ℕ) → o ≡ outcome.Refused k → out ≡ writtenFor v x o xs out
   unfolding writtenFor
   write-refused k e = rw e
 
-  pub write-idle : o ≡ outcome.Idle → out ≡ writtenFor x o xs out
+  pub write-idle : o ≡ outcome.Idle → out ≡ writtenFor v x o xs out
   unfolding writtenFor
   write-idle e = rw e
 
-  pub write-moved : o ≡ outcome.MovedOut → out ≡ writtenFor x o xs out
+  pub write-moved : o ≡ outcome.MovedOut → out ≡ writtenFor v x o xs out
   unfolding writtenFor
   write-moved e = rw e
 
-  pub write-in-force : o ≡ outcome.InForce → out ≡ writtenFor x o xs out
+  pub write-in-force : o ≡ outcome.InForce → out ≡ writtenFor v x o xs out
   unfolding writtenFor
   write-in-force e = rw e
 
-  pub write-sent : (m : Message) (k : ℕ) (after : List ℕ) → o ≡ outcome.Sent m → Wrote (written m (x .own) (x .number) xs out) out k after → after ≡ writtenFor x o xs out
+  pub write-sent : (m : Message) (k : ℕ) (after : List ℕ) → o ≡ outcome.Sent m → Wrote (written m v (x .own) (x .number) xs out) out k after → after ≡ writtenFor v x o xs out
   unfolding writtenFor
   write-sent m k after e w = rw e (w .bytes)
 
@@ -147,20 +151,20 @@ module _ (x : Session) (s set out : List ℕ) (long : 140 ≤ length out) where
   xs = commitDue (x .settings) s
 
   -- a message that fits is written whole, with the values of the set
-  sent-whole : (m : Message) → besides m ≤ length set → countOf m ≤ 16 → valuesOf m set ≡ valuesOf m xs → atFront (written m (x .own) (x .number) set out) out ≡ atFront (encode m (x .own) (x .number) xs) out
+  sent-whole : (m : Message) → besides m ≤ length set → countOf m ≤ 16 → valuesOf m set ≡ valuesOf m xs → atFront (written m (version s) (x .own) (x .number) set out) out ≡ atFront (encode m (version s) (x .own) (x .number) xs) out
   unfolding encode
   sent-whole m b c e =
-      let same : encode m (x .own) (x .number) set ≡ encode m (x .own) (x .number) xs = rw e in
-      ap (λ (w : List ℕ). atFront w out) (written-whole m (x .own) (x .number) set out b (omega arith) ∙ same)
+      let same : encode m (version s) (x .own) (x .number) set ≡ encode m (version s) (x .own) (x .number) xs = rw e in
+      ap (λ (w : List ℕ). atFront w out) (written-whole m (version s) (x .own) (x .number) set out b (omega arith) ∙ same)
 
-  sent-commit : (k : ℕ) → length xs ≡ k → k ≤ 16 → take k set ≡ xs → atFront (written (message.Commit k) (x .own) (x .number) set out) out ≡ atFront (encode (message.Commit k) (x .own) (x .number) xs) out
+  sent-commit : (k : ℕ) → length xs ≡ k → k ≤ 16 → take k set ≡ xs → atFront (written (message.Commit k) (version s) (x .own) (x .number) set out) out ≡ atFront (encode (message.Commit k) (version s) (x .own) (x .number) xs) out
   sent-commit k n l e =
       let few : min k (length set) ≡ length xs = sym (length-take k set) ∙ ap length e in
       let all : take k xs ≡ xs = take-all k xs (omega arith) in
       sent-whole (message.Commit k) (omega arith) (omega arith) (e ∙ sym all)
 
   -- and the bytes are those of the definition
-  bytes-same : (a : Act) → ((k : ℕ) → a ≡ Commit k → CommitTold (x .settings) s k × (take k set ≡ xs)) → writtenFor x (outcomeOf (x .own) s a) set out ≡ bytesAfter x s (outcomeOf (x .own) s a) out
+  bytes-same : (a : Act) → ((k : ℕ) → a ≡ Commit k → CommitTold (x .settings) s k × (take k set ≡ xs)) → writtenFor (version s) x (outcomeOf (x .own) s a) set out ≡ bytesAfter x s (outcomeOf (x .own) s a) out
   unfolding writtenFor bytesAfter outcomeOf moveOutcome
   bytes-same Idle h = refl
   bytes-same InForce h = refl
@@ -171,9 +175,10 @@ module _ (x : Session) (s set out : List ℕ) (long : 140 ≤ length out) where
   bytes-same (Start i b) h = sent-whole (message.Est i 1 b) (omega arith) (omega arith) refl
   bytes-same (Relay i r b) h = sent-whole (message.Est i r b) (omega arith) (omega arith) refl
   bytes-same (Aux i r b) h = sent-whole (message.Aux i r b) (omega arith) (omega arith) refl
+  bytes-same (Finish i b) h = sent-whole (message.Finish i b) (omega arith) (omega arith) refl
   bytes-same (Move i r v) h = go (ltb r 32)
     where
-      go : (b : Bool) → writtenFor x (cond b (outcome.Sent (message.Est i (r + 1) (estimate (coin s i r) v))) outcome.MovedOut) set out ≡ bytesAfter x s (cond b (outcome.Sent (message.Est i (r + 1) (estimate (coin s i r) v))) outcome.MovedOut) out
+      go : (b : Bool) → writtenFor (version s) x (cond b (outcome.Sent (message.Est i (r + 1) (estimate (coin s i r) v))) outcome.MovedOut) set out ≡ bytesAfter x s (cond b (outcome.Sent (message.Est i (r + 1) (estimate (coin s i r) v))) outcome.MovedOut) out
       go true = sent-whole (message.Est i (r + 1) (estimate (coin s i r) v)) (omega arith) (omega arith) refl
       go false = refl
 
@@ -185,12 +190,12 @@ module _ (x : Session) (s set : List ℕ) (a : Act) (ch : Chosen (due (x .settin
   pub turn-words : (t : List ℕ) → t ≡ applied s a → t ≡ applied s (due (x .settings) s)
   turn-words t e = rw (← ch .same) e
 
-  pub turn-bytes : (o : Outcome) (out after : List ℕ) → Admitting s (length out) x → o ≡ outcomeOf (x .own) s a → after ≡ writtenFor x o set out → after ≡ bytesAfter x s (outcomeOf (x .own) s (due (x .settings) s)) out
-  turn-bytes o out after h e f =
+  pub turn-bytes : (o : Outcome) (v : ℕ) (out after : List ℕ) → Admitting s (length out) x → v ≡ version s → o ≡ outcomeOf (x .own) s a → after ≡ writtenFor v x o set out → after ≡ bytesAfter x s (outcomeOf (x .own) s (due (x .settings) s)) out
+  turn-bytes o v out after h ev e f =
       let ea : a ≡ due (x .settings) s = ch .same in
-      let same : writtenFor x (outcomeOf (x .own) s a) set out ≡ bytesAfter x s (outcomeOf (x .own) s a) out =
+      let same : writtenFor (version s) x (outcomeOf (x .own) s a) set out ≡ bytesAfter x s (outcomeOf (x .own) s a) out =
       bytes-same x s set out (h .long) a (λ k q. (due-is (x .settings) s (admitted-ruled s (length out) x h) (Commit k) (sym ea ∙ q), ch .front k q)) in
-      rw (← ea) (f ∙ ap (λ (y : Outcome). writtenFor x y set out) e ∙ same)
+      rw (← ea) (f ∙ ap (λ (w : ℕ). writtenFor w x o set out) ev ∙ ap (λ (y : Outcome). writtenFor (version s) x y set out) e ∙ same)
 
 pub ruleset taking-cases = (admitted-readable, admitted-turns, turn-outcome, turn-words, turn-bytes)
 

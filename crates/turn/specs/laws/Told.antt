@@ -11,12 +11,12 @@ use Rattle.records.specs.Layout.{inputAt}
 use Rattle.records.specs.Words.{word}
 use Rattle.records.specs.Records.{sendSent, commitSent, echoSent, readySent, sendHeld, sendValue, commitSet}
 use Rattle.acts.specs.declared.Act.{Act}
-use Rattle.acts.specs.declared.Act.the-variants.{Idle, InForce, Commit, Send, Echo, Ready, Start, Relay, Aux, Move}
+use Rattle.acts.specs.declared.Act.the-variants.{Idle, InForce, Commit, Send, Echo, Ready, Start, Relay, Aux, Move, Finish}
 use Rattle.broadcasts.specs.Leading.{present}
 use Rattle.broadcasts.specs.Broadcasts.{output, readyDue}
 use Rattle.broadcasts.specs.declared.Output.the-variants.{Value}
 use Rattle.votes.specs.Votes.{votesDecidedOne}
-use Rattle.votes.specs.laws.Told.{StartTold, RelayTold, AuxTold, MoveTold, Among}
+use Rattle.votes.specs.laws.Told.{StartTold, RelayTold, AuxTold, MoveTold, FinishTold, Among}
 use Rattle.commits.specs.Commits.{commitHeld, setHolders}
 use Rattle.turn.specs.Due.{commitDue}
 use Rattle.exits.specs.Exits.{exitNow}
@@ -72,6 +72,7 @@ Evidence g s Set (Start i b) = Among (g .n) i × StartTold g s (present (output 
 Evidence g s Set (Relay i r b) = Among (g .n) i × RelayTold g s i r b
 Evidence g s Set (Aux i r b) = Among (g .n) i × AuxTold g s i r b
 Evidence g s Set (Move i r v) = Among (g .n) i × MoveTold g s i r v
+Evidence g s Set (Finish i b) = Among (g .n) i × FinishTold g s i b
 
 abbrev pub ActTold : Settings → List ℕ → Act → Type 0
 ActTold g s a = Evidence g s (CommitTold g s) a

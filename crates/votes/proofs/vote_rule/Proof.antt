@@ -1,18 +1,26 @@
 -- `vote_rule` looks at the votes 1 to n in rising order.
 use Prim.Native.Nat.{_-_}
-use borrow.Author.Needs.{needs}
 use Rattle.quorum.specs.Marks.{mark}
+use Rattle.settings.specs.Versions.{finishing}
+use Rattle.records.specs.Records.{version}
 use Rattle.acts.specs.laws.First.{Quiet, firsts}
-use Rattle.votes.specs.Votes.{votesDecidedOne, voteAct, voteRule}
+use Rattle.votes.specs.Votes.{votesDecidedOne, voteDue, voteRule}
 use Rattle.votes.specs.laws.Cases.{vote-numbered}
+use borrow.Author.Needs.{needs}
 use Rattle.votes.proofs.vote_rule.Statement.{statement}
 use Rattle.votes.proofs.vote_rule.Tie as tie
 
 abbrev Inv-loop : tie.InvT-loop
-Inv-loop s g outputs ones n i₀ i = Quiet (λ k. voteAct g s (mark outputs k) (votesDecidedOne g s) k) n i
+Inv-loop s g outputs finishes ones n i₀ i = Quiet (λ k. voteDue g s (finishing (version s)) (mark outputs k) (votesDecidedOne g s) k) n i
 
 abbrev μ-loop : tie.MeasureT-loop
-μ-loop s g outputs ones n i₀ i = n - i
+μ-loop s g outputs finishes ones n i₀ i = n - i
+
+version-requires : tie.Need-version-requires Inv-loop μ-loop
+version-requires c κs = search needs
+
+finishing-requires : tie.Need-finishing-requires Inv-loop μ-loop
+finishing-requires c κs = search needs
 
 votes-decided-one-requires : tie.Need-votes-decided-one-requires Inv-loop μ-loop
 votes-decided-one-requires c κs = search needs
@@ -29,8 +37,8 @@ cast-mark c = search needs
 mark-requires : tie.Need-mark-requires Inv-loop μ-loop
 mark-requires c κs = search needs
 
-vote-act-requires : tie.Need-vote-act-requires Inv-loop μ-loop
-vote-act-requires c κs = search needs
+vote-due-requires : tie.Need-vote-due-requires Inv-loop μ-loop
+vote-due-requires c κs = search needs
 
 is-due-requires : tie.Need-is-due-requires Inv-loop μ-loop
 is-due-requires c κs = search needs
@@ -55,12 +63,14 @@ vote-rule-spec =
     (tie.spec
     Inv-loop
     μ-loop
+    version-requires
+    finishing-requires
     votes-decided-one-requires
     loop-holds
     add-i
     cast-mark
     mark-requires
-    vote-act-requires
+    vote-due-requires
     is-due-requires
     returns
     loop-less

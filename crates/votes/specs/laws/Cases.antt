@@ -8,6 +8,7 @@ use lib.Bits.{bitOr}
 use lib.Dec.{eqb}
 use borrow.Author.Tests.{le-leb, lt-leb, eq-eqb, ne-eqb}
 use Rattle.settings.specs.Settings.{weighed, voteQuorum, relay, roundLimit}
+use Rattle.settings.specs.Versions.{finishing}
 use Rattle.settings.specs.declared.Settings.{Settings}
 use Rattle.quorum.specs.Marks.{mark}
 use Rattle.quorum.specs.laws.Marks.{mark-zero}
@@ -18,15 +19,16 @@ use Rattle.quorum.specs.laws.Total.{total-agree}
 use Rattle.records.specs.Layout.{auxGroup}
 use Rattle.records.specs.Words.{marked}
 use Rattle.records.specs.MarkWords.{decidedOneMarks, voteMarks}
-use Rattle.records.specs.Records.{auxHeld, decidedOne, round, estSent, auxSent, coinKnown}
+use Rattle.records.specs.Records.{auxHeld, decidedOne, round, estSent, auxSent, coinKnown, finishSent, decidedZero, version}
 use Rattle.acts.specs.Acts.{isDue, orAct, firstAct}
 use Rattle.acts.specs.declared.Act.{Act}
-use Rattle.acts.specs.declared.Act.the-variants.{Idle, Start, Relay, Aux, Move}
+use Rattle.acts.specs.declared.Act.the-variants.{Idle, Start, Relay, Aux, Move, Finish}
 use Rattle.acts.specs.declared.View.{View}
 use Rattle.acts.specs.declared.View.the-variants.{Only}
 use Rattle.votes.specs.Votes.{estCount, votesDecidedOne, startAct, relayValue, relayRound, relayAct, running, accepted, auxValue, auxAct}
-use Rattle.votes.specs.Votes.{moveAct, roundAct, voteAct, coinValue, decides}
-use Rattle.votes.specs.laws.Given.{carriesGiven, carriersGiven, viewGiven, moveGiven, move-given}
+use Rattle.votes.specs.Votes.{moveAct, roundAct, voteAct, voteDue, coinValue, decides}
+use Rattle.votes.specs.Finishing.{repeated, finishRepeated, finishValue, finishAct, finished}
+use Rattle.votes.specs.laws.Given.{carriesGiven, carriersGiven, viewGiven, moveGiven, move-given, firstFinish, over, due-given}
 
 pub ones-counted : (g : Settings) (s : List ℕ) (w c : ℕ) → w ≡ decidedOneMarks s → c ≡ weighed g (λ p. mark w (0 + p)) → c ≡ votesDecidedOne g s
 unfolding votesDecidedOne decidedOne marked
@@ -165,9 +167,81 @@ module _ (g : Settings) (s : List ℕ) (i : ℕ) (t : Bool) (e : t ≡ running s
 
 pub ruleset rounds = (in-round, no-round, due-first, due-second)
 
+-- the FINISH
+pub repeat-one : (g : Settings) (s : List ℕ) (i : ℕ) (t u : Bool) → u ≡ true → u ≡ repeated g s i 1 → t ≡ false → t ≡ repeated g s i 0 → Finish i 1 ≡ finishRepeated g s i
+unfolding finishRepeated
+repeat-one g s i t u k f h e = rw (← e, h, ← f, k)
+
+module _ (g : Settings) (s : List ℕ) (i : ℕ) (t : Bool) (e : t ≡ repeated g s i 0) where
+  pub repeat-zero : t ≡ true → Finish i 0 ≡ finishRepeated g s i
+  unfolding finishRepeated
+  repeat-zero h = rw (← e, h)
+
+  pub repeat-none : (u : Bool) → t ≡ false → u ≡ repeated g s i 1 → u ≡ false → Idle ≡ finishRepeated g s i
+  unfolding finishRepeated
+  repeat-none u h f k = rw (← e, h, ← f, k)
+
+module _ (g : Settings) (s : List ℕ) (i : ℕ) (t : Bool) (e : t ≡ decidedOne s i) where
+  pub finish-one : t ≡ true → Finish i 1 ≡ finishValue g s i
+  unfolding finishValue
+  finish-one h = rw (← e, h)
+
+  module _ (u : Bool) (f : u ≡ decidedZero s i) (h : t ≡ false) where
+    pub finish-zero : u ≡ true → Finish i 0 ≡ finishValue g s i
+    unfolding finishValue
+    finish-zero k = rw (← e, h, ← f, k)
+
+    pub finish-repeats : (a : Act) → u ≡ false → a ≡ finishRepeated g s i → a ≡ finishValue g s i
+    unfolding finishValue
+    finish-repeats a k d = rw (← e, h, ← f, k) d
+
+module _ (g : Settings) (s : List ℕ) (i : ℕ) (t : Bool) (e : t ≡ finishSent s i) where
+  pub finish-was-sent : t ≡ true → Idle ≡ finishAct g s i
+  unfolding finishAct
+  finish-was-sent h = rw (← e, h)
+
+  pub finish-now : (a : Act) → t ≡ false → a ≡ finishValue g s i → a ≡ finishAct g s i
+  unfolding finishAct
+  finish-now a h d = rw (← e, h) d
+
+pub ruleset finishes = (repeat-zero, repeat-one, repeat-none, finish-one, finish-zero, finish-repeats, finish-was-sent, finish-now)
+
+-- what comes before the steps of a vote
+module _ (g : Settings) (s : List ℕ) (finishes : Bool) (i : ℕ) where
+  pub first-none : finishes ≡ false → Idle ≡ firstFinish g s finishes i
+  unfolding firstFinish
+  first-none h = rw h
+
+  pub first-some : (a : Act) → finishes ≡ true → a ≡ finishAct g s i → a ≡ firstFinish g s finishes i
+  unfolding firstFinish
+  first-some a h e = rw h e
+
+  pub over-none : finishes ≡ false → false ≡ over s finishes i
+  unfolding over
+  over-none h = rw h
+
+  pub over-some : (t : Bool) → finishes ≡ true → t ≡ finished s i → t ≡ over s finishes i
+  unfolding over
+  over-some t h e = rw h e
+
+pub ruleset befores = (first-none, first-some, over-none, over-some)
+
+module _ (g : Settings) (s : List ℕ) (finishes output : Bool) (ones i : ℕ) (a : Act) (t : Bool) (e : a ≡ firstFinish g s finishes i) (d : t ≡ isDue a) where
+  pub due-finish : t ≡ true → a ≡ voteDue g s finishes output ones i
+  due-finish h = due-first (firstFinish g s finishes i) _ a t e d h ∙ due-given g s finishes output ones i
+
+  module _ (h : t ≡ false) (u : Bool) (f : u ≡ over s finishes i) where
+    pub due-over : u ≡ true → Idle ≡ voteDue g s finishes output ones i
+    due-over k = due-second (firstFinish g s finishes i) _ a Idle t e d h (rw (← f, k)) ∙ due-given g s finishes output ones i
+
+    pub due-steps : (x : Act) → u ≡ false → x ≡ voteAct g s output ones i → x ≡ voteDue g s finishes output ones i
+    due-steps x k q = due-second (firstFinish g s finishes i) _ a x t e d h (rw (← f, k) q) ∙ due-given g s finishes output ones i
+
+pub ruleset dues = (due-finish, due-over, due-steps)
+
 -- vote i, where its mark in `outputs` tells whether broadcast i has output
-pub vote-numbered : (g : Settings) (s : List ℕ) (outputs ones i : ℕ) (t : Bool) (x : Act) → ones ≡ votesDecidedOne g s → t ≡ mark outputs i → x ≡ voteAct g s t ones i → x ≡ voteAct g s (mark outputs i) (votesDecidedOne g s) i
-vote-numbered g s outputs ones i t x o e h = rw (← o, ← e) h
+pub vote-numbered : (g : Settings) (s : List ℕ) (outputs ones i : ℕ) (v : ℕ) (w t : Bool) (x : Act) → v ≡ version s → w ≡ finishing v → ones ≡ votesDecidedOne g s → t ≡ mark outputs i → x ≡ voteDue g s w t ones i → x ≡ voteDue g s (finishing (version s)) (mark outputs i) (votesDecidedOne g s) i
+vote-numbered g s outputs ones i v w t x ev ew o e h = rw (← ev, ← ew, ← o, ← e) h
 
 pub decides-only : (coin : Bool) (v : View) (b k : ℕ) → v ≡ Only b → k ≡ coinValue coin → eqb b k ≡ decides coin v
 decides-only coin v b k e f = rw (e, f)

@@ -2,15 +2,18 @@
 use Prim.Native.Nat.{ℕ, _≤_}
 use mathlib.Core.Bool.{Bool, true, false}
 use mathlib.Core.List.{List}
+use mathlib.Core.Logic.{_⊎_}
 use mathlib.Core.Path.{_≡_}
 use Rattle.settings.specs.Settings.{voteQuorum, relay, roundLimit}
+use Rattle.settings.specs.Versions.{finishing}
 use Rattle.settings.specs.declared.Settings.{Settings}
-use Rattle.records.specs.Records.{round, estSent, auxSent, coinKnown}
+use Rattle.records.specs.Records.{round, estSent, auxSent, coinKnown, finishSent, decidedZero, decidedOne, version}
 use Rattle.acts.specs.declared.Act.{Act}
-use Rattle.acts.specs.declared.Act.the-variants.{Idle, InForce, Commit, Send, Echo, Ready, Start, Relay, Aux, Move}
+use Rattle.acts.specs.declared.Act.the-variants.{Idle, InForce, Commit, Send, Echo, Ready, Start, Relay, Aux, Move, Finish}
 use Rattle.acts.specs.declared.View.{View}
 use Rattle.acts.specs.declared.View.the-variants.{Only, Both}
 use Rattle.votes.specs.Votes.{estCount, accepted, auxCount, carriers}
+use Rattle.votes.specs.Finishing.{finishCount}
 
 -- vote i starts with b
 pub record StartTold (g : Settings) (s : List ℕ) (output : Bool) (ones i b : ℕ) : Type 0 where
@@ -65,6 +68,17 @@ pub record MoveTold (g : Settings) (s : List ℕ) (i r : ℕ) (v : View) : Type 
   pub enough : voteQuorum g ≤ carriers g s i r
   pub shown : Shown g s i r v
 
+-- vote i is decided b
+abbrev pub DecidedAs : List ℕ → ℕ → ℕ → Type 0
+DecidedAs s i b = (b ≡ 0 → decidedZero s i ≡ true) × (b ≡ 1 → decidedOne s i ≡ true)
+
+-- FINISH b is sent: a decision b stands, or FINISHes of b are repeated
+pub record FinishTold (g : Settings) (s : List ℕ) (i b : ℕ) : Type 0 where
+  pub allowed : finishing (version s) ≡ true
+  pub bit : b ≤ 1
+  pub unsent : finishSent s i ≡ false
+  pub basis : DecidedAs s i b ⊎ (relay g ≤ finishCount g s i b)
+
 -- an act of one of the votes in Vote, where `output i` tells whether broadcast i has output
 abbrev pub Told : Settings → List ℕ → (ℕ → Bool) → ℕ → (ℕ → Type 0) → Act → Type 0
 Told g s output ones Vote Idle = Unit {0}
@@ -77,6 +91,7 @@ Told g s output ones Vote (Start i b) = Vote i × StartTold g s (output i) ones 
 Told g s output ones Vote (Relay i r b) = Vote i × RelayTold g s i r b
 Told g s output ones Vote (Aux i r b) = Vote i × AuxTold g s i r b
 Told g s output ones Vote (Move i r v) = Vote i × MoveTold g s i r v
+Told g s output ones Vote (Finish i b) = Vote i × FinishTold g s i b
 
 -- the votes 1 to n
 pub record Among (n i : ℕ) : Type 0 where

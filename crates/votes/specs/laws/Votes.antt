@@ -2,22 +2,25 @@
 use Prim.Native.Nat.{ℕ, min, _≤_}
 use mathlib.Core.Bool.{Bool, true, false, _&&_, cond}
 use mathlib.Core.List.{List}
+use mathlib.Core.Logic.{inl, inr}
 use mathlib.Core.Path.{_≡_, refl, subst}
 use native.Mathlib.Omega.{arith}
 use lib.Dec.{eqb, leb}
 use borrow.Author.Tests.{eqb-true, leb-true}
 use Rattle.quorum.specs.laws.Bools.{and-left, and-right}
 use Rattle.settings.specs.Settings.{voteQuorum, relay, roundLimit}
+use Rattle.settings.specs.Versions.{finishing}
 use Rattle.settings.specs.Rules.{Ruled}
 use Rattle.settings.specs.laws.Thresholds.{ruled-bounds}
 use Rattle.settings.specs.declared.Settings.{Settings}
 use Rattle.quorum.specs.Whole.{weightsRight}
-use Rattle.records.specs.Records.{round, estSent, auxSent, coinKnown}
+use Rattle.records.specs.Records.{round, estSent, auxSent, coinKnown, finishSent, decidedZero, decidedOne, version}
 use Rattle.acts.specs.Acts.{orAct}
 use Rattle.acts.specs.declared.Act.{Act}
-use Rattle.acts.specs.declared.Act.the-variants.{Idle, Start, Relay, Aux, Move}
+use Rattle.acts.specs.declared.Act.the-variants.{Idle, Start, Relay, Aux, Move, Finish}
 use Rattle.votes.specs.Votes.{estCount, accepted, startAct, relayValue, relayRound, relayAct, running, auxValue, auxAct, carriers, view}
-use Rattle.votes.specs.Votes.{moveValue, moveAct, roundAct, voteAct}
+use Rattle.votes.specs.Votes.{moveValue, moveAct, roundAct, voteAct, windingAct, voteDue}
+use Rattle.votes.specs.Finishing.{finishCount, repeated, finishRepeated, finishValue, finishAct, finished}
 use Rattle.acts.specs.laws.Choices.{all-cond, all-or, all-first}
 use Rattle.votes.specs.laws.Told.{Told}
 use Rattle.votes.specs.laws.Views.{view-shown}
@@ -110,9 +113,36 @@ module _ (g : Settings) (right : weightsRight (g .weights) (g .n) ≡ true) (s :
         all-or P (startAct g s (output i) ones i) (orAct (relayAct g s i) (roundAct g s i)) start-told
         (all-or P (relayAct g s i) (roundAct g s i) relay-told round-told)
 
+    finish-repeated-told : finishing (version s) ≡ true → finishSent s i ≡ false → P (finishRepeated g s i)
+    unfolding finishRepeated repeated
+    finish-repeated-told w u =
+        all-cond P (repeated g s i 0) (Finish i 0) (cond (repeated g s i 1) (Finish i 1) Idle)
+        (λ q. (v, record { allowed = w; bit = omega arith; unsent = u; basis = inr (leb-true (relay g) (finishCount g s i 0) q) }))
+        (λ q. all-cond P (repeated g s i 1) (Finish i 1) Idle
+        (λ p. (v, record { allowed = w; bit = omega arith; unsent = u; basis = inr (leb-true (relay g) (finishCount g s i 1) p) }))
+        (λ p. tt))
+
+    finish-told : finishing (version s) ≡ true → P (finishAct g s i)
+    unfolding finishAct finishValue
+    finish-told w =
+        all-cond P (finishSent s i) Idle (finishValue g s i) (λ e. tt)
+        (λ u. all-cond P (decidedOne s i) (Finish i 1) (cond (decidedZero s i) (Finish i 0) (finishRepeated g s i))
+        (λ d. (v, record { allowed = w; bit = omega arith; unsent = u; basis = inl ((λ z. absurd (omega arith)), λ z. d) }))
+        (λ d. all-cond P (decidedZero s i) (Finish i 0) (finishRepeated g s i)
+        (λ c. (v, record { allowed = w; bit = omega arith; unsent = u; basis = inl ((λ z. c), λ z. absurd (omega arith)) }))
+        (λ c. finish-repeated-told w u)))
+
+    due-acts : (finishes : Bool) → (finishes ≡ true → finishing (version s) ≡ true) → P (voteDue g s finishes (output i) ones i)
+    unfolding voteDue windingAct
+    due-acts finishes w =
+        all-cond P finishes (windingAct g s (output i) ones i) (voteAct g s (output i) ones i)
+        (λ e. all-or P (finishAct g s i) (cond (finished s i) Idle (voteAct g s (output i) ones i)) (finish-told (w e))
+        (all-cond P (finished s i) Idle (voteAct g s (output i) ones i) (λ f. tt) (λ f. vote-acts)))
+        (λ e. vote-acts)
+
 module _ (g : Settings) (ruled : Ruled g) (s : List ℕ) where
   -- an act of vote i is vote i's own
-  pub vote-told : (output : Bool) (ones i : ℕ) (a : Act) → voteAct g s output ones i ≡ a → Told g s (λ j. output) ones (λ j. j ≡ i) a
+  pub vote-told : (output : Bool) (ones i : ℕ) (a : Act) → voteDue g s (finishing (version s)) output ones i ≡ a → Told g s (λ j. output) ones (λ j. j ≡ i) a
   vote-told output ones i a e =
       subst (Told g s (λ j. output) ones (λ j. j ≡ i)) e
-      (vote-acts g (ruled .right) s (λ j. output) ones (λ j. j ≡ i) i refl (ruled-bounds g ruled .vote-quorum-some))
+      (due-acts g (ruled .right) s (λ j. output) ones (λ j. j ≡ i) i refl (ruled-bounds g ruled .vote-quorum-some) (finishing (version s)) (λ w. w))

@@ -1,4 +1,4 @@
--- Version, session and weights are right, or the line cannot be applied.
+-- Session and weights are right, or the line cannot be applied.
 use Rattle.restore.specs.laws.Given.{open-cases}
 use borrow.Author.Needs.{needs}
 use Rattle.restore.proofs.first.open_values.Statement.{statement}
@@ -10,20 +10,14 @@ shared-slice-read-if1 c = search needs
 returns : tie.Need-returns
 returns c = search open-cases
 
-shared-slice-read-if2 : tie.Need-shared-slice-read-if2
-shared-slice-read-if2 c = search needs
-
-returns-2 : tie.Need-returns-2
-returns-2 c = search open-cases
-
 slice-aggregate-read-weights : tie.Need-slice-aggregate-read-weights
 slice-aggregate-read-weights c = search needs
 
 read-weights-requires : tie.Need-read-weights-requires
 read-weights-requires c κs = search needs
 
-returns-3 : tie.Need-returns-3
-returns-3 c = search open-cases
+returns-2 : tie.Need-returns-2
+returns-2 c = search open-cases
 
 slice-aggregate-copy-coins : tie.Need-slice-aggregate-copy-coins
 slice-aggregate-copy-coins c = search needs
@@ -52,8 +46,8 @@ open-with-requires c κs = search needs
 same-length : tie.Need-same-length
 same-length c = search needs
 
-returns-4 : tie.Need-returns-4
-returns-4 c = search open-cases
+returns-3 : tie.Need-returns-3
+returns-3 c = search open-cases
 
 pub open-values-spec : {M : Type 1} → statement M
 open-values-spec =
@@ -61,11 +55,9 @@ open-values-spec =
     (tie.spec
     shared-slice-read-if1
     returns
-    shared-slice-read-if2
-    returns-2
     slice-aggregate-read-weights
     read-weights-requires
-    returns-3
+    returns-2
     slice-aggregate-copy-coins
     copy-coins-requires
     read-boxed-requires
@@ -75,4 +67,4 @@ open-values-spec =
     slice-aggregate-open-with-2
     open-with-requires
     same-length
-    returns-4)
+    returns-3)

@@ -16,11 +16,14 @@ shared-slice-read-open-3 c = search needs
 shared-slice-read-open-4 : tie.Need-shared-slice-read-open-4
 shared-slice-read-open-4 c = search needs
 
+shared-slice-read-open-5 : tie.Need-shared-slice-read-open-5
+shared-slice-read-open-5 c = search needs
+
 cast-open : tie.Need-cast-open
 cast-open c = search needs
 
-shared-slice-read-open-5 : tie.Need-shared-slice-read-open-5
-shared-slice-read-open-5 c = search needs
+shared-slice-read-open-6 : tie.Need-shared-slice-read-open-6
+shared-slice-read-open-6 c = search needs
 
 open-requires : tie.Need-open-requires
 open-requires c κs = search needs
@@ -39,8 +42,9 @@ open-with-spec =
     shared-slice-read-open-2
     shared-slice-read-open-3
     shared-slice-read-open-4
-    cast-open
     shared-slice-read-open-5
+    cast-open
+    shared-slice-read-open-6
     open-requires
     same-length
     returns)

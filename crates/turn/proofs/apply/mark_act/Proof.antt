@@ -64,6 +64,12 @@ enum-known-a-6 c = search needs
 move-vote-requires : tie.Need-move-vote-requires
 move-vote-requires c κs = search needs
 
+enum-known-a-7 : tie.Need-enum-known-a-7
+enum-known-a-7 c = search needs
+
+mark-finish-sent-requires : tie.Need-mark-finish-sent-requires
+mark-finish-sent-requires c κs = search needs
+
 returns : tie.Need-returns
 returns c = search mark-cases
 
@@ -121,6 +127,12 @@ same-length-9 c = search needs
 returns-10 : tie.Need-returns-10
 returns-10 c = search mark-cases
 
+same-length-10 : tie.Need-same-length-10
+same-length-10 c = search needs
+
+returns-11 : tie.Need-returns-11
+returns-11 c = search mark-cases
+
 pub mark-act-spec : {M : Type 1} → statement M
 mark-act-spec =
     tie.close
@@ -145,6 +157,8 @@ mark-act-spec =
     mark-aux-sent-requires
     enum-known-a-6
     move-vote-requires
+    enum-known-a-7
+    mark-finish-sent-requires
     returns
     same-length
     returns-2
@@ -163,4 +177,6 @@ mark-act-spec =
     same-length-8
     returns-9
     same-length-9
-    returns-10)
+    returns-10
+    same-length-10
+    returns-11)

@@ -5,9 +5,9 @@ use mathlib.Core.Bool.{Bool, false, _&&_}
 use lib.Dec.{eqb}
 use borrow.Author.Tests.{eq-eqb, ne-eqb}
 use Rattle.wire.specs.declared.Header.{Header}
-use Rattle.wire.specs.Message.{SEND, ECHO, READY, EST, AUX}
+use Rattle.wire.specs.Message.{SEND, ECHO, READY, EST, AUX, COMMIT}
 use Rattle.wire.specs.Reading.{broadcastFields, voteFields, commitFields, fieldsRight}
-use Rattle.wire.proofs.Laws.{by-send, by-echo, by-ready, by-est, by-aux, by-commit}
+use Rattle.wire.proofs.Laws.{by-send, by-echo, by-ready, by-est, by-aux, by-commit, by-finish}
 use borrow.Author.Needs.{needs}
 use Rattle.wire.proofs.reading.fields_right.Statement.{statement}
 use Rattle.wire.proofs.reading.fields_right.Tie as tie
@@ -42,9 +42,14 @@ module _ (n : ℕ) (h : Header) where
             unfolding fieldsRight
             aux f q = simp (eq-eqb _ _ z, by-aux, q)
 
-            commit : (h .kind ≡ AUX → ⊥) → r ≡ commitFields n h → r ≡ fieldsRight n h
-            unfolding fieldsRight
-            commit f q = simp (eq-eqb _ _ z, by-commit, q)
+            module _ (f : h .kind ≡ AUX → ⊥) where
+              commit : h .kind ≡ COMMIT → r ≡ commitFields n h → r ≡ fieldsRight n h
+              unfolding fieldsRight
+              commit g q = simp (eq-eqb _ _ z, by-commit, q)
+
+              finish : (h .kind ≡ COMMIT → ⊥) → r ≡ broadcastFields n h → r ≡ fieldsRight n h
+              unfolding fieldsRight
+              finish g q = simp (eq-eqb _ _ z, by-finish, q)
 
 returns : tie.Need-returns
 returns c = search reserved
@@ -85,6 +90,12 @@ commit-fields-requires c κs = search needs
 returns-7 : tie.Need-returns-7
 returns-7 c = search commit
 
+broadcast-fields-requires-4 : tie.Need-broadcast-fields-requires-4
+broadcast-fields-requires-4 c κs = search needs
+
+returns-8 : tie.Need-returns-8
+returns-8 c = search finish
+
 pub fields-right-spec : {M : Type 1} → statement M
 fields-right-spec =
     tie.close
@@ -101,4 +112,6 @@ fields-right-spec =
     vote-fields-requires-2
     returns-6
     commit-fields-requires
-    returns-7)
+    returns-7
+    broadcast-fields-requires-4
+    returns-8)

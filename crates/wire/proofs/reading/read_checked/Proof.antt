@@ -13,27 +13,27 @@ use borrow.Author.Needs.{needs}
 use Rattle.wire.proofs.reading.read_checked.Statement.{statement}
 use Rattle.wire.proofs.reading.read_checked.Tie as tie
 
-module _ (n session link : ℕ) (h : Header) (v : List ℕ) (k : Bool) (kind : k ≡ kindKnown (h .version) (h .kind)) where
-  kind-unknown : not k ≡ true → Refused KIND ≡ readChecked n session link h v
+module _ (own n session link : ℕ) (h : Header) (v : List ℕ) (k : Bool) (kind : k ≡ kindKnown own (h .version) (h .kind)) where
+  kind-unknown : not k ≡ true → Refused KIND ≡ readChecked own n session link h v
   unfolding readChecked
   kind-unknown e = simp (← kind, not-true k e)
 
   module _ (e : not k ≡ false) where
-    session-other : (h .session ≡ session → ⊥) → Refused SESSION ≡ readChecked n session link h v
+    session-other : (h .session ≡ session → ⊥) → Refused SESSION ≡ readChecked own n session link h v
     unfolding readChecked
     session-other p = simp (← kind, not-false k e, ne-eqb _ _ p)
 
     module _ (p : h .session ≡ session) (s : Bool) (sender : s ≡ senderRight n link (h .sender)) where
-      sender-wrong : not s ≡ true → Refused SENDER ≡ readChecked n session link h v
+      sender-wrong : not s ≡ true → Refused SENDER ≡ readChecked own n session link h v
       unfolding readChecked
       sender-wrong f = simp (← kind, not-false k e, eq-eqb _ _ p, ← sender, not-true s f)
 
       module _ (f : not s ≡ false) (t : Bool) (fields : t ≡ fieldsRight n h) where
-        fields-wrong : not t ≡ true → Refused FIELD ≡ readChecked n session link h v
+        fields-wrong : not t ≡ true → Refused FIELD ≡ readChecked own n session link h v
         unfolding readChecked
         fields-wrong g = simp (← kind, not-false k e, eq-eqb _ _ p, ← sender, not-false s f, ← fields, not-true t g)
 
-        all-right : not t ≡ false → (r : Parsed) → r ≡ readValues h v → r ≡ readChecked n session link h v
+        all-right : not t ≡ false → (r : Parsed) → r ≡ readValues h v → r ≡ readChecked own n session link h v
         unfolding readChecked
         all-right g r q = simp (← kind, not-false k e, eq-eqb _ _ p, ← sender, not-false s f, ← fields, not-false t g) q
 

@@ -22,18 +22,18 @@ part : (b : List ℕ) → take (length b - 12) (drop 12 b) ≡ drop 12 b
 part b = take-all (length b - 12) (drop 12 b) (omega (arith, length-drop 12 b))
 
 module _ (b : List ℕ) (t : Bool) (q : t ≡ lengthRight b) where
-  length-wrong : (n session link : ℕ) → not t ≡ true → Refused LENGTH ≡ readMessage n session link b
+  length-wrong : (v n session link : ℕ) → not t ≡ true → Refused LENGTH ≡ readMessage v n session link b
   unfolding readMessage
-  length-wrong n session link e = simp (← q, not-true t e)
+  length-wrong v n session link e = simp (← q, not-true t e)
 
   long : not t ≡ false → 12 ≤ length b
   unfolding lengthRight
   long e = leb-true 12 (length b) (and-left (leb 12 (length b)) _ (sym q ∙ not-false t e))
 
-  checked : (n session link : ℕ) → not t ≡ false → (h : Header) → h ≡ headerOf b → (r : Parsed) →
-      r ≡ readChecked n session link h (take (length b - 12) (drop 12 b)) → r ≡ readMessage n session link b
+  checked : (v n session link : ℕ) → not t ≡ false → (h : Header) → h ≡ headerOf b → (r : Parsed) →
+      r ≡ readChecked v n session link h (take (length b - 12) (drop 12 b)) → r ≡ readMessage v n session link b
   unfolding readMessage
-  checked n session link e h p r k = k ∙ rw (part b, p) (simp (← q, not-false t e))
+  checked v n session link e h p r k = k ∙ rw (part b, p) (simp (← q, not-false t e))
 
 length-right-requires : tie.Need-length-right-requires
 length-right-requires c κs = search needs

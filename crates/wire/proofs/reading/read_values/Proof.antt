@@ -1,17 +1,17 @@
 -- `read_values` is the message of the definition: the tests that led to a return say which kind it is.
 use Prim.Native.Nat.{ℕ, _<_, _≤_}
 use mathlib.Core.Path.{_≡_}
-use mathlib.Core.Bool.{Bool, true, false}
 use mathlib.Core.List.{List}
 use borrow.Author.Tests.{le-leb, lt-leb}
 use Rattle.wire.specs.declared.Header.{Header}
-use Rattle.wire.specs.declared.Message.the-variants.{Send, Echo, Ready, Est, Aux, Commit}
+use Rattle.wire.specs.declared.Message.the-variants.{Send, Echo, Ready, Est, Aux, Commit, Finish}
+use Rattle.wire.specs.declared.Parsed.{Parsed}
 use Rattle.wire.specs.declared.Parsed.the-variants.{Refused, Taken}
 use Rattle.wire.specs.Bytes.{valueAt, values, rises}
 use Rattle.settings.specs.Refusals.{VALUE}
-use Rattle.wire.specs.Message.{SEND, ECHO, READY, EST, AUX}
+use Rattle.wire.specs.Message.{SEND, ECHO, READY, EST, AUX, COMMIT}
 use Rattle.wire.specs.Reading.{takenIf, readValues}
-use Rattle.wire.proofs.Laws.{by-send, by-echo, by-ready, by-est, by-aux, by-commit}
+use Rattle.wire.proofs.Laws.{by-send, by-echo, by-ready, by-est, by-aux, by-commit, by-finish}
 use borrow.Author.Needs.{needs}
 use Rattle.wire.proofs.reading.read_values.Statement.{statement}
 use Rattle.wire.proofs.reading.read_values.Tie as tie
@@ -49,14 +49,18 @@ module _ (h : Header) (v : List ℕ) (x : ℕ) (q : x ≡ valueAt v 1) where
           unfolding readValues takenIf
           aux-above f l = simp (by-aux, ← q, lt-leb _ _ l)
 
-          module _ (f : h .kind ≡ AUX → ⊥) (r : Bool) (p : r ≡ rises (values (h .count) v)) where
-            commit : r ≡ true → Taken (Commit (h .count)) ≡ readValues h v
-            unfolding readValues takenIf
-            commit t = simp (by-commit, ← p, t)
+          module _ (f : h .kind ≡ AUX → ⊥) where
+            commit : h .kind ≡ COMMIT → (r : Parsed) → r ≡ takenIf (rises (values (h .count) v)) (Commit (h .count)) → r ≡ readValues h v
+            unfolding readValues
+            commit g r p = simp (by-commit) p
 
-            falls : r ≡ false → Refused VALUE ≡ readValues h v
+            finish : (h .kind ≡ COMMIT → ⊥) → x ≤ 1 → Taken (Finish (h .instance) x) ≡ readValues h v
             unfolding readValues takenIf
-            falls t = simp (by-commit, ← p, t)
+            finish g l = simp (by-finish, ← q, le-leb _ _ l)
+
+            finish-above : (h .kind ≡ COMMIT → ⊥) → 1 < x → Refused VALUE ≡ readValues h v
+            unfolding readValues takenIf
+            finish-above g l = simp (by-finish, ← q, lt-leb _ _ l)
 
 value-at-requires : tie.Need-value-at-requires
 value-at-requires c κs = search needs
@@ -88,14 +92,20 @@ cast-value-2 c = search needs
 returns-7 : tie.Need-returns-7
 returns-7 c = search aux
 
-rising-requires : tie.Need-rising-requires
-rising-requires c κs = search needs
+read-commit-requires : tie.Need-read-commit-requires
+read-commit-requires c κs = search needs
 
 returns-8 : tie.Need-returns-8
 returns-8 c = search commit
 
 returns-9 : tie.Need-returns-9
-returns-9 c = search falls
+returns-9 c = search finish-above
+
+cast-value-3 : tie.Need-cast-value-3
+cast-value-3 c = search needs
+
+returns-10 : tie.Need-returns-10
+returns-10 c = search finish
 
 pub read-values-spec : {M : Type 1} → statement M
 read-values-spec =
@@ -111,6 +121,8 @@ read-values-spec =
     returns-6
     cast-value-2
     returns-7
-    rising-requires
+    read-commit-requires
     returns-8
-    returns-9)
+    returns-9
+    cast-value-3
+    returns-10)

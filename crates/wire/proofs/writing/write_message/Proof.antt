@@ -6,7 +6,7 @@ use native.Mathlib.Omega.{arith}
 use lib.ListN.{length}
 use borrow.Author.Tests.{le-leb}
 use Rattle.wire.specs.declared.Message.{Message}
-use Rattle.wire.specs.declared.Message.the-variants.{Send, Echo, Ready, Est, Aux, Commit}
+use Rattle.wire.specs.declared.Message.the-variants.{Send, Echo, Ready, Est, Aux, Commit, Finish}
 use Rattle.wire.specs.declared.Header.{Header}
 use Rattle.wire.specs.Message.{besides, valuesOf, headerFor, messageBytes, encode}
 use Rattle.wire.specs.Writing.{fitting, written, Wrote}
@@ -15,30 +15,33 @@ use borrow.Author.Needs.{needs}
 use Rattle.wire.proofs.writing.write_message.Statement.{statement}
 use Rattle.wire.proofs.writing.write_message.Tie as tie
 
-module _ (m : Message) (s t a : ℕ) (xs o after : List ℕ) (h : Header) (q : h ≡ headerFor m s t) where
-  one : (v : ℕ) → besides m ≡ 0 → valuesOf m xs ≡ v ∷ [] → Wrote (fitting (messageBytes h (v ∷ [])) o) o a after → Wrote (written m s t xs o) o a after
+module _ (m : Message) (u s t a : ℕ) (xs o after : List ℕ) (h : Header) (q : h ≡ headerFor m u s t) where
+  one : (v : ℕ) → besides m ≡ 0 → valuesOf m xs ≡ v ∷ [] → Wrote (fitting (messageBytes h (v ∷ [])) o) o a after → Wrote (written m u s t xs o) o a after
   unfolding written encode
   one v b e w = simp (le-leb (besides m) (length xs) (omega arith), e, ← q) w
 
-  send : (i v : ℕ) → m ≡ Send i v → Wrote (fitting (messageBytes h (v ∷ [])) o) o a after → Wrote (written m s t xs o) o a after
+  send : (i v : ℕ) → m ≡ Send i v → Wrote (fitting (messageBytes h (v ∷ [])) o) o a after → Wrote (written m u s t xs o) o a after
   send i v e w = one v (ap (λ (n : Message). besides n) e) (ap (λ (n : Message). valuesOf n xs) e) w
 
-  echo : (i v : ℕ) → m ≡ Echo i v → Wrote (fitting (messageBytes h (v ∷ [])) o) o a after → Wrote (written m s t xs o) o a after
+  echo : (i v : ℕ) → m ≡ Echo i v → Wrote (fitting (messageBytes h (v ∷ [])) o) o a after → Wrote (written m u s t xs o) o a after
   echo i v e w = one v (ap (λ (n : Message). besides n) e) (ap (λ (n : Message). valuesOf n xs) e) w
 
-  ready : (i v : ℕ) → m ≡ Ready i v → Wrote (fitting (messageBytes h (v ∷ [])) o) o a after → Wrote (written m s t xs o) o a after
+  ready : (i v : ℕ) → m ≡ Ready i v → Wrote (fitting (messageBytes h (v ∷ [])) o) o a after → Wrote (written m u s t xs o) o a after
   ready i v e w = one v (ap (λ (n : Message). besides n) e) (ap (λ (n : Message). valuesOf n xs) e) w
 
-  est : (i r v : ℕ) → m ≡ Est i r v → Wrote (fitting (messageBytes h (v ∷ [])) o) o a after → Wrote (written m s t xs o) o a after
+  est : (i r v : ℕ) → m ≡ Est i r v → Wrote (fitting (messageBytes h (v ∷ [])) o) o a after → Wrote (written m u s t xs o) o a after
   est i r v e w = one v (ap (λ (n : Message). besides n) e) (ap (λ (n : Message). valuesOf n xs) e) w
 
-  aux : (i r v : ℕ) → m ≡ Aux i r v → Wrote (fitting (messageBytes h (v ∷ [])) o) o a after → Wrote (written m s t xs o) o a after
+  aux : (i r v : ℕ) → m ≡ Aux i r v → Wrote (fitting (messageBytes h (v ∷ [])) o) o a after → Wrote (written m u s t xs o) o a after
   aux i r v e w = one v (ap (λ (n : Message). besides n) e) (ap (λ (n : Message). valuesOf n xs) e) w
 
-  commit : (k : ℕ) → m ≡ Commit k → Wrote (countedValues h xs o) o a after → Wrote (written m s t xs o) o a after
+  finish : (i v : ℕ) → m ≡ Finish i v → Wrote (fitting (messageBytes h (v ∷ [])) o) o a after → Wrote (written m u s t xs o) o a after
+  finish i v e w = one v (ap (λ (n : Message). besides n) e) (ap (λ (n : Message). valuesOf n xs) e) w
+
+  commit : (k : ℕ) → m ≡ Commit k → Wrote (countedValues h xs o) o a after → Wrote (written m u s t xs o) o a after
   unfolding written encode countedValues headerFor
   commit k e w =
-      let z : written m s t xs o ≡ countedValues h xs o = rw (q, e) in
+      let z : written m u s t xs o ≡ countedValues h xs o = rw (q, e) in
       rw z w
 
 header-for-requires : tie.Need-header-for-requires
@@ -86,6 +89,15 @@ enum-told c = search needs
 write-counted-requires : tie.Need-write-counted-requires
 write-counted-requires c κs = search needs
 
+enum-known-m-6 : tie.Need-enum-known-m-6
+enum-known-m-6 c = search needs
+
+cast-write-plain-3 : tie.Need-cast-write-plain-3
+cast-write-plain-3 c = search needs
+
+write-plain-requires-6 : tie.Need-write-plain-requires-6
+write-plain-requires-6 c κs = search needs
+
 same-length : tie.Need-same-length
 same-length c = search needs
 
@@ -122,6 +134,12 @@ same-length-6 c = search needs
 returns-6 : tie.Need-returns-6
 returns-6 c = search commit
 
+same-length-7 : tie.Need-same-length-7
+same-length-7 c = search needs
+
+returns-7 : tie.Need-returns-7
+returns-7 c = search finish
+
 pub write-message-spec : {M : Type 1} → statement M
 write-message-spec =
     tie.close
@@ -141,6 +159,9 @@ write-message-spec =
     write-plain-requires-5
     enum-told
     write-counted-requires
+    enum-known-m-6
+    cast-write-plain-3
+    write-plain-requires-6
     same-length
     returns
     same-length-2
@@ -152,4 +173,6 @@ write-message-spec =
     same-length-5
     returns-5
     same-length-6
-    returns-6)
+    returns-6
+    same-length-7
+    returns-7)
