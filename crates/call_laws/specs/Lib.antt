@@ -3,4 +3,5 @@ pub mod Keeping
 pub mod ReadBack
 pub mod Places
 pub mod SettingsKept
+pub mod FirstVersion
 pub mod laws

@@ -12,10 +12,11 @@ use Rattle.delivery.specs.declared.Verdict.the-variants.{Accepted}
 abbrev pub HeldAgain : Type 0
 HeldAgain = (s : List ℕ) (p : ℕ) (b : List ℕ) → deliverAnswer s p b ≡ 0 → deliverAnswer (delivered s p b) p b ≡ HELD
 
--- the place of a message among those of its sender, by instance, round and value; that of a SEND is its sender's own instance
+-- the place of a message among those of its sender, by instance, round and value; that of a SEND is its sender's own
+-- instance. FINISH is for version 2: no message of version 1 has it.
 pub data Place : Type 0 where
   SEND COMMIT : Place
-  ECHO READY : ℕ → Place
+  ECHO READY FINISH : ℕ → Place
   AUX : ℕ → ℕ → Place
   EST : ℕ → ℕ → ℕ → Place
 
@@ -26,6 +27,7 @@ placeOf (message.Ready i v) = READY i
 placeOf (message.Est i r v) = EST i r v
 placeOf (message.Aux i r v) = AUX i r
 placeOf (message.Commit k) = COMMIT
+placeOf (message.Finish i v) = FINISH i
 
 -- message y in bytes c from q, once x in bytes b from p was accepted
 pub record Afterwards (s : List ℕ) (p : ℕ) (b : List ℕ) (x : Message) (q : ℕ) (c : List ℕ) (y : Message) : Type 0 where

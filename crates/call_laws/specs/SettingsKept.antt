@@ -3,15 +3,15 @@ use Prim.Native.Nat.{ℕ, _≤_}
 use mathlib.Core.List.{List}
 use mathlib.Core.Logic.{_⊎_}
 use mathlib.Core.Path.{_≡_}
-use Rattle.records.specs.Layout.{inputAt, weightsAt, boxedAt}
+use Rattle.records.specs.Layout.{inputAt, weightsAt, boxedAt, versionAt}
 use Rattle.records.specs.Words.{word}
 use Rattle.turn.specs.Turn.{turnWords}
 use Rattle.journal.specs.Journal.{deliveredWords, recordWords}
 
 -- the words that an opening sets to its arguments, coin words aside: n, ta, ts, own number, session number and own input, which are words 0 to 5,
--- the weights, and whether coins are boxed
+-- the weights, whether coins are boxed, and the version
 abbrev pub SettingWord : ℕ → Type 0
-SettingWord a = (a ≤ inputAt) ⊎ ((a ≡ weightsAt) ⊎ (a ≡ boxedAt))
+SettingWord a = (a ≤ inputAt) ⊎ ((a ≡ weightsAt) ⊎ ((a ≡ boxedAt) ⊎ (a ≡ versionAt)))
 
 -- on any words s, whatever is lent
 pub record SettingsKept : Type 0 where

@@ -7,3 +7,4 @@ pub mod ReadBack
 pub mod Recorded
 pub mod Places
 pub mod SettingsKept
+pub mod FirstVersion

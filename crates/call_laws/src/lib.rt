@@ -1,4 +1,5 @@
 // Laws that hold the definitions of the calls from another side. The functions do nothing: their contracts state what is proved in specs/.
+ghost use Rattle.call_laws.specs.FirstVersion.{FirstVersion};
 ghost use Rattle.call_laws.specs.Keeping.{RefusalsKeep};
 ghost use Rattle.call_laws.specs.Places.{HeldAgain, HeldOnce};
 ghost use Rattle.call_laws.specs.ReadBack.{AnswersReadBack};
@@ -22,6 +23,11 @@ pub fn refusals_keep()
 // No delivery, turn or recording changes a word of the settings.
 pub fn settings_kept()
     ensures { λ _. ⌜ SettingsKept ⌝ }
+{}
+
+// Sessions of version 1 are as they were before version 2.
+pub fn first_version()
+    ensures { λ _. ⌜ FirstVersion ⌝ }
 {}
 
 // What C reads of the number of an answer is that answer.

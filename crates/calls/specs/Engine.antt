@@ -23,7 +23,7 @@ use Rattle.turn.specs.declared.Outcome.the-variants as outcome
 use Rattle.report.specs.declared.Answer.the-variants as answer
 
 -- the arguments of an opening, and how many bytes it is lent for its line: the code takes 32 bits for the session number and each coin word, and
--- 64 for the own input; weights, and whether coins are printed or boxed, are any numbers
+-- 64 for the own input; the version, weights, and whether coins are printed or boxed, are any numbers
 pub record OpeningGiven : Type 0 where
   pub given : Arguments
   pub line : ℕ
@@ -33,6 +33,7 @@ pub record OpeningGiven : Type 0 where
 
 -- what the openings of a session agree in: all that it shares (PROTOCOL 1.11)
 pub record Agreed : Type 0 where
+  pub version : ℕ
   pub settings : Settings
   pub number : ℕ
   pub coins : List ℕ
@@ -41,6 +42,7 @@ pub record Agreed : Type 0 where
 abbrev pub agreed : Arguments → Agreed
 agreed o =
     record {
+      version = o .version;
       settings = settingsBy o;
       number = o .session;
       coins = o .coins;

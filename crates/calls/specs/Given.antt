@@ -38,7 +38,7 @@ coins-below (x ∷ xs) (suc i) = coins-below xs i
 unfoldable pub openingOf : Arguments → OpeningGiven
 openingOf o =
     record {
-      given = arguments (o .n) (o .ta) (o .ts) (o .own) (o .session % 2 ^ 32) (o .input % 2 ^ 64) (coinsOf (o .coins)) (o .weights) (o .boxed);
+      given = arguments (o .version) (o .n) (o .ta) (o .ts) (o .own) (o .session % 2 ^ 32) (o .input % 2 ^ 64) (coinsOf (o .coins)) (o .weights) (o .boxed);
       line = LINE-BYTES;
       session-fits = omega arith;
       input-fits = omega arith;

@@ -10,8 +10,8 @@ use Rattle.settings.specs.declared.Settings.{Settings}
 pub record Machine : Type 1 where
   -- what a state buffer holds
   pub Words : Type 0
-  -- the arguments of an opening: the own number, the own input, and what the openings of a session agree in: n, ta as it is read, ts, weights,
-  -- session number, coin words and kind of coins (PROTOCOL 1.11)
+  -- the arguments of an opening: the own number, the own input, and what the openings of a session agree in: version, n, ta as it is read, ts,
+  -- weights, session number, coin words and kind of coins (PROTOCOL 1.11)
   pub Opening : Type 0
   pub own : Opening → ℕ
   pub input : Opening → ℕ

@@ -3,8 +3,9 @@ use mathlib.Core.Path.{_≡_}
 use Rattle.opening.specs.Arguments.{Arguments, weightsBy, taBy}
 use Rattle.calls.specs.Engine.{agreed}
 
--- n, ta as it is read, ts, weights, session number, coin words and kind of coins (PROTOCOL 1.11)
+-- version, n, ta as it is read, ts, weights, session number, coin words and kind of coins (PROTOCOL 1.11)
 pub record Alike (o p : Arguments) : Type 0 where
+  pub version : o .version ≡ p .version
   pub n : o .n ≡ p .n
   pub ta : taBy o ≡ taBy p
   pub ts : o .ts ≡ p .ts

@@ -3,6 +3,7 @@ use Prim.Native.Nat.{ℕ, zero, suc, _+_, _*_, _-_}
 use mathlib.Core.Bool.{cond}
 use mathlib.Core.List.{List, [], _∷_}
 use lib.Dec.{eqb}
+use Rattle.settings.specs.Versions.{FIRST-VERSION}
 use Rattle.records.specs.Words.{blank}
 use Rattle.opening.specs.Given.{onesGiven}
 use Rattle.opening.specs.Arguments.{Arguments, arguments}
@@ -18,9 +19,9 @@ unfoldable pub coinWords : ℕ → List ℕ
 coinWords zero = []
 coinWords (suc n) = 0 ∷ coinWords n
 
--- the opening: weights of 1, printed coins, ta = ts = 0, own number 1 (PROTOCOL 14.1)
+-- the opening: version 1, weights of 1, printed coins, ta = ts = 0, own number 1 (PROTOCOL 14.1)
 unfoldable pub opens : ℕ → Arguments
-opens n = arguments n 0 0 1 7 5 (coinWords n) (onesGiven n) 0
+opens n = arguments FIRST-VERSION n 0 0 1 7 5 (coinWords n) (onesGiven n) 0
 
 -- a list of calls
 abbrev pub Calls : Type 0
@@ -37,7 +38,7 @@ packs = 1 ∷ 2 ∷ 3 ∷ 4 ∷ 5 ∷ 6 ∷ 7 ∷ 8 ∷ 9 ∷ 10 ∷ 11 ∷ 12 �
 
 -- the message m of concentrator p over its link
 unfoldable pub say : ℕ → Message → Calls → Calls
-say p m cs = delivery 1 p (bytesOf (encode m p 7 packs)) ∷ cs
+say p m cs = delivery 1 p (bytesOf (encode m FIRST-VERSION p 7 packs)) ∷ cs
 
 -- k turns, each lent 140 bytes
 unfoldable pub turns : ℕ → Calls → Calls

@@ -1,7 +1,7 @@
 // The costliest session. The functions do nothing: their contracts state what is proved in specs/.
 ghost use Rattle.costliest.specs.Statement.{Costliest, FiveTurns, AtMostFive, AtMostSent};
 
-// For n from 2 to 16 the calls of the session bring exactly 99·n+3 turns; no calls bring more, by `turn_bound::turn_count`.
+// In version 1, for n from 2 to 16, the calls of the session bring exactly 99·n+3 turns; no calls bring more, by `turn_bound::turn_count`.
 pub fn costliest_session()
     ensures { λ _. ⌜ Costliest ⌝ }
 {}
@@ -16,7 +16,8 @@ pub fn at_most_five()
     ensures { λ _. ⌜ AtMostFive ⌝ }
 {}
 
-// For every n, no calls make a concentrator send more than 98·n+2 messages and 1,968·n+32 bytes since its last opening or restore.
+// For every n, no calls make a concentrator send more than 98·n+2 messages and 1,968·n+32 bytes since its last opening or restore; in version 2 FINISHes
+// come to n more, of 20 bytes each.
 pub fn at_most_sent()
     ensures { λ _. ⌜ AtMostSent ⌝ }
 {}

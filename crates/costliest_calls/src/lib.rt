@@ -18,6 +18,8 @@ pub enum Call {
     Turn,
 }
 
+const VERSION: u8 = 1;
+
 const SESSION: u32 = 7;
 
 // The own input of its opening.
@@ -49,7 +51,7 @@ fn write_call(c: Call, message: &mut [u8]) -> u64
         Call::Nothing => 0,
         Call::Delivery(link, m) => {
             let packs = [1u64, 2, 3, 4, 5, 6, 7, 8, 9, 10, 11, 12, 13, 14, 15, 16];
-            let size = wire::write_message(m, link, SESSION, &packs, message);
+            let size = wire::write_message(m, VERSION, link, SESSION, &packs, message);
             256 + 65536 * size as u64 + 4294967296 * link as u64
         }
         Call::Turn => 512 + 65536 * turn::MESSAGE_BYTES as u64,
@@ -69,8 +71,8 @@ pub extern "C" fn pack_costliest_call(n: u64, k: u64, message: &mut [u8]) -> u64
     write_call(sections::call_of(n, k), message)
 }
 
-// Number k of its opening, from 1 on: n, ta, ts, own number, session, input, the coin words; 0 past the last. Its weights are all 1, its coins
-// printed.
+// Number k of its opening, from 1 on: n, ta, ts, own number, session, input, the coin words; 0 past the last. Its version is 1, its weights
+// are all 1, its coins printed.
 #[no_mangle]
 pub extern "C" fn pack_costliest_setting(n: u64, k: u64) -> u64
     ensures { λ r. ⌜ r ≡ settingAt (opens n) k ⌝ }

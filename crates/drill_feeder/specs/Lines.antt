@@ -19,9 +19,13 @@ use Rattle.drill_feeder.specs.declared.Counts.{Counts}
 use Rattle.drill_feeder.specs.declared.Members.{Members}
 use Rattle.drill_feeder.specs.declared.Lie.{Lie}
 
--- the arguments of an opening: weights are 1, and coins are printed (PROTOCOL 15.3)
+-- drills are of version 1
+abbrev pub DRILL-VERSION : ℕ
+DRILL-VERSION = 1
+
+-- the arguments of an opening: the version is 1, weights are 1, and coins are printed (PROTOCOL 15.3)
 abbrev pub drillArguments : (n ta ts p session input : ℕ) → List ℕ → Arguments
-drillArguments n ta ts p session input coins = arguments n ta ts p session input coins (onesGiven n) 0
+drillArguments n ta ts p session input coins = arguments DRILL-VERSION n ta ts p session input coins (onesGiven n) 0
 
 -- the words after the opening of a session, at its own number
 unfoldable pub openedAt : List ℕ → Arguments → List ℕ
@@ -38,7 +42,7 @@ messageDelivered m k q w = deliveredTo w q (senderAt m k) (messageAt m k)
 -- `L p q kind instance round value`: a message of liar p, with one value, is delivered to q over the link of p; it is no sent message
 -- (PROTOCOL 15.8, 15.12, 15.13)
 unfoldable pub lied : ℕ → ℕ → Lie → List ℕ → List ℕ
-lied session q l w = deliveredTo w q (l .p) (messageBytes (headerWith (l .kind) (l .p) (l .instance) (l .round) 1 session) (l .value ∷ []))
+lied session q l w = deliveredTo w q (l .p) (messageBytes (headerWith DRILL-VERSION (l .kind) (l .p) (l .instance) (l .round) 1 session) (l .value ∷ []))
 
 -- the words of the sessions, the messages sent, and the two counts
 pub data Memory : Type 0 where

@@ -31,7 +31,7 @@ fn deliver(state: &mut [u64], link: u64, bytes: &[u8])
     journal::deliver(state, link, bytes, &mut line);
 }
 
-// Drills are printed: 0 (PROTOCOL 15.3).
+// Drills are of version 1, and printed: 0 (PROTOCOL 15.3).
 fn open(
     state: &mut [u64],
     n: u64,
@@ -43,11 +43,12 @@ fn open(
     coins: &[u32],
     weights: &[u8],
 )
-    ensures { λ _. ⌜ now (state .exit) ≡ opened (now (state .entry)) (arguments n ta ts own session input (now (coins .entry)) (now (weights .entry)) 0) ⌝ }
+    ensures { λ _. ⌜ now (state .exit) ≡ opened (now (state .entry)) (arguments 1 n ta ts own session input (now (coins .entry)) (now (weights .entry)) 0) ⌝ }
 {
     let mut line = [0u8; 512];
     journal::open(
         state,
+        1,
         n,
         ta,
         ts,

@@ -3,6 +3,7 @@ use Prim.Native.Nat.{ℕ, _+_, _≤_}
 use mathlib.Core.List.{List}
 use mathlib.Core.Path.{_≡_}
 use lib.ListN.{length}
+use Rattle.records.specs.Records.{version}
 use Rattle.session.specs.Session.{settingsOf, sessionOf}
 use Rattle.wire.specs.Message.{encode}
 use Rattle.wire.specs.declared.Message.{Message}
@@ -19,6 +20,6 @@ pub record Stored (w m : List ℕ) (c : Counts) (p : ℕ) (k : Message) : Type 0
   pub counts : messageCounted (turnOutcome (stateOf w p) (length (roomFor m (c .sent)))) c .sent ≡ c .sent + 1
   pub bytes :
       messageAt (withRoom m (c .sent) (turnBytes (stateOf w p) (roomFor m (c .sent)))) (c .sent + 1)
-      ≡ encode k (sessionOf (stateOf w p) .own) (sessionOf (stateOf w p) .number) (commitDue (settingsOf (stateOf w p)) (stateOf w p))
+      ≡ encode k (version (stateOf w p)) (sessionOf (stateOf w p) .own) (sessionOf (stateOf w p) .number) (commitDue (settingsOf (stateOf w p)) (stateOf w p))
   pub places :
       (j : ℕ) → 1 ≤ j → j ≤ c .sent → part (withRoom m (c .sent) (turnBytes (stateOf w p) (roomFor m (c .sent)))) (placeAt j) 44 ≡ part m (placeAt j) 44

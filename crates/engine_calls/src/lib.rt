@@ -14,6 +14,7 @@ ghost use Rattle.engine_calls.specs.Answers.{OpeningOf, BytesOf, OpensAs
 // Opens a session in the lent words.
 pub fn open(
     state: &mut [u64],
+    version: u64,
     n: u64,
     ta: u64,
     ts: u64,
@@ -25,11 +26,12 @@ pub fn open(
     boxed: u64,
     line: &mut [u8],
 ) -> Entry
-    ensures given { λ _. ⌜ OpeningOf (arguments n ta ts own session input (now (coins .entry)) (now (weights .entry)) boxed) (length (now (line .entry))) ⌝ }
-    ensures result { λ r. ⌜ ((o : OpeningGiven) → o .given ≡ arguments n ta ts own session input (now (coins .entry)) (now (weights .entry)) boxed → o .line ≡ length (now (line .entry)) → OpensAs (now (state .entry)) o r (now (state .exit)) (now (line .exit))) ⌝ }
+    ensures given { λ _. ⌜ OpeningOf (arguments version n ta ts own session input (now (coins .entry)) (now (weights .entry)) boxed) (length (now (line .entry))) ⌝ }
+    ensures result { λ r. ⌜ ((o : OpeningGiven) → o .given ≡ arguments version n ta ts own session input (now (coins .entry)) (now (weights .entry)) boxed → o .line ≡ length (now (line .entry)) → OpensAs (now (state .entry)) o r (now (state .exit)) (now (line .exit))) ⌝ }
 {
     journal::open(
         state,
+        version,
         n,
         ta,
         ts,

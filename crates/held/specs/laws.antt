@@ -3,3 +3,4 @@ pub mod Columns
 pub mod Recording
 pub mod Keeping
 pub mod Staying
+pub mod Deciding

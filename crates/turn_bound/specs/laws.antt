@@ -5,6 +5,7 @@ pub mod Potential
 pub mod Rounds
 pub mod Raising
 pub mod ByOne
+pub mod Finishes
 pub mod Sound
 pub mod Delivering
 pub mod Recorded

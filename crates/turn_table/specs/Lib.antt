@@ -3,6 +3,7 @@ pub mod Order
 pub mod Values
 pub mod Votes
 pub mod Moves
+pub mod Finishes
 pub mod Thresholds
 pub mod Statement
 pub mod laws

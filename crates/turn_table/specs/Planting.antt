@@ -1,9 +1,11 @@
--- States planted for the table: what stands in a state that was opened with n = 4, ts = 1, weights of 1, the own number 1 and the input 5.
+-- States planted for the table: what stands in a state that was opened with n = 4, ts = 1, weights of 1, the own number 1 and the input 5, in version 1 if not said otherwise.
 -- The coins of vote 2 are 1, and so is that of vote 3 in round 2; the others are 0.
 use Prim.Native.Nat.{ℕ, _-_, _^_}
 use mathlib.Core.List.{List, [], _∷_}
 use lib.ListN.{length}
 use Rattle.settings.specs.declared.Settings.{Settings}
+use Rattle.records.specs.Layout.{versionAt}
+use Rattle.records.specs.Words.{put}
 use Rattle.records.specs.Writing.{withRound, withDecision}
 use Rattle.acts.specs.declared.Act.{Act}
 use Rattle.acts.specs.declared.Act.the-variants as act
@@ -20,7 +22,7 @@ abbrev pub four : ℕ → Settings
 four ta = record { n = 4; ta = ta; ts = 1; whole = 4; weights = 15 }
 
 unfoldable pub openedState : ℕ → List ℕ
-openedState ta = openWords (arguments 4 ta 1 1 7 5 (0 ∷ (2 ^ 32 - 1) ∷ 2 ∷ 0 ∷ []) (1 ∷ 1 ∷ 1 ∷ 1 ∷ []) 0)
+openedState ta = openWords (arguments 1 4 ta 1 1 7 5 (0 ∷ (2 ^ 32 - 1) ∷ 2 ∷ 0 ∷ []) (1 ∷ 1 ∷ 1 ∷ 1 ∷ []) 0)
 
 -- senders of messages
 abbrev pub two : List ℕ
@@ -40,6 +42,8 @@ pub data Fact : Type 0 where
   inRound : ℕ → ℕ → Fact
   -- vote i is decided b
   isDecided : ℕ → ℕ → Fact
+  -- the session is of version v
+  ofVersion : ℕ → Fact
 
 -- v are the bytes from byte 12 on
 unfoldable pub recordedFrom : List ℕ → List ℕ → Message → List ℕ → List ℕ
@@ -52,6 +56,7 @@ withFact s (commits ps xs) = recordedFrom s ps (Commit (length xs)) (valueBytes 
 withFact s (did a) = done s a
 withFact s (inRound i r) = withRound s i r
 withFact s (isDecided i b) = withDecision s i b
+withFact s (ofVersion v) = put s versionAt v
 
 unfoldable pub withFacts : List ℕ → List Fact → List ℕ
 withFacts s [] = s
@@ -79,6 +84,10 @@ row a fs = record { facts = fs; act = a }
 -- .. once the own input is sent
 unfoldable pub laterRow : Act → List Fact → Row
 laterRow a fs = row a (did (act.Send 5) ∷ fs)
+
+-- .. in a session of version 2
+unfoldable pub finishRow : Act → List Fact → Row
+finishRow a fs = laterRow a (ofVersion 2 ∷ fs)
 
 unfoldable pub acts : List Row → List Act
 acts [] = []

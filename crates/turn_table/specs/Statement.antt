@@ -5,6 +5,7 @@ use Rattle.turn_table.specs.Order.{orderRows}
 use Rattle.turn_table.specs.Values.{readyRows, setRows, sets, dueSets}
 use Rattle.turn_table.specs.Votes.{startRows, relayRows, auxRows, moveRows, lastRows}
 use Rattle.turn_table.specs.Moves.{movedRows, thens, afters}
+use Rattle.turn_table.specs.Finishes.{finishRows}
 use Rattle.turn_table.specs.Thresholds.{thresholdRows}
 
 pub record TurnTable : Type 0 where
@@ -17,4 +18,5 @@ pub record TurnTable : Type 0 where
   pub moves : dueActs 1 moveRows ≡ acts moveRows
   pub moved-out : dueActs 1 lastRows ≡ acts lastRows
   pub after-moves : afters 1 movedRows ≡ thens movedRows
+  pub finishes : dueActs 1 finishRows ≡ acts finishRows
   pub thresholds : dueActs 0 thresholdRows ≡ acts thresholdRows

@@ -1,24 +1,49 @@
--- Delivery: the verdict on a message, and the words after it. A delivery records one message that came over a link, and does nothing else
--- (PROTOCOL 3.7, 9.17, 9.18).
+-- Delivery: the verdict on a message, and the words after it. A delivery records one message that came over a link, and a FINISH may decide its
+-- vote; it does nothing else (PROTOCOL 3.7, 9.17, 9.18).
 use Prim.Native.Nat.{ℕ}
 use mathlib.Core.Bool.{not, cond}
 use mathlib.Core.List.{List}
+use lib.ListN.{drop}
 use Rattle.settings.specs.Refusals.{NO-STATE, CLOSED}
 use Rattle.records.specs.Layout.{nAt}
 use Rattle.records.specs.Words.{word}
-use Rattle.records.specs.Records.{closed}
+use Rattle.records.specs.Records.{closed, version}
+use Rattle.records.specs.Writing.{withFinish, withDecision}
 use Rattle.wire.specs.Reading.{readMessage}
-use Rattle.delivery.specs.Delivery.{judged, answerOf, wordsAfter}
+use Rattle.wire.specs.declared.Message.{Message}
+use Rattle.wire.specs.declared.Message.the-variants.{Send, Echo, Ready, Est, Aux, Commit, Finish}
+use Rattle.delivery.specs.Delivery.{judged, answerOf}
+use Rattle.delivery.specs.Delivery as weighted
 use Rattle.delivery.specs.declared.Verdict.{Verdict}
-use Rattle.delivery.specs.declared.Verdict.the-variants.{Refused}
-use Rattle.unweighted.specs.Session.{sessionNumber, isState}
+use Rattle.delivery.specs.declared.Verdict.the-variants.{Refused, Accepted}
+use Rattle.unweighted.specs.Session.{settingsOf, sessionNumber, isState}
+use Rattle.unweighted.specs.Votes.{finishDecides}
 
 -- the refusals of a delivery in their order, apart from 8 for its line: the first one, or the message (PROTOCOL 10.15)
 unfoldable pub verdict : List ℕ → ℕ → List ℕ → Verdict
 verdict s link b =
     cond (not (isState s)) (Refused NO-STATE)
     (cond (closed s) (Refused CLOSED)
-    (judged s link (readMessage (word s nAt) (sessionNumber s) link b)))
+    (judged s link (readMessage (version s) (word s nAt) (sessionNumber s) link b)))
+
+-- vote i is decided b where the FINISHes of b that are held do so (PROTOCOL 5.17)
+unfoldable pub finishSettled : List ℕ → List ℕ → ℕ → ℕ → List ℕ
+finishSettled s t i b = cond (finishDecides (settingsOf s) t i b) (withDecision t i b) t
+
+-- the state with a message of sender p recorded, as with weights, and with a FINISH the decision that it completes
+unfoldable pub recorded : List ℕ → ℕ → Message → List ℕ → List ℕ
+recorded s p (Send i x) v = weighted.recorded s p (Send i x) v
+recorded s p (Echo i x) v = weighted.recorded s p (Echo i x) v
+recorded s p (Ready i x) v = weighted.recorded s p (Ready i x) v
+recorded s p (Est i r b) v = weighted.recorded s p (Est i r b) v
+recorded s p (Aux i r b) v = weighted.recorded s p (Aux i r b) v
+recorded s p (Commit k) v = weighted.recorded s p (Commit k) v
+recorded s p (Finish i b) v = finishSettled s (withFinish s i b p) i b
+
+-- the words after a verdict: a refusal changes none (PROTOCOL 9.3)
+unfoldable pub wordsAfter : Verdict → List ℕ → ℕ → List ℕ → List ℕ
+wordsAfter (Refused k) s link b = s
+wordsAfter (Accepted m) s link b = recorded s link m (drop 12 b)
 
 -- the answer and the words of a delivery
 unfoldable pub deliverAnswer : List ℕ → ℕ → List ℕ → ℕ

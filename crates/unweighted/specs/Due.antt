@@ -3,7 +3,8 @@ use Prim.Native.Nat.{ℕ}
 use mathlib.Core.Bool.{cond}
 use mathlib.Core.List.{List}
 use lib.Dec.{eqb}
-use Rattle.records.specs.Records.{commitSent}
+use Rattle.settings.specs.Versions.{finishing}
+use Rattle.records.specs.Records.{commitSent, version}
 use Rattle.acts.specs.Acts.{orAct, firstAct}
 use Rattle.acts.specs.declared.Act.{Act}
 use Rattle.acts.specs.declared.Act.the-variants.{Idle, InForce}
@@ -11,7 +12,7 @@ use Rattle.broadcasts.specs.Leading.{present}
 use Rattle.turn.specs.Due.{orSet, commitOf, sendRule}
 use Rattle.unweighted.specs.Settings.{Settings, quorum, repeat}
 use Rattle.unweighted.specs.Broadcasts.{output, echoRule, readyRule}
-use Rattle.unweighted.specs.Votes.{votesDecidedOne, voteAct}
+use Rattle.unweighted.specs.Votes.{votesDecidedOne, voteDue}
 use Rattle.unweighted.specs.Exits.{exitNow}
 use Rattle.unweighted.specs.Commits.{setLeader, leadingSet}
 
@@ -31,7 +32,7 @@ commitRule g s = cond (commitSent s) Idle (commitOf (commitDue g s))
 unfoldable pub votesRule : Settings → List ℕ → Act
 votesRule g s =
     cond (eqb (exitNow g s .number) 1) Idle
-    (firstAct (λ i. voteAct g s (present (output g s i)) (votesDecidedOne g s) i) (g .n))
+    (firstAct (λ i. voteDue g s (finishing (version s)) (present (output g s i)) (votesDecidedOne g s) i) (g .n))
 
 -- the rules in their order
 unfoldable pub due : Settings → List ℕ → Act

@@ -3,6 +3,7 @@ use Prim.Native.Nat.{ℕ, _+_, _*_, _-_}
 use mathlib.Core.Bool.{Bool, _&&_, cond}
 use lib.Dec.{eqb, ltb, leb}
 use Rattle.settings.specs.Settings.{UNNAMED, largestTa}
+use Rattle.settings.specs.Versions.{finishing}
 
 -- the settings of a session, from which its thresholds come (PROTOCOL 1.14 to 1.18)
 pub record Settings : Type 0 where
@@ -30,14 +31,14 @@ repeat g = g .ts + 1
 unfoldable pub voteQuorum : Settings → ℕ
 voteQuorum g = g .n - g .ta
 
--- the relay threshold: ESTs behind a relay (PROTOCOL 1.17)
+-- the relay threshold: ESTs behind a relay, FINISHes behind a FINISH (PROTOCOL 1.17)
 unfoldable pub relay : Settings → ℕ
 relay g = g .ta + 1
 
--- the accept threshold: ESTs behind an accepted value (PROTOCOL 1.18)
+-- the accept threshold: ESTs behind an accepted value, FINISHes behind a decision (PROTOCOL 1.18)
 unfoldable pub accept : Settings → ℕ
 accept g = 2 * g .ta + 1
 
--- the turn bound: the most counted turns of a session at one concentrator (PROTOCOL 8.20)
-unfoldable pub turnBound : Settings → ℕ
-turnBound g = 99 * g .n + 3
+-- the turn bound: the most counted turns of a session at one concentrator; a FINISH for each vote is one more (PROTOCOL 8.20)
+unfoldable pub turnBound : ℕ → Settings → ℕ
+turnBound version g = cond (finishing version) (100 * g .n + 3) (99 * g .n + 3)

@@ -7,7 +7,7 @@ use lib.Dec.{ltb}
 use Rattle.settings.specs.Refusals.{SHORT, NO-STATE, CLOSED}
 use Rattle.records.specs.Layout.{ownAt}
 use Rattle.records.specs.Words.{word}
-use Rattle.records.specs.Records.{closed}
+use Rattle.records.specs.Records.{closed, version}
 use Rattle.acts.specs.declared.Act.{Act}
 use Rattle.wire.specs.Message.{encode, atFront}
 use Rattle.turn.specs.Turn.{outcomeOf, applied}
@@ -27,7 +27,7 @@ outcomeIn s = outcomeOf (word s ownAt) s (dueIn s)
 unfoldable pub bytesAfter : List ℕ → Outcome → List ℕ → List ℕ
 bytesAfter s (Refused k) out = out
 bytesAfter s Idle out = out
-bytesAfter s (Sent m) out = atFront (encode m (word s ownAt) (sessionNumber s) (commitDue (settingsOf s) s)) out
+bytesAfter s (Sent m) out = atFront (encode m (version s) (word s ownAt) (sessionNumber s) (commitDue (settingsOf s) s)) out
 bytesAfter s MovedOut out = out
 bytesAfter s InForce out = out
 

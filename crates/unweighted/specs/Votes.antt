@@ -1,16 +1,17 @@
 -- Rule 6 of the turn order, what is due in a vote: PROTOCOL, section 5, with counts in place of weights (13.4). Votes use ta.
 use Prim.Native.Nat.{ℕ, min}
-use mathlib.Core.Bool.{Bool, _&&_, _||_, cond}
+use mathlib.Core.Bool.{Bool, _&&_, _||_, not, cond}
 use mathlib.Core.List.{List}
 use lib.Dec.{eqb, leb, ltb}
 use Rattle.settings.specs.Settings.{roundLimit}
 use Rattle.quorum.specs.Total.{count}
-use Rattle.records.specs.Records.{estHeld, auxHeld, round, estSent, auxSent, coinKnown, decidedOne}
+use Rattle.records.specs.Records.{estHeld, auxHeld, round, estSent, auxSent, coinKnown, decidedZero, decidedOne, decided, finishHeld, finishSent}
 use Rattle.acts.specs.Acts.{orAct, firstAct}
 use Rattle.acts.specs.declared.Act.{Act}
-use Rattle.acts.specs.declared.Act.the-variants.{Idle, Start, Relay, Aux, Move}
+use Rattle.acts.specs.declared.Act.the-variants.{Idle, Start, Relay, Aux, Move, Finish}
 use Rattle.acts.specs.declared.View.{View}
 use Rattle.votes.specs.Votes.{running, viewOf}
+use Rattle.votes.specs.Finishing.{finished}
 use Rattle.unweighted.specs.Settings.{Settings, voteQuorum, relay, accept}
 
 -- how many senders' ESTs of b are held in round r of vote i
@@ -84,6 +85,39 @@ moveAct g s i =
 unfoldable pub roundAct : Settings → List ℕ → ℕ → Act
 roundAct g s i = cond (running s i) (orAct (auxAct g s i) (moveAct g s i)) Idle
 
--- the order in a vote: start, relay, AUX, move (PROTOCOL 5.2)
+-- the steps of a vote in their order: start, relay, AUX, move (PROTOCOL 5.2)
 unfoldable pub voteAct : Settings → List ℕ → Bool → ℕ → ℕ → Act
 voteAct g s hasOutput decidedOnes i = orAct (startAct g s hasOutput decidedOnes i) (orAct (relayAct g s i) (roundAct g s i))
+
+-- how many senders' FINISHes of b are held in vote i
+unfoldable pub finishCount : Settings → List ℕ → ℕ → ℕ → ℕ
+finishCount g s i b = count (finishHeld s i b) (g .n)
+
+-- the FINISHes of b reach the relay threshold (PROTOCOL 5.15)
+unfoldable pub repeated : Settings → List ℕ → ℕ → ℕ → Bool
+repeated g s i b = leb (relay g) (finishCount g s i b)
+
+-- without a decision FINISH carries a value that is repeated, 0 where both are; where a decision stands, that (PROTOCOL 5.15)
+unfoldable pub finishValue : Settings → List ℕ → ℕ → Act
+finishValue g s i =
+    cond (decidedOne s i) (Finish i 1)
+    (cond (decidedZero s i) (Finish i 0)
+    (cond (repeated g s i 0) (Finish i 0)
+    (cond (repeated g s i 1) (Finish i 1)
+    Idle)))
+
+-- one FINISH in each vote, whatever its round (PROTOCOL 5.14)
+unfoldable pub finishAct : Settings → List ℕ → ℕ → Act
+finishAct g s i = cond (finishSent s i) Idle (finishValue g s i)
+
+-- FINISHes of b decide vote i: no decision stands, and they reach the accept threshold (PROTOCOL 5.17)
+unfoldable pub finishDecides : Settings → List ℕ → ℕ → ℕ → Bool
+finishDecides g s i b = not (decided s i) && leb (accept g) (finishCount g s i b)
+
+-- in version 2 FINISH goes before the steps, and a vote that has finished does nothing more (PROTOCOL 5.14, 5.16)
+unfoldable pub windingAct : Settings → List ℕ → Bool → ℕ → ℕ → Act
+windingAct g s hasOutput decidedOnes i = orAct (finishAct g s i) (cond (finished s i) Idle (voteAct g s hasOutput decidedOnes i))
+
+-- what is due in a vote, with FINISHes or without
+unfoldable pub voteDue : Settings → List ℕ → Bool → Bool → ℕ → ℕ → Act
+voteDue g s finishes hasOutput decidedOnes i = cond finishes (windingAct g s hasOutput decidedOnes i) (voteAct g s hasOutput decidedOnes i)

@@ -56,7 +56,7 @@ pub record Small (f : Figures) : Type 0 where
   pub exit : f .exit ≤ 3
   pub named : f .named ≤ 16
   pub in-force : f .in_force ≤ 16
-  pub turns : f .turns ≤ 1587
+  pub turns : f .turns ≤ 1603
 
 pub figures-small : (s : List ℕ) (f : Figures) → Reported s f → Small f
 unfolding figuresOf exitNow

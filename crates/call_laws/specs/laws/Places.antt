@@ -10,7 +10,7 @@ use lib.ListN.{length, drop}
 use Rattle.quorum.specs.laws.Bools.{or-left, or-right, or-passed}
 use Rattle.settings.specs.Refusals.{HELD}
 use Rattle.records.specs.Layout.{nAt}
-use Rattle.records.specs.Records.{closed, sendHeld, sendValue, echoHeld, echoValue, readyHeld, readyValue, estHeld, auxHeld, commitSet}
+use Rattle.records.specs.Records.{closed, version, sendHeld, sendValue, echoHeld, echoValue, readyHeld, readyValue, estHeld, auxHeld, finishHeld, commitSet}
 use Rattle.records.specs.Words.{word}
 use Rattle.commits.specs.Commits.{commitHeld}
 use Rattle.session.specs.laws.Session.{State, state-is}
@@ -19,7 +19,7 @@ use Rattle.wire.specs.Bytes.{values}
 use Rattle.wire.specs.Message.{countOf}
 use Rattle.wire.specs.Reading.{readMessage}
 use Rattle.wire.specs.declared.Message as wire
-use Rattle.wire.specs.declared.Message.the-variants.{Send, Echo, Ready, Est, Aux, Commit}
+use Rattle.wire.specs.declared.Message.the-variants.{Send, Echo, Ready, Est, Aux, Commit, Finish}
 use Rattle.wire.specs.declared.Parsed.the-variants.{Taken}
 use Rattle.wire_laws.specs.laws.Forms.{Form}
 use Rattle.wire_laws.specs.Proper.{Layout}
@@ -32,8 +32,8 @@ use Rattle.delivery.specs.laws.Held.{new-recorded, commit-recorded}
 use Rattle.delivery.specs.declared.Verdict.the-variants as delivery
 use Rattle.held.specs.laws.Held as held
 use Rattle.held.specs.laws.Recording.{held-recorded}
-use Rattle.call_laws.specs.Places.{HeldAgain, Place, SEND, COMMIT, ECHO, READY, AUX, EST, placeOf, HeldOnce}
-use Rattle.call_laws.specs.laws.Recorded.{layout-of, session-recorded, closed-recorded, state-recorded}
+use Rattle.call_laws.specs.Places.{HeldAgain, Place, SEND, COMMIT, ECHO, READY, FINISH, AUX, EST, placeOf, HeldOnce}
+use Rattle.call_laws.specs.laws.Recorded.{layout-of, session-recorded, version-recorded, closed-recorded, state-recorded}
 
 -- a place of sender p is taken
 unfoldable heldAt : List ℕ → ℕ → Place → Bool
@@ -43,6 +43,7 @@ heldAt s p (ECHO i) = echoHeld s i p
 heldAt s p (READY i) = readyHeld s i p
 heldAt s p (AUX i r) = auxHeld s i r 0 p || auxHeld s i r 1 p
 heldAt s p (EST i r b) = estHeld s i r b p
+heldAt s p (FINISH i) = finishHeld s i 0 p || finishHeld s i 1 p
 
 by-place : (s : List ℕ) (p : ℕ) (m : wire.Message) → InLayout p m → placeHeld s p m ≡ heldAt s p (placeOf m)
 unfolding heldAt placeHeld
@@ -52,6 +53,7 @@ by-place s p (Ready i v) l = refl
 by-place s p (Est i r b) l = refl
 by-place s p (Aux i r b) l = refl
 by-place s p (Commit k) l = refl
+by-place s p (Finish i b) l = refl
 
 -- ---- the place of a message that was recorded
 
@@ -61,14 +63,21 @@ either-aux s i r p b h e = elim (ℕ-discrete b 0) [
   | no ne ↦ let z : b ≡ 1 = omega arith in or-right (auxHeld s i r 0 p) _ (rw z at e)
 ]
 
+either-finish : (s : List ℕ) (i p b : ℕ) → b ≤ 1 → finishHeld s i b p ≡ true → finishHeld s i 0 p || finishHeld s i 1 p ≡ true
+either-finish s i p b h e = elim (ℕ-discrete b 0) [
+  | yes z ↦ or-left _ (finishHeld s i 1 p) (rw z at e)
+  | no ne ↦ let z : b ≡ 1 = omega arith in or-right (finishHeld s i 0 p) _ (rw z at e)
+]
+
 own-place : (s v : List ℕ) (n p : ℕ) (m : wire.Message) → length s ≡ 2048 → InLayout p m → Layout n p m → placeHeld (recorded s p m v) p m ≡ true
-unfolding placeHeld sendHeld echoHeld readyHeld estHeld auxHeld
+unfolding placeHeld sendHeld echoHeld readyHeld estHeld auxHeld finishHeld
 own-place s v n p (Send i x) size h l = new-recorded s v size p (Send i x) h tt
 own-place s v n p (Echo i x) size h l = new-recorded s v size p (Echo i x) h tt
 own-place s v n p (Ready i x) size h l = new-recorded s v size p (Ready i x) h tt
 own-place s v n p (Est i r b) size h l = new-recorded s v size p (Est i r b) h tt
 own-place s v n p (Aux i r b) size h l = either-aux _ i r p b (l .4) (new-recorded s v size p (Aux i r b) h tt)
 own-place s v n p (Commit k) size h l = commit-recorded s v size p k (l .0) (h .1)
+own-place s v n p (Finish i b) size h l = either-finish _ i p b (l .2) (new-recorded s v size p (Finish i b) h tt)
 
 -- ---- no other place
 
@@ -80,6 +89,7 @@ place (held.READY i v) = READY i
 place (held.EST i r b) = EST i r b
 place (held.AUX i r b) = AUX i r
 place (held.COMMIT X) = COMMIT
+place (held.FINISH i b) = FINISH i
 
 place-meaning : (m : wire.Message) (X : List ℕ) → place (held.meaning m X) ≡ placeOf m
 place-meaning (Send i v) X = refl
@@ -88,6 +98,7 @@ place-meaning (Ready i v) X = refl
 place-meaning (Est i r b) X = refl
 place-meaning (Aux i r b) X = refl
 place-meaning (Commit k) X = refl
+place-meaning (Finish i b) X = refl
 
 clash : {b : Bool} → b ≡ true → b ≡ false → ⊥
 clash e f = true≢false (sym e ∙ f)
@@ -108,6 +119,9 @@ module _ (s v : List ℕ) (size : length s ≡ 2048) (p : ℕ) (x : wire.Message
 
   aux-came : (i r b : ℕ) → held.Voting i r b → auxHeld s i r b q ≡ false → auxHeld after i r b q ≡ true → Same (AUX i r)
   aux-came i r b vote f e = came (held.AUX i r b) (λ z. clash (z .there) f) (record { vote = vote; there = e })
+
+  finish-came : (i b : ℕ) → held.Numbered i → b ≤ 1 → finishHeld s i b q ≡ false → finishHeld after i b q ≡ true → Same (FINISH i)
+  finish-came i b vote bit f e = came (held.FINISH i b) (λ z. clash (z .there) f) (record { instance = vote; bit = bit; there = e })
 
   numbered : (i : ℕ) → 1 ≤ i → i ≤ 16 → held.Numbered i
   numbered i lo hi = record { low = lo; high = hi }
@@ -136,11 +150,19 @@ module _ (s v : List ℕ) (size : length s ≡ 2048) (p : ℕ) (x : wire.Message
       go true a = aux-came i r 0 (vote 0 (omega arith)) (neither .0) a
       go false a = aux-came i r 1 (vote 1 (omega arith)) (neither .1) (rw a at e)
   newly-held (Commit k) l f e = came (held.COMMIT (commitSet after q)) (λ z. clash (z .there) f) (record { there = e; same = refl })
+  newly-held (Finish i b) l f e = go (finishHeld after i 0 q) refl
+    where
+      neither : (finishHeld s i 0 q ≡ false) × (finishHeld s i 1 q ≡ false)
+      neither = or-passed (finishHeld s i 0 q) (finishHeld s i 1 q) f
+
+      go : (c : Bool) → finishHeld after i 0 q ≡ c → Same (FINISH i)
+      go true a = finish-came i 0 (numbered i (l .2) (l .3)) (omega arith) (neither .0) a
+      go false a = finish-came i 1 (numbered i (l .2) (l .3)) (omega arith) (neither .1) (rw a at e)
 
 -- ---- the second of two messages
 
 -- the answer to a message that an open session takes
-answer-taken : (s : List ℕ) (q : ℕ) (c : List ℕ) (y : wire.Message) → State s → closed s ≡ false → readMessage (sessionOf s .settings .n) (sessionOf s .number) q c ≡ Taken y →
+answer-taken : (s : List ℕ) (q : ℕ) (c : List ℕ) (y : wire.Message) → State s → closed s ≡ false → readMessage (version s) (sessionOf s .settings .n) (sessionOf s .number) q c ≡ Taken y →
     deliverAnswer s q c ≡ cond (placeHeld s q y) HELD 0
 unfolding deliverAnswer verdict judged answerOf
 answer-taken s q c y S running read = rw (state-is s S, running, read) (go (placeHeld s q y))
@@ -150,14 +172,14 @@ answer-taken s q c y S running read = rw (state-is s S, running, read) (go (plac
     go false = refl
 
 module _ (s : List ℕ) (p q : ℕ) (b c : List ℕ) (x y : wire.Message) (X : Accepting s p b x) (Y : Accepting s q c y) where
-  form-of : (r : ℕ) (d : List ℕ) (m : wire.Message) → Accepting s r d m → Form (word s nAt) (sessionOf s .number) r d m
+  form-of : (r : ℕ) (d : List ℕ) (m : wire.Message) → Accepting s r d m → Form (version s) (word s nAt) (sessionOf s .number) r d m
   unfolding sessionOf sessionWith settingsOf
-  form-of r d m A = taken-form (word s nAt) (sessionOf s .number) r d m (A .taken)
+  form-of r d m A = taken-form (version s) (word s nAt) (sessionOf s .number) r d m (A .taken)
 
-  first : Form (word s nAt) (sessionOf s .number) p b x
+  first : Form (version s) (word s nAt) (sessionOf s .number) p b x
   first = form-of p b x X
 
-  second : Form (word s nAt) (sessionOf s .number) q c y
+  second : Form (version s) (word s nAt) (sessionOf s .number) q c y
   second = form-of q c y Y
 
   abbrev now : List ℕ
@@ -169,7 +191,7 @@ module _ (s : List ℕ) (p q : ℕ) (b c : List ℕ) (x y : wire.Message) (X : A
       let F = first in
       answer-taken now q c y (state-recorded s v (X .state) p x (F .link-low) (F .link-high) (F .layout))
       (closed-recorded s v (X .state) p x (F .link-low) (F .link-high) (F .layout) ∙ X .unclosed)
-      (rw (session-recorded s v (X .state) p x (F .link-low) (F .link-high) (F .layout)) (Y .taken))
+      (rw (session-recorded s v (X .state) p x (F .link-low) (F .link-high) (F .layout), version-recorded s v (X .state) p x (F .link-low) (F .link-high) (F .layout)) (Y .taken))
 
   few : word s nAt ≤ 16
   unfolding settingsOf

@@ -6,17 +6,17 @@ use mathlib.Core.Path.{_≡_, _∙_}
 use native.Mathlib.Omega.{arith}
 use native.Mathlib.Decide.{ℕ-discrete}
 use lib.ListN.{length}
-use Rattle.records.specs.Layout.{nAt, taAt, tsAt, ownAt, sessionAt, turnsAt, flagsAt, weightsAt, boxedAt, roundAt, commitCountAt, commitRowAt}
+use Rattle.records.specs.Layout.{nAt, taAt, tsAt, ownAt, sessionAt, turnsAt, flagsAt, weightsAt, boxedAt, versionAt, roundAt, commitCountAt, commitRowAt}
 use Rattle.records.specs.Words.{word, marked}
 use Rattle.records.specs.laws.Words.{word-put-same}
 use Rattle.records.specs.Words.{storeOf}
 use Rattle.records.specs.laws.Fill.{length-storeOf}
-use Rattle.records.specs.Records.{closed}
+use Rattle.records.specs.Records.{closed, version}
 use Rattle.session.specs.laws.Session.{State}
 use Rattle.session.specs.Session.{settingsOf, sessionWith, sessionOf}
 use Rattle.wire.specs.Bytes.{valueAt}
 use Rattle.wire.specs.declared.Message.{Message}
-use Rattle.wire.specs.declared.Message.the-variants.{Send, Echo, Ready, Est, Aux, Commit}
+use Rattle.wire.specs.declared.Message.the-variants.{Send, Echo, Ready, Est, Aux, Commit, Finish}
 use Rattle.wire_laws.specs.Proper.{Layout}
 use Rattle.delivery.specs.Delivery.{recorded}
 use Rattle.delivery.specs.laws.Frame.{InLayout, Changed, word-recorded, length-recorded}
@@ -37,6 +37,7 @@ module _ (n : ℕ) (few : n ≤ 16) (s v : List ℕ) (size : length s ≡ 2048) 
   count-recorded (Ready i x) l = kept (Ready i x) (λ z. elim z [ inl e ↦ omega arith | inr e ↦ omega arith ])
   count-recorded (Est i r b) l = kept (Est i r b) (λ e. omega arith)
   count-recorded (Aux i r b) l = kept (Aux i r b) (λ e. omega arith)
+  count-recorded (Finish i b) l = kept (Finish i b) (λ z. elim z [ inl e ↦ omega arith | inr e ↦ omega arith ])
   count-recorded (Commit k) l = elim (ℕ-discrete q p) [
     | yes e ↦ own k (l .1) e
     | no ne ↦ kept (Commit k) (λ z. elim z [ inl e ↦ ne (omega arith) | inr e ↦ omega arith ])
@@ -56,7 +57,7 @@ module _ (s v : List ℕ) (S : State s) (p : ℕ) (m : Message) (low : 1 ≤ p) 
   early : (a : ℕ) → a ≤ 71 → word after a ≡ word s a
   early a h = word-untouched s v p m a layout-of (inl h)
 
-  late : (a : ℕ) → 141 ≤ a → a ≤ 255 → word after a ≡ word s a
+  late : (a : ℕ) → 141 ≤ a → a ≤ 144 → word after a ≡ word s a
   late a lo hi = word-free s v p m a layout-of lo hi
 
   settings-recorded : settingsOf after ≡ settingsOf s
@@ -66,6 +67,9 @@ module _ (s v : List ℕ) (S : State s) (p : ℕ) (m : Message) (low : 1 ≤ p) 
   pub session-recorded : sessionOf after ≡ sessionOf s
   unfolding sessionOf sessionWith
   session-recorded = rw (settings-recorded, early ownAt (omega arith), early sessionAt (omega arith))
+
+  pub version-recorded : version after ≡ version s
+  version-recorded = late versionAt (omega arith) (omega arith)
 
   pub closed-recorded : closed after ≡ closed s
   unfolding closed marked
@@ -81,7 +85,8 @@ module _ (s v : List ℕ) (S : State s) (p : ℕ) (m : Message) (low : 1 ≤ p) 
         own-low = rw own (S .own-low);
         own-high = rw (own, n) (S .own-high);
         kind = rw (late boxedAt (omega arith) (omega arith)) (S .kind);
-        turns = rw (early turnsAt (omega arith), settings-recorded) (S .turns);
+        known = rw (late versionAt (omega arith) (omega arith)) (S .known);
+        turns = rw (early turnsAt (omega arith), settings-recorded, late versionAt (omega arith) (omega arith)) (S .turns);
         rounds = λ i lo hi. rw (early (roundAt i) (omega (arith, n, few))) (S .rounds i lo (omega (arith, n)));
         counts = λ q lo hi. rw n (count-recorded (word s nAt) few s v (S .size) p low high q lo (omega (arith, n)) (S .counts q lo (omega (arith, n))) m l);
       }

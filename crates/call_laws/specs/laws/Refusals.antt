@@ -6,12 +6,13 @@ use native.Mathlib.Omega.{arith}
 use lib.Dec.{eqb, ltb}
 use lib.ListN.{drop}
 use Rattle.settings.specs.Refusals.{SETTINGS, LENGTH, KIND, SESSION, SENDER, FIELD, VALUE, SHORT, NO-STATE, CLOSED, HELD, COIN}
+use Rattle.settings.specs.Versions.{versionKnown}
 use Rattle.settings.specs.Settings.{validSettings, namedTa}
 use Rattle.records.specs.Layout.{stateWords, nAt}
 use Rattle.records.specs.Records.{closed}
 use Rattle.records.specs.Words.{word}
 use Rattle.session.specs.Session.{numbered, isState}
-use Rattle.wire.specs.Message.{SEND, ECHO, READY, EST, AUX, byKind}
+use Rattle.wire.specs.Message.{SEND, ECHO, READY, EST, AUX, COMMIT, byKind}
 use Rattle.wire.specs.Reading.{lengthRight, headerOf, kindKnown, senderRight, fieldsRight, takenIf, readValues, readChecked, readMessage}
 use Rattle.wire.specs.declared.Header.{Header}
 use Rattle.wire.specs.declared.Message.{Message}
@@ -40,9 +41,10 @@ pub open-fits : (words : ℕ) (o : Arguments) → Fits (openAnswer words o)
 unfolding openAnswer
 open-fits words o =
     either (not (eqb words stateWords)) NO-STATE _ (omega arith)
+    (either (not (versionKnown (o .version))) SETTINGS _ (omega arith)
     (either (not (validSettings (o .n) (taBy o) (o .ts) (weightsBy o))) SETTINGS _ (omega arith)
     (either (not (numbered (o .n) (o .own))) SETTINGS _ (omega arith)
-    (either (not (coinsGiven (o .n) (o .coins) (o .boxed))) SETTINGS 0 (omega arith) (omega arith))))
+    (either (not (coinsGiven (o .n) (o .coins) (o .boxed))) SETTINGS 0 (omega arith) (omega arith)))))
 
 pub box-fits : (words n ta ts w coins : ℕ) → Fits (boxOpenAnswer words n ta ts w coins)
 unfolding boxOpenAnswer
@@ -92,13 +94,14 @@ values-fit h v =
     (either-read (eqb (h .kind) ECHO) _ _ (taken-fits _)
     (either-read (eqb (h .kind) READY) _ _ (taken-fits _)
     (either-read (eqb (h .kind) EST) _ _ (taken-if _ _)
-    (either-read (eqb (h .kind) AUX) _ _ (taken-if _ _) (taken-if _ _)))))
+    (either-read (eqb (h .kind) AUX) _ _ (taken-if _ _)
+    (either-read (eqb (h .kind) COMMIT) _ _ (taken-if _ _) (taken-if _ _))))))
 
-message-fits : (n session link : ℕ) (b : List ℕ) → Fits (refusal (readMessage n session link b))
+message-fits : (w n session link : ℕ) (b : List ℕ) → Fits (refusal (readMessage w n session link b))
 unfolding readMessage readChecked
-message-fits n session link b =
+message-fits w n session link b =
     or-refused (lengthRight b) _ LENGTH (omega arith)
-    (or-refused (kindKnown (headerOf b .version) (headerOf b .kind)) _ KIND (omega arith)
+    (or-refused (kindKnown w (headerOf b .version) (headerOf b .kind)) _ KIND (omega arith)
     (or-refused (eqb (headerOf b .session) session) _ SESSION (omega arith)
     (or-refused (senderRight n link (headerOf b .sender)) _ SENDER (omega arith)
     (or-refused (fieldsRight n (headerOf b)) _ FIELD (omega arith) (values-fit (headerOf b) (drop 12 b))))))
@@ -116,7 +119,7 @@ pub deliver-fits : (s : List ℕ) (link : ℕ) (b : List ℕ) → Fits (deliverA
 unfolding deliverAnswer verdict answerOf
 deliver-fits s link b =
     either-judged (not (isState s)) (delivery.Refused NO-STATE) _ (omega arith)
-    (either-judged (closed s) (delivery.Refused CLOSED) _ (omega arith) (judged-fits s link _ (message-fits _ _ link b)))
+    (either-judged (closed s) (delivery.Refused CLOSED) _ (omega arith) (judged-fits s link _ (message-fits _ _ _ link b)))
 
 -- ---- restore
 

@@ -9,6 +9,7 @@ use lib.Dec.{eqb, ltb}
 use lib.ListN.{drop}
 use borrow.Author.Tests.{eqb-true}
 use Rattle.records.specs.Layout.{nAt, coinAt}
+use Rattle.records.specs.Records.{version}
 use Rattle.records.specs.Words.{word}
 use Rattle.session.specs.Session.{settingsOf, sessionWith, sessionOf}
 use Rattle.wire.specs.declared.Message.{Message}
@@ -26,7 +27,7 @@ use Rattle.turn.specs.Due.{due}
 use Rattle.turn.specs.Turn.{admits, taking, turnWords}
 use Rattle.turn.specs.laws.Admitting.{admitting, admitted-ruled}
 use Rattle.turn.specs.laws.Due.{due-told}
-use Rattle.turn.specs.laws.Frame.{Kept, setting, beyond, told-placed, applied-kept}
+use Rattle.turn.specs.laws.Frame.{Kept, setting, between, told-placed, applied-kept}
 use Rattle.turn.specs.declared.Admitted.{Admitted}
 use Rattle.turn.specs.declared.Admitted.the-variants as admitted
 use Rattle.journal.specs.Journal.{LINE-BYTES, lineWords, deliveredWords, recordWords}
@@ -44,13 +45,14 @@ lined room before after a e = go (ltb room LINE-BYTES)
 recorded-keeps : (s v : List ℕ) (p : ℕ) (m : Message) (a : ℕ) → InLayout p m → SettingWord a → word (recorded s p m v) a ≡ word s a
 recorded-keeps s v p m a h (inl l) = word-untouched s v p m a h (inl (omega arith))
 recorded-keeps s v p m a h (inr (inl e)) = word-free s v p m a h (omega arith) (omega arith)
-recorded-keeps s v p m a h (inr (inr e)) = word-free s v p m a h (omega arith) (omega arith)
+recorded-keeps s v p m a h (inr (inr (inl e))) = word-free s v p m a h (omega arith) (omega arith)
+recorded-keeps s v p m a h (inr (inr (inr e))) = word-free s v p m a h (omega arith) (omega arith)
 
 -- the message of an accepted delivery is within the layout
-accepted-layout : (s : List ℕ) (link : ℕ) (b : List ℕ) (m : Message) → Accepting s link b m → InLayout link m
+pub accepted-layout : (s : List ℕ) (link : ℕ) (b : List ℕ) (m : Message) → Accepting s link b m → InLayout link m
 unfolding sessionOf sessionWith settingsOf
 accepted-layout s link b m x =
-    let f : Form (word s nAt) (sessionOf s .number) link b m = taken-form (word s nAt) (sessionOf s .number) link b m (x .taken) in
+    let f : Form (version s) (word s nAt) (sessionOf s .number) link b m = taken-form (version s) (word s nAt) (sessionOf s .number) link b m (x .taken) in
     in-layout (word s nAt) link m (x .state .ruled .few) (f .link-low) (f .link-high) (f .layout)
 
 delivery-keeps : (s : List ℕ) (link : ℕ) (b : List ℕ) (a : ℕ) → SettingWord a → word (delivered s link b) a ≡ word s a
@@ -63,8 +65,9 @@ delivery-keeps s link b a h = go (verdict s link b) refl
 
 kept : (a : ℕ) → SettingWord a → Kept a
 kept a (inl l) = setting (omega arith)
-kept a (inr (inl e)) = beyond (omega arith)
-kept a (inr (inr e)) = beyond (omega arith)
+kept a (inr (inl e)) = between (omega arith) (omega arith)
+kept a (inr (inr (inl e))) = between (omega arith) (omega arith)
+kept a (inr (inr (inr e))) = between (omega arith) (omega arith)
 
 turn-keeps : (s : List ℕ) (room a : ℕ) → SettingWord a → word (turnWords s room) a ≡ word s a
 unfolding taking turnWords
@@ -80,7 +83,8 @@ turn-keeps s room a h = go (admits s room) refl
 coin-apart : (a i : ℕ) → SettingWord a → 1 ≤ i → i ≤ 16 → a ≢ coinAt i
 coin-apart a i (inl l) lo hi = λ e. omega arith
 coin-apart a i (inr (inl q)) lo hi = λ e. omega arith
-coin-apart a i (inr (inr q)) lo hi = λ e. omega arith
+coin-apart a i (inr (inr (inl q))) lo hi = λ e. omega arith
+coin-apart a i (inr (inr (inr q))) lo hi = λ e. omega arith
 
 vote-few : (s : List ℕ) (i r b : ℕ) → Recordable s i r b → i ≤ 16
 unfolding settingsOf

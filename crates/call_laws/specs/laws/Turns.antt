@@ -6,7 +6,7 @@ use mathlib.Core.Path.{_≡_, refl}
 use lib.Dec.{ltb}
 use Rattle.records.specs.Records.{coin}
 use Rattle.acts.specs.declared.Act.{Act}
-use Rattle.acts.specs.declared.Act.the-variants.{Idle, InForce, Commit, Send, Echo, Ready, Start, Relay, Aux, Move}
+use Rattle.acts.specs.declared.Act.the-variants.{Idle, InForce, Commit, Send, Echo, Ready, Start, Relay, Aux, Move, Finish}
 use Rattle.votes.specs.Votes.{estimate}
 use Rattle.wire.specs.declared.Message.the-variants as message
 use Rattle.turn.specs.Turn.{moveOutcome, outcomeOf}
@@ -31,6 +31,7 @@ act-taken own s (Ready i v) = refl
 act-taken own s (Start i b) = refl
 act-taken own s (Relay i r b) = refl
 act-taken own s (Aux i r b) = refl
+act-taken own s (Finish i b) = refl
 act-taken own s (Move i r v) = go (ltb r 32)
   where
     go : (b : Bool) → taken (cond b (turn.Sent (message.Est i (r + 1) (estimate (coin s i r) v))) turn.MovedOut) ≡ true

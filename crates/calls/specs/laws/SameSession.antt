@@ -7,6 +7,7 @@ pub same-session : SameSession
 unfolding SameSession
 same-session o p e =
     record {
+      version = ap (λ (a : Agreed). a .version) e;
       n = ap (λ (a : Agreed). a .settings .n) e;
       ta = ap (λ (a : Agreed). a .settings .ta) e;
       ts = ap (λ (a : Agreed). a .settings .ts) e;

@@ -21,7 +21,7 @@ use Rattle.records.specs.Records.{closed, commitSet}
 use Rattle.commits.specs.Commits.{commitHeld, sameSet, setHolders}
 use Rattle.acts.specs.Acts.{isDue}
 use Rattle.acts.specs.declared.Act.{Act}
-use Rattle.acts.specs.declared.Act.the-variants.{Idle, InForce, Commit, Send, Echo, Ready, Start, Relay, Aux, Move}
+use Rattle.acts.specs.declared.Act.the-variants.{Idle, InForce, Commit, Send, Echo, Ready, Start, Relay, Aux, Move, Finish}
 use Rattle.session.specs.Session.{sessionOf, sessionWith, stored}
 use Rattle.session.specs.declared.Stored.the-variants.{Held}
 use Rattle.turn.specs.laws.Told.{ActTold}
@@ -29,16 +29,16 @@ use Rattle.turn.specs.Due.{due}
 use Rattle.turn.specs.laws.Due.{due-told}
 use Rattle.turn.specs.Turn.{applied, admits, taking, turnWords}
 use Rattle.turn.specs.Turn as turn-specs
-use Rattle.turn.specs.laws.Frame.{Placed, told-placed, Kept, setting, beyond, length-applied, applied-idle, applied-other, applied-kept, applied-turns}
+use Rattle.turn.specs.laws.Frame.{Placed, told-placed, Kept, setting, between, length-applied, applied-idle, applied-other, applied-kept, applied-turns}
 use Rattle.turn_bound.specs.laws.Raising.{counted-mark}
-use Rattle.turn_bound.specs.laws.Sound.{sound-state}
+use Rattle.turn_bound.specs.laws.Sound.{same-settings, sound-state}
 use Rattle.turn_bound.specs.laws.Turning.{turn-sound}
 use Rattle.held.specs.laws.Held.{COMMIT}
 use Rattle.held.specs.laws.Keeping.{kept-holding, held-back}
 use Rattle.held.specs.laws.Staying.{Stays, stays-kept}
 use Rattle.costliest.specs.Calls.{Calls, each, turns}
 use Rattle.costliest.specs.laws.Words.{after, turn-after}
-use Rattle.costliest.specs.laws.Saying.{settings, Good, ruled}
+use Rattle.costliest.specs.laws.Saying.{settings, terms, Good, ruled}
 use Rattle.costliest.specs.laws.Hearing.{Prepared, heard-stable}
 
 -- ---- a turn of the session
@@ -55,11 +55,11 @@ module _ (n c : ℕ) (low : 1 ≤ n) (few : n ≤ 16) (s : List ℕ) (x : Good n
 
   is-stored : stored s ≡ Held (sessionOf s)
   unfolding stored
-  is-stored = rw (sound-state (settings n) (ruled n c low few) s (x .sound))
+  is-stored = rw (sound-state (terms n) (ruled n c low few) s (x .sound))
 
   pub turn-words : turnWords s (length (blank 140)) ≡ applied s a
   unfolding taking turnWords admits sessionOf sessionWith
-  turn-words = rw (sound-state (settings n) (ruled n c low few) s (x .sound), x .unclosed, length-blank 140, x .sound .settings)
+  turn-words = rw (sound-state (terms n) (ruled n c low few) s (x .sound), x .unclosed, length-blank 140, same-settings (terms n) (ruled n c low few) s (x .sound))
 
   same : (j : ℕ) → Kept j → word (applied s a) j ≡ word s j
   same j k = applied-kept s a placed j k
@@ -70,9 +70,9 @@ module _ (n c : ℕ) (low : 1 ≤ n) (few : n ≤ 16) (s : List ℕ) (x : Good n
   pub turn-good : closed (applied s a) ≡ false → Good n c (applied s a)
   turn-good unclosed =
       record {
-        sound = rw turn-words at (turn-sound (settings n) (ruled n c low few) s (x .sound) (blank 140) .sound);
+        sound = rw turn-words at (turn-sound (terms n) (ruled n c low few) s (x .sound) (blank 140) .sound);
         session = same sessionAt (setting (omega arith)) ∙ x .session;
-        printed = same boxedAt (beyond (omega arith)) ∙ x .printed;
+        printed = same boxedAt (between (omega arith) (omega arith)) ∙ x .printed;
         unclosed = unclosed;
         allowed = λ k y num h. x .allowed k y num (held-back s (applied s a) (x .sound .size) (length-applied s a) (kept-holding s (applied s a) same) k y (num .low) (num .high) h);
       }
@@ -103,6 +103,7 @@ module _ (n : ℕ) (two : 2 ≤ n) (low : 1 ≤ n) (few : n ≤ 16) (s : List �
   still-open (Ready i v) h = ap (λ (w : ℕ). mark w 1) (applied-other s (Ready i v) 7 (λ z. omega arith) (λ z. omega arith)) ∙ x .unclosed
   still-open (Start i b) h = ap (λ (w : ℕ). mark w 1) (applied-other s (Start i b) 7 (λ z. omega arith) (λ z. omega arith, λ z. omega arith)) ∙ x .unclosed
   still-open (Relay i r b) h = ap (λ (w : ℕ). mark w 1) (applied-other s (Relay i r b) 7 (λ z. omega arith) (λ z. omega arith)) ∙ x .unclosed
+  still-open (Finish i b) h = ap (λ (w : ℕ). mark w 1) (applied-other s (Finish i b) 7 (λ z. omega arith) (λ z. omega arith)) ∙ x .unclosed
   still-open (Aux i r b) h = ap (λ (w : ℕ). mark w 1) (applied-other s (Aux i r b) 7 (λ z. omega arith) (λ z. omega arith)) ∙ x .unclosed
   still-open (Move i r v) h = ap (λ (w : ℕ). mark w 1) (applied-other s (Move i r v) 7 (λ z. omega arith) (λ z. omega arith, λ z. omega arith, λ z. omega arith, λ z. omega arith)) ∙ x .unclosed
 

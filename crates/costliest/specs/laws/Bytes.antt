@@ -6,7 +6,7 @@ use native.Mathlib.Omega.{arith}
 use Rattle.wire.specs.Bytes.{bytes2, bytes4, bytes8, valueBytes}
 use Rattle.wire.specs.Message.{kindOf, instanceOf, roundOf, countOf, valuesOf, headerFor, frontBytes, headerBytes, messageBytes, encode}
 use Rattle.wire.specs.declared.Message.{Message}
-use Rattle.wire.specs.declared.Message.the-variants.{Send, Echo, Ready, Est, Aux, Commit}
+use Rattle.wire.specs.declared.Message.the-variants.{Send, Echo, Ready, Est, Aux, Commit, Finish}
 use Rattle.calls.specs.Given.{lowBytes, coinsOf, openingOf}
 use Rattle.costliest.specs.Calls.{coinWords, opens}
 
@@ -47,14 +47,15 @@ kind-low (Ready i v) = omega arith
 kind-low (Est i r v) = omega arith
 kind-low (Aux i r v) = omega arith
 kind-low (Commit k) = omega arith
+kind-low (Finish i v) = omega arith
 
 -- the bytes of a message whose fields each fit one
-pub encode-low : (m : Message) (p session : ℕ) (xs : List ℕ) → p < 256 → instanceOf m < 256 → roundOf m < 256 → countOf m < 256 → lowBytes (encode m p session xs) ≡ encode m p session xs
+pub encode-low : (m : Message) (version p session : ℕ) (xs : List ℕ) → version < 256 → p < 256 → instanceOf m < 256 → roundOf m < 256 → countOf m < 256 → lowBytes (encode m version p session xs) ≡ encode m version p session xs
 unfolding encode messageBytes headerBytes frontBytes headerFor
-encode-low m p session xs a b c d =
+encode-low m version p session xs v a b c d =
     low-append _ _
     (low-append _ _
-    (low-front 1 _ (omega arith)
+    (low-front version _ v
     (low-front (kindOf m) _ (kind-low m)
     (low-front p _ a
     (low-front (instanceOf m) _ b

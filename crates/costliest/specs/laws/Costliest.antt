@@ -10,7 +10,8 @@ use lib.ListN.{length, take}
 use borrow.Author.Tests.{eq-eqb, ne-eqb, le-leb}
 use Rattle.quorum.specs.laws.Bools.{and-both}
 use Rattle.settings.specs.laws.Rules.{rules-valid}
-use Rattle.settings.specs.laws.Thresholds.{turn-bound-sum}
+use Rattle.settings.specs.Versions.{versionKnown}
+use Rattle.settings.specs.laws.Versions.{first-bound}
 use Rattle.settings.specs.Settings.{quorum, namedTa}
 use Rattle.quorum.specs.Marks.{mark}
 use Rattle.quorum.specs.laws.Marks.{mark-zero}
@@ -20,7 +21,7 @@ use Rattle.quorum.specs.laws.Lowest.{lowest-none}
 use Rattle.records.specs.Layout.{turnsAt, commitCountAt}
 use Rattle.records.specs.Words.{word, marked}
 use Rattle.records.specs.Words.{blank}
-use Rattle.records.specs.Records.{closed, sendHeld, echoHeld, readyHeld, estHeld, auxHeld, commitCount, commitSet}
+use Rattle.records.specs.Records.{closed, sendHeld, echoHeld, readyHeld, estHeld, auxHeld, finishHeld, commitCount, commitSet}
 use Rattle.commits.specs.Commits.{commitHeld, sameSet, setHolders, setLeads, setLeader}
 use Rattle.commits.specs.laws.Sets.{set-same}
 use Rattle.acts.specs.Acts.{isDue, orAct}
@@ -35,13 +36,13 @@ use Rattle.calls.specs.Machine.{words}
 use Rattle.turn_bound.specs.laws.Opened.{opened-sound}
 use Rattle.turn_bound.specs.laws.Sound.{sound-bound}
 use Rattle.turn_bound.specs.laws.Turning.{turn-sound}
-use Rattle.held.specs.laws.Held.{Message, SEND, ECHO, READY, EST, AUX, COMMIT, Numbered, holds}
+use Rattle.held.specs.laws.Held.{Message, SEND, ECHO, READY, EST, AUX, COMMIT, FINISH, Numbered, holds}
 use Rattle.opening.specs.laws.Ones.{ones-word}
 use Rattle.costliest.specs.Calls.{Calls, coinWords, opens, packs, each, turns, commit, heard, acted, costly, costliestCalls}
 use Rattle.costliest.specs.Statement.{Costliest}
 use Rattle.costliest.specs.laws.Words.{after, turn-after}
 use Rattle.costliest.specs.laws.Session.{takes}
-use Rattle.costliest.specs.laws.Saying.{settings, Allowed, Good, ruled}
+use Rattle.costliest.specs.laws.Saying.{settings, terms, Allowed, Good, ruled}
 use Rattle.costliest.specs.laws.Hearing.{Brings, Prepared, heard-ready, commits-bringing}
 use Rattle.costliest.specs.laws.Idle.{idle-count}
 use Rattle.costliest.specs.laws.Acting.{turn-words, turn-acts, Turning, turns-turning}
@@ -55,7 +56,7 @@ length-coins (suc n) = ap suc (length-coins n)
 
 module _ (n : ℕ) (two : 2 ≤ n) (low : 1 ≤ n) (few : n ≤ 16) (s : List ℕ) (size : length s ≡ 2048) where
   accepted : openAnswer (length s) (opens n) ≡ 0
-  unfolding opens openAnswer coinsGiven namedTa numbered
+  unfolding opens openAnswer coinsGiven namedTa numbered versionKnown
   accepted =
       rw (
         ones-word n low few,
@@ -74,11 +75,11 @@ module _ (n : ℕ) (two : 2 ≤ n) (low : 1 ≤ n) (few : n ≤ 16) (s : List �
   unfolding opened
   first-is = rw (eq-eqb (openAnswer (length s) (opens n)) 0 accepted)
 
-  zero-at : (k : ℕ) → 24 ≤ k → (k ≤ 142 → k < 141) → word first k ≡ 0
+  zero-at : (k : ℕ) → 24 ≤ k → (k ≤ 143 → k < 141) → word first k ≡ 0
   unfolding opens
   zero-at k l ne = rw first-is (first-zero (opens n) few k l ne)
 
-  no-mark : (k q : ℕ) → 24 ≤ k → (k ≤ 142 → k < 141) → marked first k q ≡ true → ⊥
+  no-mark : (k q : ℕ) → 24 ≤ k → (k ≤ 143 → k < 141) → marked first k q ≡ true → ⊥
   unfolding marked
   no-mark k q l ne e = true≢false (sym e ∙ ap (λ (w : ℕ). mark w q) (zero-at k l ne) ∙ mark-zero q)
 
@@ -87,13 +88,14 @@ module _ (n : ℕ) (two : 2 ≤ n) (low : 1 ≤ n) (few : n ≤ 16) (s : List �
   no-set p hi e = true≢false (sym e ∙ rw (zero-at (commitCountAt p) (omega arith) (λ z. omega arith)))
 
   none-held : (k : ℕ) (y : Message) → k ≤ 16 → holds first k y → ⊥
-  unfolding sendHeld echoHeld readyHeld estHeld auxHeld
+  unfolding sendHeld echoHeld readyHeld estHeld auxHeld finishHeld
   none-held k (SEND v) hi h = no-mark _ k (omega arith) (λ z. omega arith) (h .there)
   none-held k (ECHO i v) hi h = no-mark _ k (omega arith) (λ z. omega (arith, h .instance .high)) (h .there)
   none-held k (READY i v) hi h = no-mark _ k (omega arith) (λ z. omega (arith, h .instance .high)) (h .there)
   none-held k (EST i r b) hi h = no-mark _ _ (omega arith) (λ z. omega arith) (h .there)
   none-held k (AUX i r b) hi h = no-mark _ _ (omega arith) (λ z. omega arith) (h .there)
   none-held k (COMMIT X) hi h = no-set k hi (h .there)
+  none-held k (FINISH i b) hi h = no-mark _ _ (omega arith) (λ z. omega (arith, h .instance .low)) (h .there)
 
   first-good : Good n 1 first
   unfolding closed marked namedTa opens
@@ -140,6 +142,7 @@ module _ (n : ℕ) (two : 2 ≤ n) (low : 1 ≤ n) (few : n ≤ 16) (s : List �
       wide k (EST i r b) num h a = tt
       wide k (AUX i r b) num h a = a
       wide k (COMMIT X) num h a = (a .0, omega (arith, a .1))
+      wide k (FINISH i b) num h a = a
 
       of : Good n 1 (after first (acted n)) → Good n n (after first (acted n))
       of x = record { sound = x .sound; session = x .session; printed = x .printed; unclosed = x .unclosed; allowed = λ k y num h. wide k y num h (x .allowed k y num h) }
@@ -195,9 +198,9 @@ module _ (n : ℕ) (two : 2 ≤ n) (low : 1 ≤ n) (few : n ≤ 16) (s : List �
       let same : after first (costly n) ≡ applied (after first last) (due (settings n) (after first last)) = turn-after first (blank 140) last ∙ turn-words n n low few (after first last) good in
       let one = turn-acts n n low few (after first last) good in-force in
       let final : word (after first (costly n)) turnsAt ≡ word (after first last) turnsAt + 1 = ap (λ (t : List ℕ). word t turnsAt) same ∙ one in
-      let sound = turn-sound (settings n) (ruled n n low few) (after first last) (good .sound) (blank 140) .sound in
-      let most = sound-bound (settings n) (ruled n n low few) _ (rw (← turn-after first (blank 140) last) at sound) in
-      omega (arith, a, enough, final, most, turn-bound-sum (settings n))
+      let sound = turn-sound (terms n) (ruled n n low few) (after first last) (good .sound) (blank 140) .sound in
+      let most = sound-bound (terms n) (ruled n n low few) _ (rw (← turn-after first (blank 140) last) at sound) in
+      omega (arith, a, enough, final, most, first-bound (settings n))
 
 pub costliest : Costliest
 unfolding Costliest costliestCalls

@@ -6,6 +6,8 @@ use mathlib.Core.Logic.{inl, inr}
 use mathlib.Core.Path.{_≡_, refl, subst, _∙_}
 use native.Mathlib.Omega.{arith}
 use native.Mathlib.Decide.{decLe}
+use Rattle.settings.specs.Versions.{FIRST-VERSION}
+use Rattle.wire.specs.laws.Kinds.{first-last}
 use Rattle.records.specs.Layout.{turnsAt, voteAt, estMark, auxMark}
 use Rattle.records.specs.Words.{word, marked}
 use Rattle.commits.specs.Commits.{commitHeld}
@@ -22,7 +24,7 @@ use Rattle.held.specs.laws.Held.{meaning}
 use Rattle.held.specs.laws.Staying.{Stays, stays-same, stays-then}
 use Rattle.costliest.specs.Calls.{Calls, each, packs, say, sends, readies, ests, auxs, commit, heard}
 use Rattle.costliest.specs.laws.Words.{after, say-after}
-use Rattle.costliest.specs.laws.Saying.{settings, Allowed, Good, ruled, Said, say-mark, say-commit, commit-proper}
+use Rattle.costliest.specs.laws.Saying.{terms, Allowed, Good, ruled, Said, say-mark, say-commit, commit-proper}
 
 module _ (n : ℕ) (low : 1 ≤ n) (few : n ≤ 16) (first : List ℕ) where
   -- the calls of f keep all that is held, and the count of turns, and leave F
@@ -79,18 +81,19 @@ module _ (n : ℕ) (low : 1 ≤ n) (few : n ≤ 16) (first : List ℕ) where
   marked-stable k q w s t y e = y .marks k w q e
 
   -- its fields fit a byte each
-  said-after : (p : ℕ) → p ≤ n → (m : wire-message.Message) → Layout n p m → (cs : Calls) → after first (say p m cs) ≡ delivered (after first cs) p (encode m p 7 packs)
+  said-after : (p : ℕ) → p ≤ n → (m : wire-message.Message) → Layout n p m → (cs : Calls) → after first (say p m cs) ≡ delivered (after first cs) p (encode m FIRST-VERSION p 7 packs)
   said-after p hi (wire.Send i v) l cs = say-after first p (wire.Send i v) cs (omega arith) (omega (arith, l)) (omega arith) (omega arith)
   said-after p hi (wire.Echo i v) l cs = say-after first p (wire.Echo i v) cs (omega arith) (omega (arith, l .1)) (omega arith) (omega arith)
   said-after p hi (wire.Ready i v) l cs = say-after first p (wire.Ready i v) cs (omega arith) (omega (arith, l .1)) (omega arith) (omega arith)
   said-after p hi (wire.Est i r v) l cs = say-after first p (wire.Est i r v) cs (omega arith) (omega (arith, l .1)) (omega (arith, l .3)) (omega arith)
   said-after p hi (wire.Aux i r v) l cs = say-after first p (wire.Aux i r v) cs (omega arith) (omega (arith, l .1)) (omega (arith, l .3)) (omega arith)
   said-after p hi (wire.Commit k) l cs = say-after first p (wire.Commit k) cs (omega arith) (omega arith) (omega arith) (omega (arith, l .1))
+  said-after p hi (wire.Finish i v) l cs = say-after first p (wire.Finish i v) cs (omega arith) (omega (arith, l .1)) (omega arith) (omega arith)
 
-  same-count : (c : ℕ) (cs : Calls) → Good n c (after first cs) → (p : ℕ) (m : wire-message.Message) → word (delivered (after first cs) p (encode m p 7 packs)) turnsAt ≡ word (after first cs) turnsAt
-  same-count c cs x p m = delivery-sound (settings n) (ruled n c low few) (after first cs) (x .sound) p (encode m p 7 packs) .count
+  same-count : (c : ℕ) (cs : Calls) → Good n c (after first cs) → (p : ℕ) (m : wire-message.Message) → word (delivered (after first cs) p (encode m FIRST-VERSION p 7 packs)) turnsAt ≡ word (after first cs) turnsAt
+  same-count c cs x p m = delivery-sound (terms n) (ruled n c low few) (after first cs) (x .sound) p (encode m FIRST-VERSION p 7 packs) .count
 
-  say-bringing : (c p : ℕ) → 1 ≤ p → p ≤ n → (m : wire-message.Message) → Proper n p m packs → NotCommit m → Allowed n c p (meaning m packs) → Allowed n c p (meaning m (valuesOf m packs)) → Bringing c (Marked (markWordOf p m) (markOf p m)) (say p m)
+  say-bringing : (c p : ℕ) → 1 ≤ p → p ≤ n → (m : wire-message.Message) → Proper FIRST-VERSION n p m packs → NotCommit m → Allowed n c p (meaning m packs) → Allowed n c p (meaning m (valuesOf m packs)) → Bringing c (Marked (markWordOf p m) (markOf p m)) (say p m)
   say-bringing c p lo hi m proper k a may cs x = of (say-mark n c low few (after first cs) x p lo hi m proper k a may)
     where
       of : Said n c low few (after first cs) x p lo hi m proper (λ t. marked t (markWordOf p m) (markOf p m) ≡ true) → Brings c (Marked (markWordOf p m) (markOf p m)) (say p m) cs
@@ -112,7 +115,7 @@ module _ (n : ℕ) (low : 1 ≤ n) (few : n ≤ 16) (first : List ℕ) where
   unfolding sends rises risesFrom
   sends-bringing c =
       each-bringing c (λ i. Marked 140 i) (λ i. say i (wire.Send i i)) n (λ i lo hi. marked-stable 140 i (inr (inl refl)))
-      (λ i lo hi. say-bringing c i lo hi (wire.Send i i) (record { layout = refl; held = omega arith; fits = (omega arith, tt); rising = refl }) tt tt tt)
+      (λ i lo hi. say-bringing c i lo hi (wire.Send i i) (record { kind = omega (arith, first-last); layout = refl; held = omega arith; fits = (omega arith, tt); rising = refl }) tt tt tt)
 
   abbrev ReadyHeld : ℕ → List ℕ → Type 0
   ReadyHeld i = Each (λ p. Marked (103 + i) p) n
@@ -128,10 +131,10 @@ module _ (n : ℕ) (low : 1 ≤ n) (few : n ≤ 16) (first : List ℕ) where
   readies-bringing c =
       each-bringing c ReadyHeld (λ i. each (λ p. say p (wire.Ready i i)) n) n ready-stable
       (λ i lo hi. each-bringing c (λ p. Marked (103 + i) p) (λ p. say p (wire.Ready i i)) n (λ p l h. marked-stable (103 + i) p (inl (omega arith, omega arith)))
-      (λ p l h. say-bringing c p l h (wire.Ready i i) (record { layout = (lo, hi); held = omega arith; fits = (omega arith, tt); rising = refl }) tt refl refl))
+      (λ p l h. say-bringing c p l h (wire.Ready i i) (record { kind = omega (arith, first-last); layout = (lo, hi); held = omega arith; fits = (omega arith, tt); rising = refl }) tt refl refl))
 
   vote-word : (i r : ℕ) → 1 ≤ i → i ≤ n → 1 ≤ r → r ≤ 32 → MarkWord (voteAt i r)
-  vote-word i r lo hi rl rh = inr (inr (omega arith, omega arith))
+  vote-word i r lo hi rl rh = inr (inr (inl (omega arith, omega arith)))
 
   -- EST of 0 and 1 from concentrator 1
   abbrev EstHeld : ℕ → ℕ → List ℕ → Type 0
@@ -154,8 +157,8 @@ module _ (n : ℕ) (low : 1 ≤ n) (few : n ≤ 16) (first : List ℕ) where
       (λ i lo hi. each-bringing c (EstHeld i) (λ r cs. say 1 (wire.Est i r 1) (say 1 (wire.Est i r 0) cs)) 32 (λ r rl rh. est-stable i r lo hi rl rh)
       (λ r rl rh. both-bringing c (Marked (voteAt i r) (estMark 0 1)) (Marked (voteAt i r) (estMark 1 1)) (say 1 (wire.Est i r 0)) (say 1 (wire.Est i r 1))
       (marked-stable (voteAt i r) (estMark 0 1) (vote-word i r lo hi rl rh))
-      (say-bringing c 1 (omega arith) low (wire.Est i r 0) (record { layout = (lo, hi, rl, rh, omega arith); held = omega arith; fits = (omega arith, tt); rising = refl }) tt tt tt)
-      (say-bringing c 1 (omega arith) low (wire.Est i r 1) (record { layout = (lo, hi, rl, rh, omega arith); held = omega arith; fits = (omega arith, tt); rising = refl }) tt tt tt)))
+      (say-bringing c 1 (omega arith) low (wire.Est i r 0) (record { kind = omega (arith, first-last); layout = (lo, hi, rl, rh, omega arith); held = omega arith; fits = (omega arith, tt); rising = refl }) tt tt tt)
+      (say-bringing c 1 (omega arith) low (wire.Est i r 1) (record { kind = omega (arith, first-last); layout = (lo, hi, rl, rh, omega arith); held = omega arith; fits = (omega arith, tt); rising = refl }) tt tt tt)))
 
   abbrev AuxHeld : ℕ → ℕ → List ℕ → Type 0
   AuxHeld i r = Each (λ p. Marked (voteAt i r) (auxMark 0 p)) n
@@ -175,7 +178,7 @@ module _ (n : ℕ) (low : 1 ≤ n) (few : n ≤ 16) (first : List ℕ) where
       each-bringing c AuxsOf (λ i. each (λ r. each (λ p. say p (wire.Aux i r 0)) n) 32) n (λ i lo hi. each-stable (AuxHeld i) 32 (λ r rl rh. aux-stable i r lo hi rl rh))
       (λ i lo hi. each-bringing c (AuxHeld i) (λ r. each (λ p. say p (wire.Aux i r 0)) n) 32 (λ r rl rh. aux-stable i r lo hi rl rh)
       (λ r rl rh. each-bringing c (λ p. Marked (voteAt i r) (auxMark 0 p)) (λ p. say p (wire.Aux i r 0)) n (λ p l h. marked-stable (voteAt i r) (auxMark 0 p) (vote-word i r lo hi rl rh))
-      (λ p l h. say-bringing c p l h (wire.Aux i r 0) (record { layout = (lo, hi, rl, rh, omega arith); held = omega arith; fits = (omega arith, tt); rising = refl }) tt refl refl)))
+      (λ p l h. say-bringing c p l h (wire.Aux i r 0) (record { kind = omega (arith, first-last); layout = (lo, hi, rl, rh, omega arith); held = omega arith; fits = (omega arith, tt); rising = refl }) tt refl refl)))
 
   -- all of them
   pub record Heard (s : List ℕ) : Type 0 where

@@ -10,6 +10,8 @@ use lib.Dec.{eqb}
 use lib.ListN.{length}
 use borrow.Author.Tests.{eq-eqb, ne-eqb, eqb-true, le-leb, ltb-true}
 use Rattle.quorum.specs.laws.Bools.{and-both}
+use Rattle.settings.specs.Versions.{finishing}
+use Rattle.settings.specs.laws.Versions.{first-plain}
 use Rattle.settings.specs.Settings.{quorum, repeat, voteQuorum, relay, accept}
 use Rattle.settings.specs.declared.Settings.{Settings}
 use Rattle.quorum.specs.Marks.{mark}
@@ -20,7 +22,7 @@ use Rattle.quorum.specs.Weights.{weightOf}
 use Rattle.quorum.specs.laws.Whole.{ones-weight, ones-count, ones-whole}
 use Rattle.records.specs.Layout.{roundAt, estSentAt, auxSentAt, voteAt, estMark}
 use Rattle.records.specs.Words.{word, marked}
-use Rattle.records.specs.Records.{sendSent, commitSent, echoSent, readySent, sendHeld, sendValue, readyHeld, readyValue, echoHeld, echoValue, estHeld, auxHeld, round, estSent, auxSent, printed, coinKnown, commitCount, commitSet, decidedZero, decidedOne}
+use Rattle.records.specs.Records.{version, sendSent, commitSent, echoSent, readySent, sendHeld, sendValue, readyHeld, readyValue, echoHeld, echoValue, estHeld, auxHeld, round, estSent, auxSent, printed, coinKnown, commitCount, commitSet, decidedZero, decidedOne}
 use Rattle.acts.specs.Acts.{isDue, orAct}
 use Rattle.acts.specs.laws.Choices.{or-idle, first-idle, passed-test}
 use Rattle.acts.specs.declared.Act.the-variants.{Idle, Commit, Send, Echo, Ready, Start, Relay, Aux}
@@ -31,7 +33,8 @@ use Rattle.broadcasts.specs.declared.Output.{Output}
 use Rattle.broadcasts.specs.declared.Output.the-variants.{Value, Nothing}
 use Rattle.commits.specs.Commits.{commitHeld, sameSet, setHolders, setLeads, setLeader, setOf, leadingSet}
 use Rattle.commits.specs.laws.Sets.{set-length, set-same}
-use Rattle.votes.specs.Votes.{estCount, accepted, votesDecidedOne, startAct, relayValue, relayRound, relayAct, running, auxValue, auxAct, carries, carriers, moveValue, moveAct, roundAct, voteAct, voteRule}
+use Rattle.votes.specs.Votes.{estCount, accepted, votesDecidedOne, startAct, relayValue, relayRound, relayAct, running, auxValue, auxAct, carries, carriers, moveValue, moveAct, roundAct, voteAct}
+use Rattle.votes.specs.laws.Versions.{first-rule}
 use Rattle.exits.specs.Exits.{Exit, withOutput, hasValue, everyBroadcast, noExit}
 use Rattle.exits.specs.laws.Stated.{singleExit, outputsExit}
 use Rattle.exits.specs.laws.Ways.{First, Way, first, second, third, none, way}
@@ -39,9 +42,11 @@ use Rattle.exits.specs.Exits.{exitNow}
 use Rattle.turn.specs.Due.{inForceRule, orSet, commitDue, commitOf, commitRule, sendRule, votesRule, due}
 use Rattle.turn.specs.laws.Told.{SetHeld}
 use Rattle.turn.specs.laws.Due.{leader-holds}
+use Rattle.turn_bound.specs.laws.Finishes.{measure}
+use Rattle.turn_bound.specs.laws.Sound.{same-version}
 use Rattle.turn_bound.specs.laws.Potential.{instancePart, potential}
 use Rattle.held.specs.laws.Held.{READY}
-use Rattle.costliest.specs.laws.Saying.{settings, Good, ruled}
+use Rattle.costliest.specs.laws.Saying.{settings, terms, Good, ruled}
 use Rattle.costliest.specs.laws.Hearing.{Heard}
 
 module _ (n : ℕ) (two : 2 ≤ n) (few : n ≤ 16) (low : 1 ≤ n) (begin : List ℕ) (s : List ℕ) (x : Good n 1 s) (h : Heard n low few begin s) where
@@ -50,6 +55,10 @@ module _ (n : ℕ) (two : 2 ≤ n) (few : n ≤ 16) (low : 1 ≤ n) (begin : Lis
 
   size : length s ≡ 2048
   size = x .sound .size
+
+  -- there are no FINISHes
+  plain : finishing (version s) ≡ false
+  plain = ap finishing (same-version (terms n) (ruled n 1 low few) s (x .sound)) ∙ first-plain
 
   -- ---- broadcasts
 
@@ -192,9 +201,9 @@ module _ (n : ℕ) (two : 2 ≤ n) (few : n ≤ 16) (low : 1 ≤ n) (begin : Lis
         record { out = omega (arith, x .sound .orderly .rounds i lo hi); ests = λ r c rl rh bit. relayed (b .0) r c rl rh (omega arith) bit }
 
   votes-done : isDue (votesRule g s) ≡ false → (i : ℕ) → 1 ≤ i → i ≤ n → VoteDone i
-  unfolding votesRule voteRule
+  unfolding votesRule
   votes-done e i lo hi =
-      vote-done i lo hi (votesDecidedOne g s) (rw (output-is i lo hi) at (first-idle (λ j. voteAct g s (present (output g s j)) (votesDecidedOne g s) j) n (rw not-exit1 at e) i lo hi))
+      vote-done i lo hi (votesDecidedOne g s) (rw (output-is i lo hi) at (first-idle (λ j. voteAct g s (present (output g s j)) (votesDecidedOne g s) j) n (rw (not-exit1, first-rule g s (λ j. present (output g s j)) plain) at e) i lo hi))
 
   -- ---- COMMIT
 
@@ -284,4 +293,5 @@ module _ (n : ℕ) (two : 2 ≤ n) (few : n ≤ 16) (low : 1 ≤ n) (begin : Lis
 
   -- the turn bound but one (PROTOCOL 8.20)
   pub idle-count : isDue (due g s) ≡ false → 99 * n + 2 ≤ word s 6
+  unfolding measure
   idle-count e = omega (arith, x .sound .turns, nearly-full (idle-done e))

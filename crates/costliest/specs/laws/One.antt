@@ -6,8 +6,10 @@ use mathlib.Core.Logic.{_≢_, inl, inr}
 use mathlib.Core.Path.{_≡_, refl, ap, ap₂, _∙_}
 use native.Mathlib.Omega.{arith}
 use lib.Dec.{eqb}
-use lib.ListN.{length}
+use lib.ListN.{length, drop}
 use borrow.Author.Tests.{eqb-true, eq-eqb}
+use Rattle.settings.specs.Versions.{FIRST-VERSION, finishing}
+use Rattle.settings.specs.laws.Versions.{first-plain}
 use Rattle.settings.specs.Rules.{Ruled}
 use Rattle.settings.specs.Settings.{quorum, voteQuorum}
 use Rattle.settings.specs.declared.Settings.{Settings}
@@ -18,23 +20,24 @@ use Rattle.quorum.specs.laws.Total.{total-none, count-le}
 use Rattle.quorum.specs.Lowest.{lowest}
 use Rattle.quorum.specs.Weights.{weightOf}
 use Rattle.quorum.specs.Whole.{wholeOf}
-use Rattle.records.specs.Layout.{turnsAt, roundAt, estSentAt, auxSentAt, decidedOneAt}
+use Rattle.records.specs.Layout.{nAt, turnsAt, roundAt, estSentAt, auxSentAt, decidedOneAt}
 use Rattle.records.specs.Words.{word, marked}
-use Rattle.records.specs.Records.{round, commitSent, sendSent, decidedZero, decidedOne}
+use Rattle.records.specs.Records.{version, round, commitSent, sendSent, decidedZero, decidedOne}
 use Rattle.acts.specs.Acts.{orAct, actAt, firstAct}
 use Rattle.acts.specs.laws.Choices.{all-cond, all-or}
 use Rattle.acts.specs.declared.Act.{Act}
-use Rattle.acts.specs.declared.Act.the-variants.{Idle, InForce, Commit, Send, Echo, Ready, Start, Relay, Aux, Move}
+use Rattle.acts.specs.declared.Act.the-variants.{Idle, InForce, Commit, Send, Echo, Ready, Start, Relay, Aux, Move, Finish}
 use Rattle.broadcasts.specs.Leading.{present}
 use Rattle.broadcasts.specs.Broadcasts.{output, echoRule, readyRule}
 use Rattle.broadcasts.specs.laws.Due.{echo-rule-holds, ready-rule-holds}
 use Rattle.broadcasts.specs.declared.Output.{Output}
 use Rattle.broadcasts.specs.declared.Output.the-variants.{Value, Nothing}
-use Rattle.votes.specs.Votes.{votesDecidedOne, voteAct, startAct, relayAct, roundAct, running, voteRule}
+use Rattle.votes.specs.laws.Versions.{first-rule}
+use Rattle.votes.specs.Votes.{votesDecidedOne, voteAct, startAct, relayAct, roundAct, running}
 use Rattle.exits.specs.Exits.{exitOf, exit1At, naming, withOutput}
 use Rattle.exits.specs.Exits.{exitNow}
 use Rattle.commits.specs.Commits.{setLeader}
-use Rattle.opening.specs.Arguments.{Arguments, settingsBy}
+use Rattle.opening.specs.Arguments.{Arguments}
 use Rattle.opening.specs.Opening.{openAnswer, opened}
 use Rattle.opening.specs.laws.Opening.{first-zero}
 use Rattle.turn.specs.Due.{inForceRule, commitDue, commitOf, commitRule, sendRule, votesRule, due}
@@ -42,12 +45,26 @@ use Rattle.turn.specs.Turn.{applied, turnWords}
 use Rattle.turn.specs.laws.Frame.{applied-other}
 use Rattle.turn.specs.laws.Admitting.{admitted-settings}
 use Rattle.turn.specs.laws.Turn.{Way, refused, taken, way}
-use Rattle.delivery.specs.Delivery.{delivered}
+use Rattle.session.specs.Session.{settingsOf, sessionWith, sessionOf}
+use Rattle.wire.specs.Message.{COMMIT, kindOf}
+use Rattle.wire.specs.declared.Message.{Message}
+use Rattle.wire.specs.declared.Message.the-variants as message
+use Rattle.wire_laws.specs.laws.Forms.{Form}
+use Rattle.wire_laws.proofs.Converse.{taken-form}
+use Rattle.delivery.specs.Delivery.{verdict, wordsAfter, delivered}
+use Rattle.delivery.specs.laws.Accepting.{accepting}
+use Rattle.delivery.specs.laws.Frame.{InLayout, Changed, word-recorded}
+use Rattle.delivery.specs.laws.Kept.{in-layout}
+use Rattle.delivery.specs.laws.Versions.{first-kinds}
+use Rattle.delivery.specs.declared.Verdict.{Verdict}
+use Rattle.delivery.specs.declared.Verdict.the-variants as verdict
 use Rattle.recording.specs.Recording.{recordedWords}
 use Rattle.turn_bound.specs.laws.Steps.{Step, opening, delivery, turn, report, recording, after, current, acting}
 use Rattle.turn_bound.specs.laws.Sums.{share-few, zero-count}
 use Rattle.turn_bound.specs.laws.Potential.{instancePart, potential}
-use Rattle.turn_bound.specs.laws.Sound.{Sound}
+use Rattle.turn_bound.specs.TurnBound.{Terms, termsBy}
+use Rattle.turn_bound.specs.laws.Finishes.{finishes, measure, finishes-few}
+use Rattle.turn_bound.specs.laws.Sound.{Sound, same-settings, same-version}
 use Rattle.turn_bound.specs.laws.Delivering.{Delivered, delivery-sound}
 use Rattle.turn_bound.specs.laws.Recorded.{Recorded, recording-sound}
 use Rattle.turn_bound.specs.laws.Opened.{opened-ruled}
@@ -78,13 +95,14 @@ NoVote (Start i b) = ⊥
 NoVote (Relay i r b) = ⊥
 NoVote (Aux i r b) = ⊥
 NoVote (Move i r v) = ⊥
+NoVote (Finish i b) = ⊥
 
 -- a broadcast with output is Exit 1
 exit-one : (o : ℕ → Output) (as0 as1 : ℕ → Bool) (v : ℕ) → o 1 ≡ Value v → exitOf alone o as0 as1 .number ≡ 1
 unfolding exitOf exit1At naming lowest withOutput total weightOf mark quorum
 exit-one o as0 as1 v e = rw (e, eq-eqb v v refl)
 
-module _ (s : List ℕ) (q : Quiet s) where
+module _ (s : List ℕ) (q : Quiet s) (plain : finishing (version s) ≡ false) where
   no-ones : votesDecidedOne alone s ≡ 0
   unfolding votesDecidedOne decidedOne marked
   no-ones = total-none (weightOf 1) (decidedOne s) 1 (λ p a b. ap (λ (w : ℕ). mark w p) (q .ones) ∙ mark-zero p)
@@ -98,12 +116,12 @@ module _ (s : List ℕ) (q : Quiet s) where
   vote-idle = rw (before, no-ones)
 
   votes-idle : votesRule alone s ≡ Idle
-  unfolding votesRule voteRule exitNow firstAct actAt lowest
+  unfolding votesRule exitNow firstAct actAt lowest
   votes-idle = go (output alone s 1) refl
     where
       go : (x : Output) → output alone s 1 ≡ x → votesRule alone s ≡ Idle
       go (Value v) e = rw (exit-one (output alone s) (decidedZero s) (decidedOne s) v e)
-      go Nothing e = cases (eqb (exitNow alone s .number) 1)
+      go Nothing e = rw (first-rule alone s (λ i. present (output alone s i)) plain) (cases (eqb (exitNow alone s .number) 1))
         where
           inner : firstAct (λ i. voteAct alone s (present (output alone s i)) (votesDecidedOne alone s) i) 1 ≡ Idle
           inner = rw (e, vote-idle)
@@ -141,6 +159,7 @@ module _ (s : List ℕ) where
   spared (Relay i x b) h k t f e r = absurd h
   spared (Aux i x b) h k t f e r = absurd h
   spared (Move i x v) h k t f e r = absurd h
+  spared (Finish i b) h k t f e r = absurd h
 
   act-quiet : (a : Act) → NoVote a → Quiet s → Quiet (applied s a)
   act-quiet a h q =
@@ -171,32 +190,61 @@ module _ (s : List ℕ) (q : Quiet s) where
   unfolding potential total
   quiet-potential = omega (arith, count-le (mark (word s 7)) 3, part-few)
 
-module _ (g : Settings) (ruled : Ruled g) (s : List ℕ) (h : Sound g s) (one : g .n ≡ 1) (light : g .weights ≡ 1) (q : Quiet s) where
+-- a delivery decides nothing where there are no FINISHes
+unwritten : (p : ℕ) (m : Message) → InLayout p m → kindOf m ≤ COMMIT → Changed p m decidedOneAt → ⊥
+unwritten p (message.Send i x) h k (inl e) = omega arith
+unwritten p (message.Send i x) h k (inr e) = omega arith
+unwritten p (message.Echo i x) h k (inl e) = omega arith
+unwritten p (message.Echo i x) h k (inr e) = omega arith
+unwritten p (message.Ready i x) h k (inl e) = omega arith
+unwritten p (message.Ready i x) h k (inr e) = omega arith
+unwritten p (message.Est i r b) h k e = omega arith
+unwritten p (message.Aux i r b) h k e = omega arith
+unwritten p (message.Commit c) h k (inl e) = omega arith
+unwritten p (message.Commit c) h k (inr e) = omega arith
+unwritten p (message.Finish i b) h k e = omega arith
+
+delivery-ones : (s : List ℕ) (link : ℕ) (b : List ℕ) → finishing (version s) ≡ false → word (delivered s link b) decidedOneAt ≡ word s decidedOneAt
+unfolding delivered wordsAfter sessionOf sessionWith settingsOf
+delivery-ones s link b plain = go (verdict s link b) refl
+  where
+    go : (y : Verdict) → verdict s link b ≡ y → word (wordsAfter y s link b) decidedOneAt ≡ word s decidedOneAt
+    go (verdict.Refused k) e = refl
+    go (verdict.Accepted m) e =
+        let x = accepting s link b m e in
+        let f : Form (version s) (word s nAt) (sessionOf s .number) link b m = taken-form _ _ _ link b m (x .taken) in
+        word-recorded s (drop 12 b) link m decidedOneAt
+        (unwritten link m (in-layout (word s nAt) link m (x .state .ruled .few) (f .link-low) (f .link-high) (f .layout)) (first-kinds s link b m plain e))
+
+module _ (k : Terms) (ruled : Ruled (k .settings)) (s : List ℕ) (h : Sound k s) (first : k .version ≡ FIRST-VERSION) (one : k .settings .n ≡ 1) (light : k .settings .weights ≡ 1) (q : Quiet s) where
+  plain : finishing (version s) ≡ false
+  plain = ap finishing (same-version k ruled s h ∙ first) ∙ first-plain
+
   turn-quiet : (out : List ℕ) → Quiet (turnWords s (length out))
   turn-quiet out = of (way s out)
     where
       of : Way s out → Quiet (turnWords s (length out))
-      of (refused k r) = rw (r .words) q
+      of (refused j r) = rw (r .words) q
       of (taken y t) =
-          let same : y .settings ≡ alone = admitted-settings s (length out) y (t .admits) ∙ h .settings ∙ only-alone g ruled one light in
-          rw (t .words, same) (act-quiet s (due alone s) (due-no-vote s q) q)
+          let same : y .settings ≡ alone = admitted-settings s (length out) y (t .admits) ∙ same-settings k ruled s h ∙ only-alone (k .settings) ruled one light in
+          rw (t .words, same) (act-quiet s (due alone s) (due-no-vote s q plain) q)
 
   delivery-quiet : (link : ℕ) (b : List ℕ) → Quiet (delivered s link b)
-  delivery-quiet link b = of (delivery-sound g ruled s h link b)
+  delivery-quiet link b = of (delivery-sound k ruled s h link b)
     where
-      of : Delivered g s (delivered s link b) → Quiet (delivered s link b)
+      of : Delivered k s (delivered s link b) → Quiet (delivered s link b)
       of y =
           record {
             round = y .same 24 (inl (omega arith)) ∙ q .round;
             ests = y .same 40 (inl (omega arith)) ∙ q .ests;
             auxs = y .same 56 (inl (omega arith)) ∙ q .auxs;
-            ones = y .same 139 (inr (omega arith, omega arith)) ∙ q .ones;
+            ones = delivery-ones s link b plain ∙ q .ones;
           }
 
   recording-quiet : (i r b : ℕ) → Quiet (recordedWords s i r b)
-  recording-quiet i r b = of (recording-sound g ruled s h i r b)
+  recording-quiet i r b = of (recording-sound k ruled s h i r b)
     where
-      of : Recorded g s (recordedWords s i r b) → Quiet (recordedWords s i r b)
+      of : Recorded k s (recordedWords s i r b) → Quiet (recordedWords s i r b)
       of y =
           record {
             round = y .same 24 (λ z. omega arith) ∙ q .round;
@@ -206,9 +254,11 @@ module _ (g : Settings) (ruled : Ruled g) (s : List ℕ) (h : Sound g s) (one : 
           }
 
   quiet-few : word s turnsAt ≤ 5
+  unfolding measure
   quiet-few =
-      let is : word s turnsAt ≡ potential 1 s = rw one at (h .turns) in
-      omega (arith, is, quiet-potential s q)
+      let is : word s turnsAt ≡ measure 1 s = rw one at (h .turns) in
+      let none : finishes 1 s ≤ 0 = rw (one, first, first-plain) at (finishes-few (k .version) (k .settings .n) s (h .sent)) in
+      omega (arith, is, quiet-potential s q, none)
 
 opening-quiet : (w : List ℕ) (o : Arguments) → openAnswer (length w) o ≡ 0 → Quiet (opened w o)
 unfolding opened
@@ -222,38 +272,39 @@ module _ (s : List ℕ) (o : Arguments) (e : openAnswer (length s) o ≡ 0) wher
   abbrev first : List ℕ
   first = opened s o
 
-  abbrev now : List Step → Settings
-  now cs = current (settingsBy o) first cs
+  abbrev now : List Step → Terms
+  now cs = current (termsBy o) first cs
 
-  quiet : (cs : List Step) → now cs .n ≡ 1 → now cs .weights ≡ 1 → Quiet (after first cs)
+  -- version 1, and one concentrator of weight 1
+  abbrev Alone : Terms → Type 0
+  Alone k = (k .version ≡ FIRST-VERSION) × (k .settings .n ≡ 1) × (k .settings .weights ≡ 1)
+
+  quiet : (cs : List Step) → Alone (now cs) → Quiet (after first cs)
   unfolding current after
-  quiet [] one lit = opening-quiet s o e
-  quiet (opening p ∷ cs) one lit = at (eqb (openAnswer (length (after first cs)) p) 0) refl one lit (λ d k. quiet cs d k)
+  quiet [] u = opening-quiet s o e
+  quiet (opening p ∷ cs) u = at (eqb (openAnswer (length (after first cs)) p) 0) refl u (λ v. quiet cs v)
     where
-      at : (b : Bool) → eqb (openAnswer (length (after first cs)) p) 0 ≡ b → cond b (settingsBy p) (now cs) .n ≡ 1 → cond b (settingsBy p) (now cs) .weights ≡ 1 →
-          (now cs .n ≡ 1 → now cs .weights ≡ 1 → Quiet (after first cs)) → Quiet (opened (after first cs) p)
-      at true d f k x = opening-quiet (after first cs) p (eqb-true (openAnswer (length (after first cs)) p) 0 d)
-      at false d f k x = rw (refused-words (after first cs) p d) (x f k)
-  quiet (delivery link b ∷ cs) one lit =
-      let y = going (settingsBy o) first (opening-going s o e) cs in
-      delivery-quiet (now cs) (y .ruled) (after first cs) (y .sound) one lit (quiet cs one lit) link b
-  quiet (turn out ∷ cs) one lit =
-      let y = going (settingsBy o) first (opening-going s o e) cs in
-      turn-quiet (now cs) (y .ruled) (after first cs) (y .sound) one lit (quiet cs one lit) out
-  quiet (report ∷ cs) one lit = quiet cs one lit
-  quiet (recording i r b ∷ cs) one lit =
-      let y = going (settingsBy o) first (opening-going s o e) cs in
-      recording-quiet (now cs) (y .ruled) (after first cs) (y .sound) one lit (quiet cs one lit) i r b
+      at : (b : Bool) → eqb (openAnswer (length (after first cs)) p) 0 ≡ b → Alone (cond b (termsBy p) (now cs)) → (Alone (now cs) → Quiet (after first cs)) → Quiet (opened (after first cs) p)
+      at true d v x = opening-quiet (after first cs) p (eqb-true (openAnswer (length (after first cs)) p) 0 d)
+      at false d v x = rw (refused-words (after first cs) p d) (x v)
+  quiet (delivery link b ∷ cs) u =
+      let y = going (termsBy o) first (opening-going s o e) cs in
+      delivery-quiet (now cs) (y .ruled) (after first cs) (y .sound) (u .0) (u .1) (u .2) (quiet cs u) link b
+  quiet (turn out ∷ cs) u =
+      let y = going (termsBy o) first (opening-going s o e) cs in
+      turn-quiet (now cs) (y .ruled) (after first cs) (y .sound) (u .0) (u .1) (u .2) (quiet cs u) out
+  quiet (report ∷ cs) u = quiet cs u
+  quiet (recording i r b ∷ cs) u =
+      let y = going (termsBy o) first (opening-going s o e) cs in
+      recording-quiet (now cs) (y .ruled) (after first cs) (y .sound) (u .0) (u .1) (u .2) (quiet cs u) i r b
 
-  few-turns : (cs : List Step) → now cs .n ≡ 1 → now cs .weights ≡ 1 → acting first cs ≤ 5
-  few-turns cs one lit =
-      let y = going (settingsBy o) first (opening-going s o e) cs in
-      omega (arith, y .count, quiet-few (now cs) (y .ruled) (after first cs) (y .sound) one lit (quiet cs one lit))
+  few-turns : (cs : List Step) → Alone (now cs) → acting first cs ≤ 5
+  few-turns cs u =
+      let y = going (termsBy o) first (opening-going s o e) cs in
+      omega (arith, y .count, quiet-few (now cs) (y .ruled) (after first cs) (y .sound) (u .0) (u .1) (u .2) (quiet cs u))
 
 pub at-most-five : AtMostFive
 unfolding AtMostFive
-at-most-five start cs q y e one lit =
+at-most-five start cs q y e v one lit =
     let x = calls-begun start cs q y e in
-    let n : current (settingsBy (x .arguments)) (opened (x .first) (x .arguments)) (x .steps) .n ≡ 1 = ap (λ (g : Settings). g .n) (x .settings) ∙ one in
-    let w : current (settingsBy (x .arguments)) (opened (x .first) (x .arguments)) (x .steps) .weights ≡ 1 = ap (λ (g : Settings). g .weights) (x .settings) ∙ lit in
-    rw (x .count) at (few-turns (x .first) (x .arguments) (x .opens) (x .steps) n w)
+    rw (x .count) at (few-turns (x .first) (x .arguments) (x .opens) (x .steps) (rw (x .terms) (v, one, lit)))

@@ -25,7 +25,7 @@ use Rattle.broadcasts.specs.Broadcasts.{output}
 use Rattle.records.specs.Records.{decidedZero, decidedOne}
 use Rattle.acts.specs.Acts.{isDue}
 use Rattle.acts.specs.declared.Act.{Act}
-use Rattle.acts.specs.declared.Act.the-variants.{Idle, InForce, Commit, Send, Echo, Ready, Start, Relay, Aux, Move}
+use Rattle.acts.specs.declared.Act.the-variants.{Idle, InForce, Commit, Send, Echo, Ready, Start, Relay, Aux, Move, Finish}
 use Rattle.turn.specs.laws.Told.{ActTold, CommitTold, Rests, on-exit, on-copies}
 use Rattle.turn.specs.Due.{due}
 use Rattle.turn.specs.Turn.{outcomeOf, moveOutcome, sentLength, applied, turnOutcome, turnWords}
@@ -44,11 +44,13 @@ use Rattle.turn_bound.specs.laws.Sums.{share-few, sum-grows, sum-one}
 use Rattle.turn_bound.specs.laws.Potential.{instancePart, potential}
 use Rattle.turn_bound.specs.laws.Rounds.{Entry}
 use Rattle.turn_bound.specs.laws.Raising.{counted-mark, start-entry, move-entry, moveBit}
-use Rattle.turn_bound.specs.laws.Sound.{Sound}
+use Rattle.turn_bound.specs.TurnBound.{Terms}
+use Rattle.turn_bound.specs.laws.Finishes.{measure, finishes-few}
+use Rattle.turn_bound.specs.laws.Sound.{Sound, same-settings}
 use Rattle.turn_bound.specs.laws.Delivering.{Delivered, delivery-sound}
 use Rattle.turn_bound.specs.laws.Recorded.{Recorded, recording-sound}
 use Rattle.turn_bound.specs.laws.Count.{Going}
-use Rattle.costliest.specs.Statement.{sentOne}
+use Rattle.costliest.specs.Statement.{sentOne, mostFinishes}
 
 -- ---- acts that send nothing
 
@@ -172,7 +174,10 @@ module _ (n : ℕ) (s t : List ℕ) where
   same-mark : (q : ℕ) → word t 7 ≡ word s 7 → Stay q
   same-mark q e = ap (λ (w : ℕ). mark w q) e
 
-module _ (g : Settings) (ruled : Ruled g) (own : ℕ) (s : List ℕ) (h : Sound g s) (unclosed : closed s ≡ false) where
+module _ (k : Terms) (ruled : Ruled (k .settings)) (own : ℕ) (s : List ℕ) (h : Sound k s) (unclosed : closed s ≡ false) where
+  abbrev g : Settings
+  g = k .settings
+
   abbrev n : ℕ
   n = g .n
 
@@ -235,6 +240,7 @@ module _ (g : Settings) (ruled : Ruled g) (own : ℕ) (s : List ℕ) (h : Sound 
   act-sends (Relay i r b) d t = voting (Relay i r b) _ refl refl (λ z. omega arith) (still-votes (Relay i r b) (λ j lo hi z. omega (arith, ruled .few, t .0 .low)))
   act-sends (Aux i r b) d t = voting (Aux i r b) _ refl refl (λ z. omega arith) (still-votes (Aux i r b) (λ j lo hi z. omega (arith, ruled .few, t .0 .low)))
   act-sends (Move i r v) d t = moving i r v t (decLt r 32)
+  act-sends (Finish i b) d t = voting (Finish i b) _ refl refl (λ z. omega arith) (still-votes (Finish i b) (λ j lo hi z. omega (arith, ruled .few)))
 
 -- ---- a call
 
@@ -263,50 +269,58 @@ idle-sends own s (Start i b) e = absurd (true≢false e)
 idle-sends own s (Relay i r b) e = absurd (true≢false e)
 idle-sends own s (Aux i r b) e = absurd (true≢false e)
 idle-sends own s (Move i r v) e = absurd (true≢false e)
+idle-sends own s (Finish i b) e = absurd (true≢false e)
 
-module _ (g : Settings) (ruled : Ruled g) (s : List ℕ) (h : Sound g s) (m b : ℕ) (x : SentWithin (g .n) s m b) where
-  none-sent : SentWithin (g .n) s (0 + m) (0 + b)
+module _ (k : Terms) (ruled : Ruled (k .settings)) (s : List ℕ) (h : Sound k s) (m b : ℕ) (x : SentWithin (k .settings .n) s m b) where
+  abbrev given : Settings
+  given = k .settings
+
+  none-sent : SentWithin (given .n) s (0 + m) (0 + b)
   none-sent = record { messages = omega (arith, x .messages); bytes = omega (arith, x .bytes) }
 
-  act-within : (own : ℕ) → closed s ≡ false → (a : Act) → ActTold g s a → (d : Bool) → isDue a ≡ d → SentWithin (g .n) (applied s a) (sentOne (outcomeOf own s a) + m) (sentLength (outcomeOf own s a) + b)
+  act-within : (own : ℕ) → closed s ≡ false → (a : Act) → ActTold given s a → (d : Bool) → isDue a ≡ d → SentWithin (given .n) (applied s a) (sentOne (outcomeOf own s a) + m) (sentLength (outcomeOf own s a) + b)
   act-within own unclosed a t true e =
-      let p = act-sends g ruled own s h unclosed a e t in
-      let count = applied-turns s a (told-placed g s ruled a t) (omega (arith, h .size)) e in
+      let p = act-sends k ruled own s h unclosed a e t in
+      let count = applied-turns s a (told-placed given s ruled a t) (omega (arith, h .size)) e in
       record { messages = omega (arith, x .messages, p .one, count); bytes = omega (arith, x .bytes, p .size, count) }
   act-within own unclosed a t false e =
       let none = idle-sends own s a e in
       rw (applied-idle s a e, none .0, none .1) none-sent
 
-  pub turn-within : (lent : List ℕ) → SentWithin (g .n) (turnWords s (length lent)) (sentOne (turnOutcome s (length lent)) + m) (sentLength (turnOutcome s (length lent)) + b)
+  pub turn-within : (lent : List ℕ) → SentWithin (given .n) (turnWords s (length lent)) (sentOne (turnOutcome s (length lent)) + m) (sentLength (turnOutcome s (length lent)) + b)
   turn-within lent = of (way s lent)
     where
-      of : Way s lent → SentWithin (g .n) (turnWords s (length lent)) (sentOne (turnOutcome s (length lent)) + m) (sentLength (turnOutcome s (length lent)) + b)
-      of (refused k r) = rw (r .words, r .answer) none-sent
+      of : Way s lent → SentWithin (given .n) (turnWords s (length lent)) (sentOne (turnOutcome s (length lent)) + m) (sentLength (turnOutcome s (length lent)) + b)
+      of (refused j r) = rw (r .words, r .answer) none-sent
       of (taken y t) =
-          let same : y .settings ≡ g = admitted-settings s (length lent) y (t .admits) ∙ h .settings in
-          let told : ActTold g s (due (y .settings) s) = subst (λ (z : Settings). ActTold z s (due (y .settings) s)) same (t .told) in
+          let same : y .settings ≡ given = admitted-settings s (length lent) y (t .admits) ∙ same-settings k ruled s h in
+          let told : ActTold given s (due (y .settings) s) = subst (λ (z : Settings). ActTold z s (due (y .settings) s)) same (t .told) in
           rw (t .words, t .answer) (act-within (y .own) (t .admits .unclosed) (due (y .settings) s) told (isDue (due (y .settings) s)) refl)
 
-  pub delivery-within : (link : ℕ) (bytes : List ℕ) → SentWithin (g .n) (delivered s link bytes) m b
-  delivery-within link bytes = of (delivery-sound g ruled s h link bytes)
+  pub delivery-within : (link : ℕ) (bytes : List ℕ) → SentWithin (given .n) (delivered s link bytes) m b
+  delivery-within link bytes = of (delivery-sound k ruled s h link bytes)
     where
-      of : Delivered g s (delivered s link bytes) → SentWithin (g .n) (delivered s link bytes) m b
-      of y = within-same (g .n) (ruled .few) s (delivered s link bytes) m b (y .same flagsAt (inl (omega arith))) (y .count) (λ j lo hi. y .same (roundAt j) (inl (omega (arith, ruled .few)))) x
+      of : Delivered k s (delivered s link bytes) → SentWithin (given .n) (delivered s link bytes) m b
+      of y = within-same (given .n) (ruled .few) s (delivered s link bytes) m b (y .same flagsAt (inl (omega arith))) (y .count) (λ j lo hi. y .same (roundAt j) (inl (omega (arith, ruled .few)))) x
 
-  pub recording-within : (i r bit : ℕ) → SentWithin (g .n) (recordedWords s i r bit) m b
-  recording-within i r bit = of (recording-sound g ruled s h i r bit)
+  pub recording-within : (i r bit : ℕ) → SentWithin (given .n) (recordedWords s i r bit) m b
+  recording-within i r bit = of (recording-sound k ruled s h i r bit)
     where
-      of : Recorded g s (recordedWords s i r bit) → SentWithin (g .n) (recordedWords s i r bit) m b
-      of y = within-same (g .n) (ruled .few) s (recordedWords s i r bit) m b (y .same flagsAt (λ z. omega arith)) (y .count) (λ j lo hi. y .same (roundAt j) (λ z. omega arith)) x
+      of : Recorded k s (recordedWords s i r bit) → SentWithin (given .n) (recordedWords s i r bit) m b
+      of y = within-same (given .n) (ruled .few) s (recordedWords s i r bit) m b (y .same flagsAt (λ z. omega arith)) (y .count) (λ j lo hi. y .same (roundAt j) (λ z. omega arith)) x
 
 -- nothing was sent yet
-pub fresh-within : (g : Settings) (w : List ℕ) (k : ℕ) → Going g w k → SentWithin (g .n) w 0 0
-fresh-within g w k y =
-    let few = without-potential w (g .n) in
+pub fresh-within : (k : Terms) (w : List ℕ) (c : ℕ) → Going k w c → SentWithin (k .settings .n) w 0 0
+unfolding measure
+fresh-within k w c y =
+    let few = without-potential w (k .settings .n) in
     record { messages = omega (arith, y .sound .turns, few); bytes = omega (arith, y .sound .turns, few) }
 
-pub few-sent : (g : Settings) (w : List ℕ) (k m b : ℕ) → Going g w k → SentWithin (g .n) w m b → (m ≤ 98 * g .n + 2) × (b ≤ 1968 * g .n + 32)
-few-sent g w k m b y x = (
-  omega (arith, x .messages, y .sound .turns, potential-sent w (g .n)),
-  omega (arith, x .bytes, y .sound .turns, potential-sent w (g .n), longer-few (g .n) w, y .ruled .some),
-)
+pub few-sent : (k : Terms) (w : List ℕ) (c m b : ℕ) → Going k w c → SentWithin (k .settings .n) w m b →
+    (m ≤ 98 * k .settings .n + 2 + mostFinishes k) × (b ≤ 1968 * k .settings .n + 32 + 20 * mostFinishes k)
+unfolding measure mostFinishes
+few-sent k w c m b y x =
+    let finishes = finishes-few (k .version) (k .settings .n) w (y .sound .sent) in (
+      omega (arith, x .messages, y .sound .turns, potential-sent w (k .settings .n), finishes),
+      omega (arith, x .bytes, y .sound .turns, potential-sent w (k .settings .n), longer-few (k .settings .n) w, y .ruled .some, finishes),
+    )

@@ -8,10 +8,9 @@ use native.Mathlib.Omega.{arith}
 use lib.Dec.{eqb}
 use lib.ListN.{length}
 use borrow.Author.Tests.{eq-eqb}
-use Rattle.settings.specs.declared.Settings.{Settings}
 use Rattle.records.specs.Layout.{turnsAt}
 use Rattle.records.specs.Words.{word}
-use Rattle.opening.specs.Arguments.{Arguments, settingsBy}
+use Rattle.opening.specs.Arguments.{Arguments}
 use Rattle.opening.specs.Opening.{openAnswer, opened}
 use Rattle.journal.specs.Journal.{LINE-BYTES, openNumber, openedWords}
 use Rattle.journal.specs.laws.Journal.{line-answer, line-words}
@@ -20,7 +19,7 @@ use Rattle.wire.specs.declared.Message.the-variants.{Send, Echo, Ready, Commit}
 use Rattle.calls.specs.Machine.{Call, opening, delivery, turn, report, restore, recording, place, words, traced}
 use Rattle.calls.specs.Engine.{engine}
 use Rattle.calls.specs.Given.{openingOf}
-use Rattle.turn_bound.specs.TurnBound.{Begun, oneMore, sessionAfter, sessionAt}
+use Rattle.turn_bound.specs.TurnBound.{Terms, termsBy, Begun, oneMore, sessionAfter, sessionAt}
 use Rattle.turn_bound.specs.laws.CallCount.{calls-going}
 use Rattle.costliest.specs.Calls.{Calls, opens, each, say, turns, sends, readies, ests, auxs, commit, heard, acted, costly, five, costliestCalls}
 use Rattle.costliest.specs.Statement.{wholeSession, Takes}
@@ -88,11 +87,11 @@ calls-plain n = of (eqb n 1)
 
 -- ---- the session goes on
 
-module _ (start : ℕ → List ℕ) (q : ℕ) (g : Settings) where
-  -- of settings g
+module _ (start : ℕ → List ℕ) (q : ℕ) (g : Terms) where
+  -- of these terms
   record GoesOn (x : Option Begun) : Type 0 where
     turns : ℕ
-    same : x ≡ some (record { settings = g; turns = turns })
+    same : x ≡ some (record { terms = g; turns = turns })
 
   call-goes : (c : Call engine) → Plain c → (w : List ℕ) (x : Option Begun) → GoesOn x → GoesOn (sessionAfter c w x)
   call-goes (opening p o) h w x y = absurd h
@@ -133,16 +132,16 @@ module _ (n : ℕ) (start : ℕ → List ℕ) (taken : openAnswer (length (start
   unfolding words openedWords openingOf
   first-words = line-words 512 (start 1) (opened (start 1) (openingOf (opens n) .given)) (omega arith) ∙ ap (opened (start 1)) (opening-low n)
 
-  first-begun : GoesOn start 1 (settingsBy (opens n)) (sessionAt start first 1)
+  first-begun : GoesOn start 1 (termsBy (opens n)) (sessionAt start first 1)
   unfolding sessionAt traced words
-  first-begun = record { turns = 0; same = rw is-opened (ap (λ (o : Arguments). some (record { settings = settingsBy o; turns = 0 })) (opening-low n)) }
+  first-begun = record { turns = 0; same = rw is-opened (ap (λ (o : Arguments). some (record { terms = termsBy o; turns = 0 })) (opening-low n)) }
 
   -- as many turns as are stored in the end
   pub takes : (k : ℕ) → word (after (opened (start 1) (opens n)) (costliestCalls n)) turnsAt ≡ k → Takes n k start
   unfolding wholeSession
   takes k e =
-      let x = calls-go start 1 (settingsBy (opens n)) first first-begun (costliestCalls n) (calls-plain n) in
+      let x = calls-go start 1 (termsBy (opens n)) first first-begun (costliestCalls n) (calls-plain n) in
       let same : words engine start (wholeSession n) 1 ≡ after (opened (start 1) (opens n)) (costliestCalls n) = after-on start first (costliestCalls n) ∙ ap (λ (w : List ℕ). after w (costliestCalls n)) first-words in
-      let counted = calls-going start (wholeSession n) 1 (record { settings = settingsBy (opens n); turns = x .turns }) (x .same) .count in
+      let counted = calls-going start (wholeSession n) 1 (record { terms = termsBy (opens n); turns = x .turns }) (x .same) .count in
       let is : x .turns ≡ k = sym counted ∙ ap (λ (w : List ℕ). word w turnsAt) same ∙ e in
-      record { is-opened = is-opened; exactly = x .same ∙ ap (λ (j : ℕ). some (record { settings = settingsBy (opens n); turns = j })) is }
+      record { is-opened = is-opened; exactly = x .same ∙ ap (λ (j : ℕ). some (record { terms = termsBy (opens n); turns = j })) is }

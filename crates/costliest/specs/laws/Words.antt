@@ -5,6 +5,8 @@ use mathlib.Core.List.{List, [], _∷_, _++_}
 use mathlib.Core.Path.{_≡_, refl, ap}
 use lib.Dec.{eqb}
 use lib.ListN.{length}
+use native.Mathlib.Omega.{arith}
+use Rattle.settings.specs.Versions.{FIRST-VERSION}
 use Rattle.wire.specs.Message.{instanceOf, roundOf, countOf, encode}
 use Rattle.wire.specs.declared.Message.{Message}
 use Rattle.delivery.specs.Delivery.{delivered}
@@ -21,9 +23,9 @@ use Rattle.costliest.specs.laws.Bytes.{encode-low}
 abbrev pub after : List ℕ → Calls → List ℕ
 after s cs = words engine (λ p. s) cs 1
 
-pub say-after : (s : List ℕ) (p : ℕ) (m : Message) (cs : Calls) → p < 256 → instanceOf m < 256 → roundOf m < 256 → countOf m < 256 → after s (say p m cs) ≡ delivered (after s cs) p (encode m p 7 packs)
+pub say-after : (s : List ℕ) (p : ℕ) (m : Message) (cs : Calls) → p < 256 → instanceOf m < 256 → roundOf m < 256 → countOf m < 256 → after s (say p m cs) ≡ delivered (after s cs) p (encode m FIRST-VERSION p 7 packs)
 unfolding say words bytesOf deliveredWords lineWords
-say-after s p m cs a b c d = ap (delivered (after s cs) p) (encode-low m p 7 packs a b c d)
+say-after s p m cs a b c d = ap (delivered (after s cs) p) (encode-low m FIRST-VERSION p 7 packs (omega arith) a b c d)
 
 pub turn-after : (s out : List ℕ) (cs : Calls) → after s (machine.turn 1 (turnWith out) ∷ cs) ≡ turnWords (after s cs) (length out)
 unfolding words turnWith turnRoom

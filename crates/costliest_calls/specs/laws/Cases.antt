@@ -8,11 +8,12 @@ use lib.ListN.{length, getD}
 use mir.Val.{Fits}
 use mir.Syntax.{w64}
 use borrow.Author.Tests.{eq-eqb, ne-eqb, lt-ltb, le-ltb, le-leb, lt-leb}
+use Rattle.settings.specs.Versions.{FIRST-VERSION}
 use Rattle.records.specs.laws.Fill.{length-blank}
 use Rattle.wire.specs.Message.{instanceOf, roundOf, countOf, lengthOf, besides, encode, atFront}
 use Rattle.wire.specs.Writing.{written, Wrote}
 use Rattle.wire.specs.declared.Message.{Message}
-use Rattle.wire.specs.declared.Message.the-variants.{Send, Echo, Ready, Est, Aux, Commit}
+use Rattle.wire.specs.declared.Message.the-variants.{Send, Echo, Ready, Est, Aux, Commit, Finish}
 use Rattle.wire.proofs.Laws.{length-encode, written-whole}
 use Rattle.calls.specs.Given.{lowBytes, bytesOf, turnWith}
 use Rattle.costliest.specs.Calls.{coinWords, opens, packs}
@@ -74,9 +75,10 @@ besides-count (Ready i v) = omega arith
 besides-count (Est i r v) = omega arith
 besides-count (Aux i r v) = omega arith
 besides-count (Commit k) = omega arith
+besides-count (Finish i v) = omega arith
 
 module _ (c : Call) (link : ℕ) (m : Message) (e : c ≡ Delivery link m) (few : Small c)
-    (out : List ℕ) (room : 140 ≤ length out) (r : ℕ) (after : List ℕ) (w : Wrote (written m link 7 (1 ∷ 2 ∷ 3 ∷ 4 ∷ 5 ∷ 6 ∷ 7 ∷ 8 ∷ 9 ∷ 10 ∷ 11 ∷ 12 ∷ 13 ∷ 14 ∷ 15 ∷ 16 ∷ []) out) out r after) where
+    (out : List ℕ) (room : 140 ≤ length out) (r : ℕ) (after : List ℕ) (w : Wrote (written m FIRST-VERSION link 7 (1 ∷ 2 ∷ 3 ∷ 4 ∷ 5 ∷ 6 ∷ 7 ∷ 8 ∷ 9 ∷ 10 ∷ 11 ∷ 12 ∷ 13 ∷ 14 ∷ 15 ∷ 16 ∷ []) out) out r after) where
   is-small : (link ≤ 32) × (instanceOf m ≤ 32) × (roundOf m ≤ 32) × (countOf m ≤ 16)
   unfolding Small
   is-small = rw e at few
@@ -89,15 +91,15 @@ module _ (c : Call) (link : ℕ) (m : Message) (e : c ≡ Delivery link m) (few 
   unfolding packs
   enough = omega (arith, besides-count m, is-small .3)
 
-  is-wrote : Wrote (written m link 7 packs out) out r after
+  is-wrote : Wrote (written m FIRST-VERSION link 7 packs out) out r after
   unfolding packs
   is-wrote = w
 
-  whole : written m link 7 packs out ≡ encode m link 7 packs
-  whole = written-whole m link 7 packs out enough (omega (arith, few-bytes))
+  whole : written m FIRST-VERSION link 7 packs out ≡ encode m FIRST-VERSION link 7 packs
+  whole = written-whole m FIRST-VERSION link 7 packs out enough (omega (arith, few-bytes))
 
   size-few : r ≤ 140
-  size-few = omega (arith, is-wrote .answer ∙ ap length whole, length-encode m link 7 packs enough, few-bytes)
+  size-few = omega (arith, is-wrote .answer ∙ ap length whole, length-encode m FIRST-VERSION link 7 packs enough, few-bytes)
 
   pub size-fits : Fits w64 (65536 * r)
   size-fits = record { fits = omega (arith, size-few) }
@@ -109,11 +111,11 @@ module _ (c : Call) (link : ℕ) (m : Message) (e : c ≡ Delivery link m) (few 
   linked-fits l = record { fits = omega (arith, size-few) }
 
   -- the bytes as they are delivered
-  bytes-are : written m link 7 packs out ≡ lowBytes (encode m link 7 packs)
+  bytes-are : written m FIRST-VERSION link 7 packs out ≡ lowBytes (encode m FIRST-VERSION link 7 packs)
   bytes-are =
-      whole ∙ sym (encode-low m link 7 packs (omega (arith, is-small .0)) (omega (arith, is-small .1)) (omega (arith, is-small .2)) (omega (arith, is-small .3)))
+      whole ∙ sym (encode-low m FIRST-VERSION link 7 packs (omega arith) (omega (arith, is-small .0)) (omega (arith, is-small .1)) (omega (arith, is-small .2)) (omega (arith, is-small .3)))
 
-  size-is : r ≡ length (lowBytes (encode m link 7 packs))
+  size-is : r ≡ length (lowBytes (encode m FIRST-VERSION link 7 packs))
   size-is = is-wrote .answer ∙ ap length bytes-are
 
   pub delivery-number : 256 + 65536 * r + 4294967296 * link ≡ callNumber (engineCall c)

@@ -3,6 +3,7 @@ use Prim.Native.Nat.{ℕ, _+_, _*_, _-_, _/_, _%_, _≤_}
 use mathlib.Core.Bool.{cond}
 use mathlib.Core.Option.{Option, none, some}
 use lib.Dec.{eqb, ltb}
+use Rattle.settings.specs.Versions.{FIRST-VERSION}
 use Rattle.records.specs.Words.{blank}
 use Rattle.wire.specs.Message.{instanceOf, roundOf, countOf, encode}
 use Rattle.wire.specs.declared.Message.the-variants.{Send, Echo, Ready, Est, Aux, Commit}
@@ -22,7 +23,7 @@ pub record Few (n : ℕ) : Type 0 where
 -- the call that the code means: a message is of session 7, a COMMIT holds the first packs, and a turn is lent 140 bytes
 unfoldable pub engineCall : Call → Option (machine.Call engine)
 engineCall Nothing = none
-engineCall (Delivery p m) = some (delivery 1 p (bytesOf (encode m p 7 packs)))
+engineCall (Delivery p m) = some (delivery 1 p (bytesOf (encode m FIRST-VERSION p 7 packs)))
 engineCall Turn = some (turn 1 (turnWith (blank 140)))
 
 -- the link, and the fields of the message, of a call are small

@@ -11,6 +11,7 @@ use mir.Syntax.{w8, w16, w32}
 use borrow.Author.Tests.{le-leb, leb-true, ltb-true, eq-eqb}
 use Rattle.quorum.specs.laws.Bools.{and-left, and-right, not-passed}
 use Rattle.settings.specs.Settings.{validSettings, namedTa}
+use Rattle.settings.specs.Versions.{versionKnown}
 use Rattle.settings.specs.Check.{checkSettings}
 use Rattle.settings.specs.laws.Rules.{check-taken, check-refused, valid-rules}
 use Rattle.settings.specs.declared.Settings.{Settings}
@@ -60,13 +61,13 @@ module _ (n ta ts : ℕ) where
   given = drillArguments n ta ts 1 0 0 (blank n)
 
   opens : validSettings n (taBy given) ts (weightsBy given) ≡ true → openAnswer 2048 given ≡ 0
-  unfolding numbered coinsGiven
+  unfolding versionKnown numbered coinsGiven
   opens e =
       let k = valid-rules n (taBy given) ts (weightsBy given) e in
       let low : leb 1 n ≡ true = le-leb 1 n (k .some) in
       let few : leb n 16 ≡ true = le-leb n 16 (k .few) in
       let size : eqb (length (blank n)) n ≡ true = eq-eqb (length (blank n)) n (length-blank n) in
-      accepted-answer 2048 given (record { size = refl; valid = e; own-number = rw low; given = rw (few, size) })
+      accepted-answer 2048 given (record { size = refl; known = refl; valid = e; own-number = rw low; given = rw (few, size) })
 
   module _ (w : ℕ) (c : Checked) (o : w ≡ weightsWord n (onesGiven n)) (e : c ≡ checkSettings n (namedTa n ta ts w) ts w) where
     pub valid-opens : (g : Settings) → c ≡ Valid g → true ≡ settingsOpen n ta ts
@@ -74,7 +75,7 @@ module _ (n ta ts : ℕ) where
     valid-opens g f = rw (opens (rw o at (check-taken n (namedTa n ta ts w) ts w g (sym e ∙ f) .valid)))
 
     pub invalid-refused : c ≡ Invalid → false ≡ settingsOpen n ta ts
-    unfolding settingsOpen openAnswer
+    unfolding settingsOpen openAnswer versionKnown
     invalid-refused f = rw (← o, check-refused n (namedTa n ta ts w) ts w (sym e ∙ f))
 
 pub ruleset open-cases = (valid-opens, invalid-refused)

@@ -60,10 +60,10 @@ ones-lent n b h = elim (decLe n 16) [
 
 -- an opening by any weights of the same word is that by weights of 1
 with-ones : (s : List ℕ) (n ta ts p session input : ℕ) (coins weights : List ℕ) → weightsWord n weights ≡ weightsWord n (onesGiven n) →
-    opened s (arguments n ta ts p session input coins weights 0) ≡ opened s (drillArguments n ta ts p session input coins)
+    opened s (arguments 1 n ta ts p session input coins weights 0) ≡ opened s (drillArguments n ta ts p session input coins)
 with-ones s n ta ts p session input coins weights e =
-    sym (opened-with (arguments n ta ts p session input coins weights 0) s)
-    ∙ ap (λ (w : ℕ). openedWith s n ta ts w p session input coins 0) e
+    sym (opened-with (arguments 1 n ta ts p session input coins weights 0) s)
+    ∙ ap (λ (w : ℕ). openedWith s 1 n ta ts w p session input coins 0) e
     ∙ opened-with (drillArguments n ta ts p session input coins) s
 
 -- a state, and the words that come back for it
@@ -77,7 +77,7 @@ module _ (w : List ℕ) (p at : ℕ) (a : Part) (e : at ≡ stateAt p) (h : Part
   state-back ys k = part-back w at 2048 a h ys k ∙ rw e
 
   pub open-back : (ys : List ℕ) (n ta ts session input : ℕ) (coins : List ℕ) (b : Part) → PartOf 16 0 n b → length ys ≡ length (lent w a) →
-      ys ≡ opened (lent w a) (arguments n ta ts p session input coins (lent sixteen b) 0) →
+      ys ≡ opened (lent w a) (arguments 1 n ta ts p session input coins (lent sixteen b) 0) →
       putMid (a .start) (a .end - a .start) w ys ≡ openedAt w (drillArguments n ta ts p session input coins)
   unfolding openedAt
   open-back ys n ta ts session input coins b g k q =

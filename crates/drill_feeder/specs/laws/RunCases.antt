@@ -40,11 +40,11 @@ unfolding messageBytes headerBytes frontBytes valueBytes bytes2 bytes4 bytes8
 twenty h v = refl
 
 pub lie-delivered : (w x o bytes : List ℕ) (session q r : ℕ) (l : Lie) → length o ≡ 20 →
-    Wrote (fitting (messageBytes (headerWith (l .kind) (l .p) (l .instance) (l .round) 1 session) (l .value ∷ [])) o) o r bytes →
+    Wrote (fitting (messageBytes (headerWith 1 (l .kind) (l .p) (l .instance) (l .round) 1 session) (l .value ∷ [])) o) o r bytes →
     x ≡ deliveredTo w q (l .p) bytes → x ≡ lied session q l w
 unfolding lied
 lie-delivered w x o bytes session q r l e h f =
-    let m = headerWith (l .kind) (l .p) (l .instance) (l .round) 1 session in
+    let m = headerWith 1 (l .kind) (l .p) (l .instance) (l .round) 1 session in
     f ∙ ap (deliveredTo w q (l .p)) (h .bytes ∙ whole (messageBytes m (l .value ∷ [])) o (twenty m (l .value) ∙ sym e))
 
 -- the counts after a turn

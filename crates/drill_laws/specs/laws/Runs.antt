@@ -9,7 +9,7 @@ use borrow.Author.Tests.{ltb-true}
 use Rattle.quorum.specs.Marks.{mark}
 use Rattle.acts.specs.Acts.{isDue}
 use Rattle.acts.specs.declared.Act.{Act}
-use Rattle.acts.specs.declared.Act.the-variants.{Idle, InForce, Commit, Send, Echo, Ready, Start, Relay, Aux, Move}
+use Rattle.acts.specs.declared.Act.the-variants.{Idle, InForce, Commit, Send, Echo, Ready, Start, Relay, Aux, Move, Finish}
 use Rattle.turn.specs.Due.{due}
 use Rattle.turn.specs.Turn.{outcomeOf, applied, turnOutcome}
 use Rattle.turn.specs.laws.Admitting.{admitted-ruled}
@@ -70,6 +70,7 @@ module _ (p : ℕ) (lo : 1 ≤ p) (hi : p ≤ 4) where
   due-goes own s (Relay i r b) e = refl
   due-goes own s (Aux i r b) e = refl
   due-goes own s (Move i r v) e = refl
+  due-goes own s (Finish i b) e = refl
 
   goes-way : (w m : List ℕ) (c : Counts) → Sound w m c → goesOn (turnOutcome (stateOf w p) (length (roomFor m (c .sent)))) ≡ true → Way (stateOf w p) (roomFor m (c .sent)) →
       turnsIn p (turned p (memory w m c)) ≡ turnsOf w p + 1

@@ -6,11 +6,16 @@ use mathlib.Core.Path.{_≡_, refl, sym, ap, subst, _∙_}
 use native.Mathlib.Omega.{arith}
 use native.Mathlib.Decide.{ℕ-discrete}
 use lib.ListN.{length, drop}
-use Rattle.records.specs.Layout.{nAt, turnsAt}
+use Rattle.records.specs.Layout.{nAt, turnsAt, versionAt}
 use Rattle.records.specs.Words.{word}
 use Rattle.wire.specs.declared.Message.{Message}
 use Rattle.delivery.specs.Delivery.{verdict, wordsAfter, delivered}
 use Rattle.delivery.specs.laws.Frame.{Changed, word-recorded, length-recorded}
+use Rattle.session.specs.Session.{settingsOf, sessionWith, sessionOf}
+use Rattle.wire_laws.specs.laws.Forms.{Form}
+use Rattle.wire_laws.proofs.Converse.{taken-form}
+use Rattle.delivery.specs.laws.Accepting.{accepting}
+use Rattle.delivery.specs.laws.Kept.{in-layout, word-free}
 use Rattle.delivery.specs.declared.Verdict.{Verdict}
 use Rattle.drill_feeder.specs.Parts.{stateOf, withState}
 use Rattle.drill_feeder.specs.Lines.{deliveredTo, more}
@@ -20,11 +25,16 @@ use Rattle.drill_laws.specs.Sound.{turnsOf, allTurns}
 use Rattle.wire.specs.declared.Message.the-variants as message
 use Rattle.delivery.specs.declared.Verdict.the-variants as verdict
 
+-- a session of a drill has at most 4 concentrators, and is of version 1
+pub record Drilled (s : List ℕ) : Type 0 where
+  pub small : word s nAt ≤ 4
+  pub first : word s versionAt ≤ 1
+
 -- what holds of the memory of a drill at all times
 pub record Sound (w m : List ℕ) (c : Counts) : Type 0 where
   pub words : length w ≡ 8192
   pub store : length m ≡ 70496
-  pub few : (p : ℕ) → 1 ≤ p → p ≤ 4 → word (stateOf w p) nAt ≤ 4
+  pub few : (p : ℕ) → 1 ≤ p → p ≤ 4 → Drilled (stateOf w p)
   pub bound : (p : ℕ) → 1 ≤ p → p ≤ 4 → turnsOf w p ≤ 400
   pub sent : c .sent ≤ allTurns w 4
   pub offered : c .offered ≤ c .sent
@@ -64,7 +74,7 @@ sum-lt w p (suc n) lo hi h l =
 
 -- a session's state is replaced by one that has counted d turns more
 module _ (w m m' : List ℕ) (c c' : Counts) (p d : ℕ) (lo : 1 ≤ p) (hi : p ≤ 4) (h : Sound w m c) (s : List ℕ) where
-  pub replaced : length s ≡ 2048 → length m' ≡ length m → word s nAt ≤ 4 → word s turnsAt ≡ turnsOf w p + d → word s turnsAt ≤ 400 → c' .sent ≤ c .sent + d →
+  pub replaced : length s ≡ 2048 → length m' ≡ length m → Drilled s → word s turnsAt ≡ turnsOf w p + d → word s turnsAt ≤ 400 → c' .sent ≤ c .sent + d →
       c' .offered ≤ c' .sent → Sound (withState w p s) m' c'
   unfolding turnsOf
   replaced size kept n turns bound more left =
@@ -98,11 +108,22 @@ spared p (message.Est i r b) a l e = omega arith
 spared p (message.Aux i r b) a l e = omega arith
 spared p (message.Commit k) a l (inl e) = omega arith
 spared p (message.Commit k) a l (inr e) = omega arith
+spared p (message.Finish i b) a l (inl e) = omega arith
+spared p (message.Finish i b) a l (inr e) = omega arith
 
 after-word : (v : Verdict) (s b : List ℕ) (link a : ℕ) → a ≤ 6 → word (wordsAfter v s link b) a ≡ word s a
 unfolding wordsAfter
 after-word (verdict.Refused k) s b link a l = refl
 after-word (verdict.Accepted k) s b link a l = word-recorded s (drop 12 b) link k a (spared link k a l)
+
+-- .. nor changes the version
+after-version : (v : Verdict) (s b : List ℕ) (link : ℕ) → verdict s link b ≡ v → word (wordsAfter v s link b) versionAt ≡ word s versionAt
+unfolding wordsAfter sessionOf sessionWith settingsOf
+after-version (verdict.Refused k) s b link e = refl
+after-version (verdict.Accepted k) s b link e =
+    let x = accepting s link b k e in
+    let f : Form (word s versionAt) (word s nAt) (sessionOf s .number) link b k = taken-form _ _ _ link b k (x .taken) in
+    word-free s (drop 12 b) link k versionAt (in-layout (word s nAt) link k (x .state .ruled .few) (f .link-low) (f .link-high) (f .layout)) (omega arith) (omega arith)
 
 after-length : (v : Verdict) (s b : List ℕ) (link : ℕ) → length (wordsAfter v s link b) ≡ length s
 unfolding wordsAfter
@@ -117,7 +138,10 @@ deliver-sound w m b c q link lo hi h =
     replaced w m m c c q 0 lo hi h (wordsAfter v s link b)
     (after-length v s b link ∙ length-stateOf w q (h .words) lo hi)
     refl
-    (rw (after-word v s b link 0 (omega arith)) (h .few q lo hi))
+    (record {
+      small = rw (after-word v s b link 0 (omega arith)) (h .few q lo hi .small);
+      first = rw (after-version v s b link refl) (h .few q lo hi .first);
+    })
     (after-word v s b link 6 (omega arith) ∙ omega arith)
     (rw (after-word v s b link 6 (omega arith)) (h .bound q lo hi))
     (omega arith)

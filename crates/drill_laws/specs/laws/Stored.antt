@@ -10,10 +10,10 @@ use lib.Dec.{ltb}
 use borrow.Author.Tests.{lt-ltb, le-leb}
 use Rattle.records.specs.Layout.{nAt, commitCountAt}
 use Rattle.records.specs.Words.{word, blank}
-use Rattle.records.specs.Records.{decidedZero, decidedOne, commitCount, commitSet}
+use Rattle.records.specs.Records.{version, decidedZero, decidedOne, commitCount, commitSet}
 use Rattle.records.specs.laws.Fill.{length-blank}
 use Rattle.acts.specs.declared.Act.{Act}
-use Rattle.acts.specs.declared.Act.the-variants.{Idle, InForce, Commit, Send, Echo, Ready, Start, Relay, Aux, Move}
+use Rattle.acts.specs.declared.Act.the-variants.{Idle, InForce, Commit, Send, Echo, Ready, Start, Relay, Aux, Move, Finish}
 use Rattle.session.specs.Session.{settingsOf, sessionWith, sessionOf}
 use Rattle.session.specs.declared.Session.{Session}
 use Rattle.wire.specs.Message.{countOf, lengthOf, besides, headerFor, frontBytes, headerBytes, messageBytes, encode, atFront}
@@ -94,6 +94,7 @@ module _ (x : Session) (s out : List ℕ) (t : Taken s out x) (few : word s nAt 
   act-short (Start i b) e = (omega arith, omega arith)
   act-short (Relay i r b) e = (omega arith, omega arith)
   act-short (Aux i r b) e = (omega arith, omega arith)
+  act-short (Finish i b) e = (omega arith, omega arith)
   act-short (Move i r v) e = go (ltb r 32) _
     where
       go : (b : Bool) (d : ℕ) → Short (cond b (outcome.Sent (message.Est i (r + 1) d)) outcome.MovedOut)
@@ -110,13 +111,13 @@ module _ (l : List ℕ) (a k : ℕ) (h : a + k ≤ length l) where
   unfolding byteAt part
   byte-part i f = rw (le-leb (a + k) (length l) h) (sym (getD-take k (drop a l) i 0 f ∙ getD-drop a l i 0))
 
-count-byte : (k : Message) (own session : ℕ) (xs rest : List ℕ) → getD (encode k own session xs ++ rest) 5 0 ≡ countOf k
+count-byte : (k : Message) (v own session : ℕ) (xs rest : List ℕ) → getD (encode k v own session xs ++ rest) 5 0 ≡ countOf k
 unfolding encode messageBytes headerBytes headerFor frontBytes
-count-byte k own session xs rest = refl
+count-byte k v own session xs rest = refl
 
 -- the bytes of a message at the next place
-module _ (m b rest : List ℕ) (sent own session : ℕ) (k : Message) (xs : List ℕ) (size : length m ≡ 70496) (few : sent < 1600)
-    (values : besides k ≤ length xs) (short : lengthOf k ≤ 44) (e : b ≡ encode k own session xs ++ rest) (long : length b ≡ 140) where
+module _ (m b rest : List ℕ) (sent v own session : ℕ) (k : Message) (xs : List ℕ) (size : length m ≡ 70496) (few : sent < 1600)
+    (values : besides k ≤ length xs) (short : lengthOf k ≤ 44) (e : b ≡ encode k v own session xs ++ rest) (long : length b ≡ 140) where
   stored-part : part (withRoom m sent b) (44 * sent) 140 ≡ b
   unfolding withRoom
   stored-part = part-same m (44 * sent) 140 (omega arith) b long
@@ -129,17 +130,17 @@ module _ (m b rest : List ℕ) (sent own session : ℕ) (k : Message) (xs : List
   stored-count =
       byte-part (withRoom m sent b) (44 * sent) 140 stored-length 5 (omega arith)
       ∙ ap (λ (y : List ℕ). getD y 5 0) (stored-part ∙ e)
-      ∙ count-byte k own session xs rest
+      ∙ count-byte k v own session xs rest
 
-  pub message-stored : messageAt (withRoom m sent b) (sent + 1) ≡ encode k own session xs
+  pub message-stored : messageAt (withRoom m sent b) (sent + 1) ≡ encode k v own session xs
   unfolding messageAt
   message-stored =
       let z : sent + 1 - 1 ≡ sent = omega arith in
-      let n : length (encode k own session xs) ≡ lengthOf k = length-encode k own session xs values in
+      let n : length (encode k v own session xs) ≡ lengthOf k = length-encode k v own session xs values in
       rw (z, stored-count)
       (part-front (withRoom m sent b) (44 * sent) 140 stored-length (lengthOf k) (omega arith)
       ∙ ap (take (lengthOf k)) (stored-part ∙ e)
-      ∙ take-at (encode k own session xs) rest (lengthOf k) n)
+      ∙ take-at (encode k v own session xs) rest (lengthOf k) n)
 
   -- the 44 bytes of every place before it
   pub places-kept : (j : ℕ) → 1 ≤ j → j ≤ sent → part (withRoom m sent b) (placeAt j) 44 ≡ part m (placeAt j) 44
@@ -158,29 +159,29 @@ module _ (w m : List ℕ) (c : Counts) (p : ℕ) (lo : 1 ≤ p) (hi : p ≤ 4) (
 
   by-bytes : (x : Session) → x ≡ sessionOf (stateOf w p) → lengthOf k ≤ 44 → besides k ≤ length (commitDue (x .settings) (stateOf w p)) →
       turnBytes (stateOf w p) (roomFor m (c .sent))
-      ≡ encode k (x .own) (x .number) (commitDue (x .settings) (stateOf w p)) ++ drop (length (encode k (x .own) (x .number) (commitDue (x .settings) (stateOf w p)))) (roomFor m (c .sent)) →
+      ≡ encode k (version (stateOf w p)) (x .own) (x .number) (commitDue (x .settings) (stateOf w p)) ++ drop (length (encode k (version (stateOf w p)) (x .own) (x .number) (commitDue (x .settings) (stateOf w p)))) (roomFor m (c .sent)) →
       Stored w m c p k
   unfolding sessionOf sessionWith
   by-bytes x same short values b =
       let xs : List ℕ = commitDue (x .settings) (stateOf w p) in
-      let enc : List ℕ = encode k (x .own) (x .number) xs in
+      let enc : List ℕ = encode k (version (stateOf w p)) (x .own) (x .number) xs in
       let rest : List ℕ = drop (length enc) (roomFor m (c .sent)) in
-      let n : length enc ≡ lengthOf k = length-encode k (x .own) (x .number) xs values in
+      let n : length enc ≡ lengthOf k = length-encode k (version (stateOf w p)) (x .own) (x .number) xs values in
       let long : length (turnBytes (stateOf w p) (roomFor m (c .sent))) ≡ 140 = ap length b ∙ length-append enc rest ∙ omega (arith, n, length-drop (length enc) (roomFor m (c .sent)), whole) in
       record {
         room = whole;
         counts = ap (λ (o : Outcome). messageCounted o c .sent) answer ∙ sent-counted w m c p lo hi h k left;
         bytes =
-            message-stored m (turnBytes (stateOf w p) (roomFor m (c .sent))) rest (c .sent) (x .own) (x .number) k xs (h .store) left values short b long
-            ∙ ap (λ (y : Session). encode k (y .own) (y .number) (commitDue (y .settings) (stateOf w p))) same;
-        places = places-kept m (turnBytes (stateOf w p) (roomFor m (c .sent))) rest (c .sent) (x .own) (x .number) k xs (h .store) left values short b long;
+            message-stored m (turnBytes (stateOf w p) (roomFor m (c .sent))) rest (c .sent) (version (stateOf w p)) (x .own) (x .number) k xs (h .store) left values short b long
+            ∙ ap (λ (y : Session). encode k (version (stateOf w p)) (y .own) (y .number) (commitDue (y .settings) (stateOf w p))) same;
+        places = places-kept m (turnBytes (stateOf w p) (roomFor m (c .sent))) rest (c .sent) (version (stateOf w p)) (x .own) (x .number) k xs (h .store) left values short b long;
       }
 
   of-way : Way (stateOf w p) (roomFor m (c .sent)) → Stored w m c p k
   unfolding bytesAfter atFront Short
   of-way (refused j r) = absurd (let f = r .answer in let g = answer in let z : _≡_ {A = ℕ} 0 1 = cc in omega arith)
   of-way (taken x t) =
-      let few : word (stateOf w p) nAt ≤ 4 = h .few p lo hi in
+      let few : word (stateOf w p) nAt ≤ 4 = h .few p lo hi .small in
       let o : outcomeOf (x .own) (stateOf w p) (due (x .settings) (stateOf w p)) ≡ outcome.Sent k = sym (t .answer) ∙ answer in
       let short : Short x (stateOf w p) (roomFor m (c .sent)) t few (outcome.Sent k) =
       subst (λ (y : Outcome). Short x (stateOf w p) (roomFor m (c .sent)) t few y) o (act-short x (stateOf w p) (roomFor m (c .sent)) t few (due (x .settings) (stateOf w p)) (t .told)) in

@@ -2,18 +2,20 @@
 use Prim.Native.Nat.{ℕ, _+_, _*_, _≤_, _<_}
 use mathlib.Core.Bool.{Bool, true, false, cond, false≢true}
 use mathlib.Core.List.{List}
-use mathlib.Core.Path.{_≡_, refl, sym, _∙_}
+use mathlib.Core.Path.{_≡_, refl, sym, ap, _∙_}
 use native.Mathlib.Omega.{arith}
 use native.Mathlib.Decide.{decLe}
 use lib.ListN.{length, drop, length-append, length-drop}
 use lib.Dec.{ltb}
 use borrow.Author.Tests.{lt-ltb, le-ltb, lt-leb}
-use Rattle.settings.specs.Settings.{turnBound}
-use Rattle.records.specs.Layout.{turnsAt}
+use Rattle.settings.specs.Versions.{turnBound}
+use Rattle.settings.specs.laws.Versions.{first-bound}
+use Rattle.records.specs.Records.{version}
+use Rattle.records.specs.Layout.{nAt, turnsAt, versionAt}
 use Rattle.records.specs.Words.{word}
 use Rattle.acts.specs.Acts.{isDue}
 use Rattle.acts.specs.declared.Act.{Act}
-use Rattle.acts.specs.declared.Act.the-variants.{Idle, InForce, Commit, Send, Echo, Ready, Start, Relay, Aux, Move}
+use Rattle.acts.specs.declared.Act.the-variants.{Idle, InForce, Commit, Send, Echo, Ready, Start, Relay, Aux, Move, Finish}
 use Rattle.session.specs.Session.{settingsOf}
 use Rattle.session.specs.declared.Session.{Session}
 use Rattle.wire.specs.Message.{besides, lengthOf, encode, atFront}
@@ -24,7 +26,7 @@ use Rattle.turn.specs.laws.Told.{ActTold}
 use Rattle.turn.specs.Turn.{moveOutcome, outcomeOf, applied, bytesAfter, turnOutcome, turnWords, turnBytes}
 use Rattle.wire.proofs.Laws.{length-encode}
 use Rattle.turn.specs.laws.Admitting.{admitted-ruled}
-use Rattle.turn.specs.laws.Frame.{Placed, told-placed, setting, length-applied, applied-idle, applied-kept, applied-turns}
+use Rattle.turn.specs.laws.Frame.{Placed, told-placed, setting, between, length-applied, applied-idle, applied-kept, applied-turns}
 use Rattle.turn.specs.laws.Turn.{Taken, Refused, Way, refused, taken, way}
 use Rattle.turn.specs.declared.Outcome.{Outcome}
 use Rattle.turn.specs.declared.Outcome.the-variants as outcome
@@ -38,11 +40,11 @@ use Rattle.drill_laws.specs.laws.Sound.{Sound, sum-lt, replaced}
 -- a turn leaves as many bytes as it was lent
 module _ (x : Session) (s out : List ℕ) (room : 140 ≤ length out) where
   sent-length : (k : Message) → besides k ≤ length (commitDue (x .settings) s) → lengthOf k ≤ 140 →
-      length (atFront (encode k (x .own) (x .number) (commitDue (x .settings) s)) out) ≡ length out
+      length (atFront (encode k (version s) (x .own) (x .number) (commitDue (x .settings) s)) out) ≡ length out
   unfolding atFront
   sent-length k b l =
-      let e : List ℕ = encode k (x .own) (x .number) (commitDue (x .settings) s) in
-      let n : length e ≡ lengthOf k = length-encode k (x .own) (x .number) (commitDue (x .settings) s) b in
+      let e : List ℕ = encode k (version s) (x .own) (x .number) (commitDue (x .settings) s) in
+      let n : length e ≡ lengthOf k = length-encode k (version s) (x .own) (x .number) (commitDue (x .settings) s) b in
       length-append e (drop (length e) out) ∙ omega (arith, n, length-drop (length e) out)
 
   bytes-length : (a : Act) → ActTold (x .settings) s a → length (bytesAfter x s (outcomeOf (x .own) s a) out) ≡ length out
@@ -56,6 +58,7 @@ module _ (x : Session) (s out : List ℕ) (room : 140 ≤ length out) where
   bytes-length (Start i b) t = sent-length (message.Est i 1 b) (omega arith) (omega arith)
   bytes-length (Relay i r b) t = sent-length (message.Est i r b) (omega arith) (omega arith)
   bytes-length (Aux i r b) t = sent-length (message.Aux i r b) (omega arith) (omega arith)
+  bytes-length (Finish i b) t = sent-length (message.Finish i b) (omega arith) (omega arith)
   bytes-length (Move i r v) t = go (ltb r 32) _
     where
       go : (b : Bool) (e : ℕ) → length (bytesAfter x s (cond b (outcome.Sent (message.Est i (r + 1) e)) outcome.MovedOut) out) ≡ length out
@@ -92,13 +95,19 @@ idle-counts own s (Ready i v) c e = absurd (false≢true (sym e))
 idle-counts own s (Start i b) c e = absurd (false≢true (sym e))
 idle-counts own s (Relay i r b) c e = absurd (false≢true (sym e))
 idle-counts own s (Aux i r b) c e = absurd (false≢true (sym e))
+idle-counts own s (Finish i b) c e = absurd (false≢true (sym e))
 idle-counts own s (Move i r v) c e = absurd (false≢true (sym e))
 
 module _ (w m : List ℕ) (c : Counts) (p : ℕ) (lo : 1 ≤ p) (hi : p ≤ 4) (h : Sound w m c) where
   -- a session that takes a turn has counted fewer than 400
   turns-few : (out : List ℕ) (x : Session) → Taken (stateOf w p) out x → turnsOf w p < 400
-  unfolding turnsOf turnBound settingsOf
-  turns-few out x t = omega (arith, t .admits .state .turns, h .few p lo hi)
+  unfolding turnsOf settingsOf
+  turns-few out x t =
+      let s : List ℕ = stateOf w p in
+      let k = t .admits .state .known in
+      let one : version s ≡ 1 = omega (arith, k .low, h .few p lo hi .first) in
+      let bound : turnBound (version s) (settingsOf s) ≡ 99 * word s nAt + 3 = ap (λ (v : ℕ). turnBound v (settingsOf s)) one ∙ first-bound (settingsOf s) in
+      omega (arith, t .admits .state .turns, h .few p lo hi .small, bound)
 
   size : length (stateOf w p) ≡ 2048
   size = length-stateOf w p (h .words) lo hi
@@ -114,7 +123,10 @@ module _ (w m : List ℕ) (c : Counts) (p : ℕ) (lo : 1 ≤ p) (hi : p ≤ 4) (
       replaced w m (withRoom m (c .sent) b) c (messageCounted o c) p 1 lo hi h (applied (stateOf w p) a)
       (length-applied (stateOf w p) a ∙ size)
       (length-room m b (c .sent) e)
-      (rw (applied-kept (stateOf w p) a l 0 (setting (omega arith))) (h .few p lo hi))
+      (record {
+        small = rw (applied-kept (stateOf w p) a l 0 (setting (omega arith))) (h .few p lo hi .small);
+        first = rw (applied-kept (stateOf w p) a l versionAt (between (omega arith) (omega arith))) (h .few p lo hi .first);
+      })
       t
       (omega (arith, t))
       (k .0)

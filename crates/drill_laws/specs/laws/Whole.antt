@@ -14,6 +14,7 @@ use Rattle.quorum.specs.Marks.{mark}
 use Rattle.records.specs.Layout.{nAt, turnsAt}
 use Rattle.records.specs.Words.{word}
 use Rattle.records.specs.laws.Words.{length-put}
+use Rattle.settings.specs.Versions.{versionKnown}
 use Rattle.records.specs.Words.{blank}
 use Rattle.records.specs.laws.Fill.{length-blank, word-blank}
 use Rattle.session.specs.Session.{numbered}
@@ -21,7 +22,7 @@ use Rattle.opening.specs.Given.{coinsGiven}
 use Rattle.opening.specs.Arguments.{Arguments}
 use Rattle.opening.specs.Opening.{openAnswer, openWords, opened}
 use Rattle.opening.specs.laws.Cases.{accepted}
-use Rattle.opening.specs.laws.Opening.{length-first, first-n, first-turns}
+use Rattle.opening.specs.laws.Opening.{length-first, first-n, first-version, first-turns}
 use Rattle.drill_lines.specs.Automaton as lines
 use Rattle.drill_lines.specs.declared.Line.{Line}
 use Rattle.drill_lines.specs.declared.Line.the-variants as line
@@ -43,12 +44,12 @@ use Rattle.drill_core.specs.declared.Verdict.{Verdict}
 use Rattle.drill_core.specs.declared.Verdict.the-variants as verdict
 use Rattle.drill_laws.specs.laws.States.{length-stateOf, length-withState, state-same, state-other}
 use Rattle.drill_laws.specs.Sound.{turnsOf}
-use Rattle.drill_laws.specs.laws.Sound.{Sound, deliver-sound}
+use Rattle.drill_laws.specs.laws.Sound.{Drilled, Sound, deliver-sound}
 use Rattle.drill_laws.specs.laws.Turns.{SoundIn, turned-sound}
 use Rattle.drill_laws.specs.laws.Runs.{steps-keep, if-keep, ran-sound}
 
 -- before a message is sent a state may be replaced by any that is within the bounds
-reset : (w m : List ℕ) (c : Counts) (p : ℕ) → 1 ≤ p → p ≤ 4 → Sound w m c → c .sent ≡ 0 → (s : List ℕ) → length s ≡ 2048 → word s nAt ≤ 4 → word s turnsAt ≤ 400 →
+reset : (w m : List ℕ) (c : Counts) (p : ℕ) → 1 ≤ p → p ≤ 4 → Sound w m c → c .sent ≡ 0 → (s : List ℕ) → length s ≡ 2048 → Drilled s → word s turnsAt ≤ 400 →
     Sound (withState w p s) m c
 unfolding turnsOf
 reset w m c p lo hi h z s size n turns =
@@ -68,19 +69,19 @@ reset w m c p lo hi h z s size n turns =
       offered = h .offered;
     }
 
-open-sound : (w m : List ℕ) (c : Counts) (o : Arguments) → 1 ≤ o .own → o .own ≤ 4 → o .n ≤ 4 → Sound w m c → c .sent ≡ 0 → Sound (openedAt w o) m c
+open-sound : (w m : List ℕ) (c : Counts) (o : Arguments) → 1 ≤ o .own → o .own ≤ 4 → o .n ≤ 4 → o .version ≤ 1 → Sound w m c → c .sent ≡ 0 → Sound (openedAt w o) m c
 unfolding openedAt opened turnsOf
-open-sound w m c o lo hi few h z = go (eqb (openAnswer (length (stateOf w (o .own))) o) 0)
+open-sound w m c o lo hi few one h z = go (eqb (openAnswer (length (stateOf w (o .own))) o) 0)
   where
     go : (b : Bool) → Sound (withState w (o .own) (cond b (openWords o) (stateOf w (o .own)))) m c
-    go true = reset w m c (o .own) lo hi h z (openWords o) (length-first o) (rw first-n few) (rw first-turns (omega arith))
+    go true = reset w m c (o .own) lo hi h z (openWords o) (length-first o) (record { small = rw first-n few; first = rw (first-version o (omega arith)) one }) (rw first-turns (omega arith))
     go false = reset w m c (o .own) lo hi h z (stateOf w (o .own)) (length-stateOf w (o .own) (h .words) lo hi) (h .few (o .own) lo hi) (h .bound (o .own) lo hi)
 
 opened-sound : (w m : List ℕ) (c : Counts) (g : Given) → g .members .n ≤ 4 → Sound w m c → c .sent ≡ 0 → Sound (openedAll g w) m c
 unfolding openedAll openIf openedWith
 opened-sound w m c g few h z =
     steps-keep (λ (v : List ℕ). Sound v m c) (openIf g) (g .members .n)
-    (λ p lo hi v e. if-keep (λ (u : List ℕ). Sound u m c) (mark (g .members .honest) p) _ v (open-sound v m c (argumentsWith g p _ _) lo (omega arith) few e z) e)
+    (λ p lo hi v e. if-keep (λ (u : List ℕ). Sound u m c) (mark (g .members .honest) p) _ v (open-sound v m c (argumentsWith g p _ _) lo (omega arith) few (omega arith) e z) e)
     w h
 
 -- a call may have been made
@@ -299,7 +300,7 @@ start-sound =
           record {
             words = length-blank 8192;
             store = length-blank 70496;
-            few = λ p lo hi. rw (blank-state p 0 lo hi (omega arith)) (omega arith);
+            few = λ p lo hi. record { small = rw (blank-state p 0 lo hi (omega arith)) (omega arith); first = rw (blank-state p 143 lo hi (omega arith)) (omega arith) };
             bound = λ p lo hi. rw (blank-state p 6 lo hi (omega arith)) (omega arith);
             sent = omega arith;
             offered = omega arith;
@@ -316,7 +317,7 @@ input-sound input = all-fed-sound startDrilling input start-sound
 -- the openings of the honest ones are accepted
 pub opening-accepted : (w : List ℕ) (g : Given) (p : ℕ) → length w ≡ 8192 → g .members .n ≤ 4 → Openable g → 1 ≤ p → p ≤ g .members .n →
     openAnswer (length (stateOf w p)) (argumentsWith g p (word (g .inputs) (p - 1)) (g .coins)) ≡ 0
-unfolding settingsOpen openAnswer coinsGiven numbered
+unfolding settingsOpen openAnswer versionKnown coinsGiven numbered
 opening-accepted w g p size few o lo hi =
     let n : ℕ = g .members .n in
     let first : Arguments = drillArguments n (g .ta) (g .ts) 1 0 0 (blank n) in

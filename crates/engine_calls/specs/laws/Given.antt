@@ -18,14 +18,14 @@ bytes-of list room h =
       line = refl;
     }
 
-pub opening-of : (n ta ts own session input : ℕ) (coins weights : List ℕ) (boxed room : ℕ) →
-    Fits w32 session → Fits w64 input → ((i : ℕ) → Fits w32 (getD coins i 0)) → OpeningOf (arguments n ta ts own session input coins weights boxed) room
+pub opening-of : (version n ta ts own session input : ℕ) (coins weights : List ℕ) (boxed room : ℕ) →
+    Fits w32 session → Fits w64 input → ((i : ℕ) → Fits w32 (getD coins i 0)) → OpeningOf (arguments version n ta ts own session input coins weights boxed) room
 unfolding word
-opening-of n ta ts own session input coins weights boxed room s v h =
+opening-of version n ta ts own session input coins weights boxed room s v h =
     record {
       opening =
           record {
-            given = arguments n ta ts own session input coins weights boxed;
+            given = arguments version n ta ts own session input coins weights boxed;
             line = room;
             session-fits = s .fits;
             input-fits = v .fits;

@@ -95,6 +95,7 @@ sendColumn =
     marks p i k (wire.Est j r b) h a e w q = absurd (omega arith)
     marks p i k (wire.Aux j r b) h a e w q = absurd (omega arith)
     marks p i k (wire.Commit c) h a e w q = absurd (omega arith)
+    marks p i k (wire.Finish j b) h a e w q = absurd (omega arith)
 
     value : (p i k : ℕ) (m : wire-message.Message) → InLayout p m → Numbered i → Numbered k → i ≡ k → Changed p m (sendValueAt k) → Made wire.Send i m × (k ≡ p)
     value p i k (wire.Send j x) h a b e (inl c) =
@@ -109,6 +110,8 @@ sendColumn =
     value p i k (wire.Aux j r z) h a b e c = absurd (omega (arith, b .low, b .high))
     value p i k (wire.Commit n) h a b e (inl c) = absurd (omega (arith, b .low, b .high))
     value p i k (wire.Commit n) h a b e (inr c) = absurd (omega (arith, b .low, b .high))
+    value p i k (wire.Finish j z) h a b e (inl c) = absurd (omega (arith, b .low, b .high))
+    value p i k (wire.Finish j z) h a b e (inr c) = absurd (omega (arith, b .low, b .high))
 
 unfoldable pub echoColumn : Column
 unfolding placeHeld echoHeld recorded
@@ -134,6 +137,7 @@ echoColumn =
     marks p i k (wire.Est j r b) h a e w q = absurd (omega (arith, a .low, a .high))
     marks p i k (wire.Aux j r b) h a e w q = absurd (omega (arith, a .low, a .high))
     marks p i k (wire.Commit c) h a e w q = absurd (omega (arith, a .low, a .high))
+    marks p i k (wire.Finish j b) h a e w q = absurd (omega (arith, a .low, a .high))
 
     value : (p i k : ℕ) (m : wire-message.Message) → InLayout p m → Numbered i → Numbered k → Unit {0} → Changed p m (echoValueAt i k) → Made wire.Echo i m × (k ≡ p)
     value p i k (wire.Send j x) h a b e (inl c) = absurd (omega (arith, a .low, a .high, b .low, b .high))
@@ -148,6 +152,8 @@ echoColumn =
     value p i k (wire.Aux j r z) h a b e c = absurd (omega (arith, a .low, a .high, b .low, b .high))
     value p i k (wire.Commit n) h a b e (inl c) = absurd (omega (arith, a .low, a .high, b .low, b .high))
     value p i k (wire.Commit n) h a b e (inr c) = absurd (omega (arith, a .low, a .high, b .low, b .high))
+    value p i k (wire.Finish j z) h a b e (inl c) = absurd (omega (arith, a .low, a .high, b .low, b .high))
+    value p i k (wire.Finish j z) h a b e (inr c) = absurd (omega (arith, a .low, a .high, b .low, b .high))
 
 unfoldable pub readyColumn : Column
 unfolding placeHeld readyHeld recorded
@@ -173,6 +179,7 @@ readyColumn =
     marks p i k (wire.Est j r b) h a e w q = absurd (omega (arith, a .low, a .high))
     marks p i k (wire.Aux j r b) h a e w q = absurd (omega (arith, a .low, a .high))
     marks p i k (wire.Commit c) h a e w q = absurd (omega (arith, a .low, a .high))
+    marks p i k (wire.Finish j b) h a e w q = absurd (omega (arith, a .low, a .high))
 
     value : (p i k : ℕ) (m : wire-message.Message) → InLayout p m → Numbered i → Numbered k → Unit {0} → Changed p m (readyValueAt i k) → Made wire.Ready i m × (k ≡ p)
     value p i k (wire.Send j x) h a b e (inl c) = absurd (omega (arith, a .low, a .high, b .low, b .high))
@@ -187,3 +194,5 @@ readyColumn =
     value p i k (wire.Aux j r z) h a b e c = absurd (omega (arith, a .low, a .high, b .low, b .high))
     value p i k (wire.Commit n) h a b e (inl c) = absurd (omega (arith, a .low, a .high, b .low, b .high))
     value p i k (wire.Commit n) h a b e (inr c) = absurd (omega (arith, a .low, a .high, b .low, b .high))
+    value p i k (wire.Finish j z) h a b e (inl c) = absurd (omega (arith, a .low, a .high, b .low, b .high))
+    value p i k (wire.Finish j z) h a b e (inr c) = absurd (omega (arith, a .low, a .high, b .low, b .high))

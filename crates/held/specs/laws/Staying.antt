@@ -13,7 +13,7 @@ use Rattle.wire.specs.declared.Message.{Message}
 use Rattle.delivery.specs.Delivery.{placeHeld, recorded}
 use Rattle.delivery.specs.laws.Frame.{InLayout, MarkWord}
 use Rattle.delivery.specs.laws.Held.{marks-recorded, commits-recorded}
-use Rattle.turn.specs.laws.Frame.{Kept, held, beyond}
+use Rattle.turn.specs.laws.Frame.{Kept, held, between, beyond}
 use Rattle.held.specs.laws.Keeping.{kept-holding, count-back}
 
 -- what is held in s is held in t
@@ -34,8 +34,9 @@ stays-recorded s v size p m h free = record { marks = marks-recorded s v size p 
 module _ (s t : List ℕ) (size : length s ≡ 2048) (sizes : length t ≡ length s) (same : (j : ℕ) → Kept j → word t j ≡ word s j) where
   mark-kept : (k : ℕ) → MarkWord k → Kept k
   mark-kept k (inl y) = held (omega arith) (omega arith)
-  mark-kept k (inr (inl y)) = beyond (omega arith)
-  mark-kept k (inr (inr y)) = beyond (omega arith)
+  mark-kept k (inr (inl y)) = between (omega arith) (omega arith)
+  mark-kept k (inr (inr (inl y))) = beyond (omega arith)
+  mark-kept k (inr (inr (inr y))) = beyond (omega arith)
 
   pub stays-kept : Stays s t
   unfolding marked commitHeld

@@ -1,4 +1,4 @@
--- Each act raises the potential by one at most, so that the stored count is the potential.
+-- Each act but FINISH raises the potential by one at most.
 use Prim.Native.Nat.{ℕ, _+_, _*_, _≤_, _<_}
 use mathlib.Core.List.{List}
 use mathlib.Core.Logic.{_≢_}
@@ -16,7 +16,7 @@ use Rattle.quorum.specs.Total.{share, count}
 use Rattle.records.specs.Layout.{roundAt, estSentAt, auxSentAt}
 use Rattle.records.specs.Words.{word}
 use Rattle.acts.specs.declared.Act.{Act}
-use Rattle.acts.specs.declared.Act.the-variants.{Idle, InForce, Commit, Send, Echo, Ready, Start, Relay, Aux, Move}
+use Rattle.acts.specs.declared.Act.the-variants.{Idle, InForce, Commit, Send, Echo, Ready, Start, Relay, Aux, Move, Finish}
 use Rattle.turn.specs.laws.Told.{ActTold}
 use Rattle.turn.specs.Turn.{applied}
 use Rattle.turn.specs.Turn as turn
@@ -24,7 +24,7 @@ use Rattle.turn.specs.laws.Frame.{Spared, applied-other}
 use Rattle.turn_bound.specs.laws.Sums.{share-few, sum-grows, marks-add, sum-one}
 use Rattle.turn_bound.specs.laws.Potential.{instancePart, potential}
 use Rattle.turn_bound.specs.laws.Rounds.{Entry}
-use Rattle.turn_bound.specs.laws.Raising.{counted-mark, relay-marks, start-entry, move-entry, moveBit}
+use Rattle.turn_bound.specs.laws.Raising.{Plain, counted-mark, relay-marks, start-entry, move-entry, moveBit}
 
 module _ (s t : List ℕ) where
   part-marks : (j : ℕ) → mark (word t 136) j ≡ mark (word s 136) j → mark (word t 137) j ≡ mark (word s 137) j → word t (estSentAt j) ≡ word s (estSentAt j) → word t (auxSentAt j) ≡ word s (auxSentAt j) → word t (roundAt j) ≡ word s (roundAt j) → instancePart t j ≤ instancePart s j
@@ -160,22 +160,22 @@ module _ (s : List ℕ) (size : length s ≡ 2048) (g : Settings) (ruled : Ruled
       here : Votes (Ready i v) i → instancePart t i ≤ instancePart s i + 1
       here x = ready-one s t i echo (x .est) (x .aux) (x .round)
 
-  pub act-by-one : (a : Act) → ActTold g s a → potential (g .n) (applied s a) ≤ potential (g .n) s + 1
+  pub act-by-one : (a : Act) → Plain a → ActTold g s a → potential (g .n) (applied s a) ≤ potential (g .n) s + 1
   unfolding applied turn.done
-  act-by-one Idle h = omega arith
-  act-by-one InForce h = flag-one s _ (g .n) 1 (counted-mark s size 7 1 (omega arith) (λ z. omega arith)) (flags-part InForce (λ j z. z))
-  act-by-one (Commit k) h = flag-one s _ (g .n) 3 (counted-mark s size 7 3 (omega arith) (λ z. omega arith)) (flags-part (Commit k) (λ j z. z))
-  act-by-one (Send v) h = flag-one s _ (g .n) 2 (counted-mark s size 7 2 (omega arith) (λ z. omega arith)) (flags-part (Send v) (λ j z. z))
-  act-by-one (Echo i v) h = echo-act i v
-  act-by-one (Ready i v) h = ready-act i v
-  act-by-one (Start i b) h =
+  act-by-one Idle x h = omega arith
+  act-by-one InForce x h = flag-one s _ (g .n) 1 (counted-mark s size 7 1 (omega arith) (λ z. omega arith)) (flags-part InForce (λ j z. z))
+  act-by-one (Commit k) x h = flag-one s _ (g .n) 3 (counted-mark s size 7 3 (omega arith) (λ z. omega arith)) (flags-part (Commit k) (λ j z. z))
+  act-by-one (Send v) x h = flag-one s _ (g .n) 2 (counted-mark s size 7 2 (omega arith) (λ z. omega arith)) (flags-part (Send v) (λ j z. z))
+  act-by-one (Echo i v) x h = echo-act i v
+  act-by-one (Ready i v) x h = ready-act i v
+  act-by-one (Start i b) x h =
       let a = Start i b in
       entry-one s _ (g .n) i 0 b (ruled .few) (start-entry s size g ruled i b h) (h .0 .low) (h .0 .high)
       (applied-other s a 7 (λ z. omega arith) (λ z. omega arith, λ z. omega arith))
       (applied-other s a 136 (λ z. omega arith) (λ z. omega (arith, h .0 .high, ruled .few), λ z. omega (arith, h .0 .high, ruled .few)))
       (applied-other s a 137 (λ z. omega arith) (λ z. omega (arith, h .0 .high, ruled .few), λ z. omega (arith, h .0 .high, ruled .few)))
       (λ j lo hi. applied-other s a (auxSentAt j) (λ z. omega arith) (λ z. omega (arith, h .0 .high, ruled .few), λ z. omega (arith, h .0 .high, ruled .few)))
-  act-by-one (Relay i r b) h =
+  act-by-one (Relay i r b) x h =
       let few : i ≤ 16 = omega (arith, h .0 .high, ruled .few) in
       let a = Relay i r b in
       let echo = applied-other s a 136 (λ z. omega arith) (λ z. omega (arith, few)) in
@@ -185,7 +185,7 @@ module _ (s : List ℕ) (size : length s ≡ 2048) (g : Settings) (ruled : Ruled
       (λ lo hi. est-one s _ i (32 * b + r) echo ready (relay-marks s size i r b few)
       (applied-other s a (auxSentAt i) (λ z. omega arith) (λ z. omega arith))
       (rw (applied-other s a (roundAt i) (λ z. omega arith) (λ z. omega arith)) (omega arith)))
-  act-by-one (Aux i r b) h =
+  act-by-one (Aux i r b) x h =
       let few : i ≤ 16 = omega (arith, h .0 .high, ruled .few) in
       let a = Aux i r b in
       let echo = applied-other s a 136 (λ z. omega arith) (λ z. omega (arith, few)) in
@@ -196,7 +196,8 @@ module _ (s : List ℕ) (size : length s ≡ 2048) (g : Settings) (ruled : Ruled
       (applied-other s a (estSentAt i) (λ z. omega arith) (λ z. omega arith))
       (counted-mark s size (auxSentAt i) r (omega arith) (λ z. omega arith))
       (applied-other s a (roundAt i) (λ z. omega arith) (λ z. omega arith)))
-  act-by-one (Move i r v) h =
+  act-by-one (Finish i b) x h = absurd x
+  act-by-one (Move i r v) x h =
       let few : i ≤ 16 = omega (arith, h .0 .high, ruled .few) in
       let low : 1 ≤ i = h .0 .low in
       let a = Move i r v in

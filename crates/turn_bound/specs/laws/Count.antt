@@ -8,17 +8,16 @@ use lib.Dec.{eqb}
 use lib.ListN.{length}
 use borrow.Author.Tests.{eqb-true}
 use Rattle.settings.specs.Rules.{Ruled}
-use Rattle.settings.specs.declared.Settings.{Settings}
 use Rattle.records.specs.Layout.{turnsAt}
 use Rattle.records.specs.Words.{word}
 use Rattle.session.specs.Session.{settingsOf, isState}
-use Rattle.opening.specs.Arguments.{Arguments, settingsBy}
+use Rattle.opening.specs.Arguments.{Arguments}
 use Rattle.opening.specs.Opening.{openAnswer, opened}
 use Rattle.turn.specs.Turn.{turnOutcome}
 use Rattle.journal.specs.Journal.{acts}
 use Rattle.report.specs.Report.{figuresOf}
 use Rattle.report.specs.laws.Report.{report-gives}
-use Rattle.turn_bound.specs.TurnBound.{Reports, Counted}
+use Rattle.turn_bound.specs.TurnBound.{Terms, termsBy, Reports, Counted}
 use Rattle.turn_bound.specs.laws.Steps.{Step, opening, delivery, turn, report, recording, after, current, acting}
 use Rattle.turn_bound.specs.laws.Sound.{Sound, sound-bound, sound-state}
 use Rattle.turn_bound.specs.laws.Delivering.{delivery-sound}
@@ -31,13 +30,13 @@ told : (w : List ℕ) (k : ℕ) → isState w ≡ true → word w turnsAt ≡ k 
 unfolding figuresOf
 told w k is e = record { figures = figuresOf (settingsOf w) w; given = report-gives w is 16 16 (omega arith) (omega arith); count = e }
 
--- a session of settings g goes on in the words w
-pub record Going (g : Settings) (w : List ℕ) (k : ℕ) : Type 0 where
-  pub ruled : Ruled g
+-- a session of version and settings g goes on in the words w
+pub record Going (g : Terms) (w : List ℕ) (k : ℕ) : Type 0 where
+  pub ruled : Ruled (g .settings)
   pub sound : Sound g w
   pub count : word w turnsAt ≡ k
 
-pub opening-going : (w : List ℕ) (o : Arguments) → openAnswer (length w) o ≡ 0 → Going (settingsBy o) (opened w o) 0
+pub opening-going : (w : List ℕ) (o : Arguments) → openAnswer (length w) o ≡ 0 → Going (termsBy o) (opened w o) 0
 opening-going w o e =
     record {
       ruled = opened-ruled w o e;
@@ -49,14 +48,14 @@ pub refused-words : (w : List ℕ) (o : Arguments) → eqb (openAnswer (length w
 unfolding opened
 refused-words w o e = rw e
 
-module _ (g : Settings) (s : List ℕ) (start : Going g s 0) where
+module _ (g : Terms) (s : List ℕ) (start : Going g s 0) where
   pub going : (cs : List Step) → Going (current g s cs) (after s cs) (acting s cs)
   unfolding current after acting
   going [] = start
   going (opening o ∷ cs) = at (eqb (openAnswer (length (after s cs)) o) 0) refl (going cs)
     where
       at : (b : Bool) → eqb (openAnswer (length (after s cs)) o) 0 ≡ b → Going (current g s cs) (after s cs) (acting s cs) →
-          Going (cond b (settingsBy o) (current g s cs)) (opened (after s cs) o) (cond b 0 (acting s cs))
+          Going (cond b (termsBy o) (current g s cs)) (opened (after s cs) o) (cond b 0 (acting s cs))
       at true e x = opening-going (after s cs) o (eqb-true (openAnswer (length (after s cs)) o) 0 e)
       at false e x = rw (refused-words (after s cs) o e) x
   going (delivery link b ∷ cs) =
@@ -77,7 +76,7 @@ module _ (g : Settings) (s : List ℕ) (start : Going g s 0) where
       let y = recording-sound (current g s cs) (x .ruled) (after s cs) (x .sound) i r b in
       record { ruled = x .ruled; sound = y .sound; count = y .count ∙ x .count }
 
-pub going-counted : (g : Settings) (w : List ℕ) (k : ℕ) → Going g w k → Counted w (record { settings = g; turns = k })
+pub going-counted : (g : Terms) (w : List ℕ) (k : ℕ) → Going g w k → Counted w (record { terms = g; turns = k })
 going-counted g w k x =
     let is = sound-state g (x .ruled) w (x .sound) in
     record {

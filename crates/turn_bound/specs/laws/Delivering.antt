@@ -9,6 +9,7 @@ use lib.ListN.{length, drop}
 use Rattle.settings.specs.Rules.{Ruled}
 use Rattle.settings.specs.declared.Settings.{Settings}
 use Rattle.quorum.specs.Marks.{mark}
+use Rattle.quorum.specs.Total.{count}
 use Rattle.records.specs.Layout.{ownAt, turnsAt, boxedAt, roundAt, estSentAt, auxSentAt, commitCountAt, commitRowAt}
 use Rattle.records.specs.Words.{word}
 use Rattle.records.specs.laws.Words.{word-put-same}
@@ -16,7 +17,7 @@ use Rattle.records.specs.laws.Fill.{length-storeOf}
 use Rattle.session.specs.Session.{settingsOf, sessionWith, sessionOf}
 use Rattle.wire.specs.Bytes.{valueAt}
 use Rattle.wire.specs.declared.Message.{Message}
-use Rattle.wire.specs.declared.Message.the-variants.{Send, Echo, Ready, Est, Aux, Commit}
+use Rattle.wire.specs.declared.Message.the-variants.{Send, Echo, Ready, Est, Aux, Commit, Finish}
 use Rattle.wire_laws.specs.laws.Forms.{Form}
 use Rattle.wire_laws.specs.Proper.{Layout}
 use Rattle.wire_laws.proofs.Converse.{taken-form}
@@ -29,7 +30,9 @@ use Rattle.delivery.specs.declared.Verdict.the-variants.{Refused, Accepted}
 use Rattle.turn.specs.laws.Marks.{Keeps}
 use Rattle.turn_bound.specs.laws.Potential.{Grows, potential-grows}
 use Rattle.turn_bound.specs.laws.Rounds.{still, orderly-kept}
-use Rattle.turn_bound.specs.laws.Sound.{Sound}
+use Rattle.turn_bound.specs.TurnBound.{Terms, termsOf}
+use Rattle.turn_bound.specs.laws.Finishes.{finishes, measure}
+use Rattle.turn_bound.specs.laws.Sound.{Sound, same-settings, same-version}
 
 -- a COMMIT that is recorded has at most n values
 module _ (n : ℕ) (few : n ≤ 16) (s v : List ℕ) (size : length s ≡ 2048) (p : ℕ) (low : 1 ≤ p) (high : p ≤ n) where
@@ -70,6 +73,11 @@ module _ (n : ℕ) (few : n ≤ 16) (s v : List ℕ) (size : length s ≡ 2048) 
       at : Dec (q ≡ p) → word (recorded s p (Commit k) v) (commitCountAt q) ≤ n
       at (yes e) = rw (e, new-count k) (l .1)
       at (no ne) = other-count (Commit k) q (c q lo hi) (no-place ne)
+  counts-recorded (Finish i b) l c q lo hi = other-count (Finish i b) q (c q lo hi) no-place
+    where
+      no-place : Changed p (Finish i b) (commitCountAt q) → ⊥
+      no-place (inl e) = omega arith
+      no-place (inr e) = omega arith
 
 -- words that differ only in coins and where messages are recorded
 abbrev pub Alike : List ℕ → List ℕ → Type 0
@@ -90,75 +98,87 @@ module _ (g : Settings) (ruled : Ruled g) (s t : List ℕ) (same : Alike s t) wh
         moved-out = λ i low high e. same (roundAt i) (inl (omega (arith, ruled .few))) (λ z. omega arith) ∙ e;
       }
 
-module _ (g : Settings) (ruled : Ruled g) (s t : List ℕ) (same : Alike s t) where
+module _ (k : Terms) (ruled : Ruled (k .settings)) (s t : List ℕ) (same : Alike s t) where
   low-same : (a : ℕ) → a < 72 → (8 ≤ a → 24 ≤ a) → word t a ≡ word s a
   low-same a l = same a (inl (omega arith))
 
-  same-settings : word t 141 ≡ word s 141 → settingsOf t ≡ settingsOf s
-  unfolding settingsOf
-  same-settings e = rw (low-same 0 (omega arith) (λ z. omega arith), low-same 1 (omega arith) (λ z. omega arith), low-same 2 (omega arith) (λ z. omega arith), e)
+  -- the words of the weights, of the kind of coins, of the version and of the FINISHes sent
+  module _ (late : (a : ℕ) → 141 ≤ a → a ≤ 144 → word t a ≡ word s a) where
+    same-terms : termsOf t ≡ termsOf s
+    unfolding settingsOf
+    same-terms =
+        rw (
+          low-same 0 (omega arith) (λ z. omega arith),
+          low-same 1 (omega arith) (λ z. omega arith),
+          low-same 2 (omega arith) (λ z. omega arith),
+          late 141 (omega arith) (omega arith),
+          late 143 (omega arith) (omega arith),
+        )
 
-  pub same-sound : Sound g s → length t ≡ length s → word t 141 ≡ word s 141 → word t boxedAt ≡ word s boxedAt → ((p : ℕ) → 1 ≤ p → p ≤ g .n → word t (commitCountAt p) ≤ g .n) → Sound g t
-  same-sound h l e k c =
-      record {
-        size = l ∙ h .size;
-        settings = same-settings e ∙ h .settings;
-        own-low = omega (arith, low-same ownAt (omega arith) (λ z. omega arith), h .own-low);
-        own-high = omega (arith, low-same ownAt (omega arith) (λ z. omega arith), h .own-high);
-        kind = omega (arith, k, h .kind);
-        counts = c;
-        orderly =
-            orderly-kept (g .n) (ruled .few) s t (h .orderly)
-            (still (record { rounds = λ j lo hi. low-same (roundAt j) (omega arith) (λ z. omega arith); ests = λ j lo hi. low-same (estSentAt j) (omega arith) (λ z. omega arith) }))
-            (same-grows g ruled s t same .auxs);
-        turns =
-            omega (
-              arith,
-              low-same turnsAt (omega arith) (λ z. omega arith),
-              h .turns,
-              potential-grows (g .n) s t (same-grows g ruled s t same),
-              potential-grows (g .n) t s (same-grows g ruled t s (λ a u z. sym (same a u z))),
-            );
-      }
+    pub same-sound : Sound k s → length t ≡ length s → ((p : ℕ) → 1 ≤ p → p ≤ k .settings .n → word t (commitCountAt p) ≤ k .settings .n) → Sound k t
+    unfolding measure
+    same-sound h l c =
+        let finished : finishes (k .settings .n) t ≡ finishes (k .settings .n) s = ap (λ (w : ℕ). count (mark w) (k .settings .n)) (late 144 (omega arith) (omega arith)) in
+        record {
+          size = l ∙ h .size;
+          terms = same-terms ∙ h .terms;
+          known = h .known;
+          own-low = omega (arith, low-same ownAt (omega arith) (λ z. omega arith), h .own-low);
+          own-high = omega (arith, low-same ownAt (omega arith) (λ z. omega arith), h .own-high);
+          kind = omega (arith, late boxedAt (omega arith) (omega arith), h .kind);
+          counts = c;
+          orderly =
+              orderly-kept (k .settings .n) (ruled .few) s t (h .orderly)
+              (still (record { rounds = λ j lo hi. low-same (roundAt j) (omega arith) (λ z. omega arith); ests = λ j lo hi. low-same (estSentAt j) (omega arith) (λ z. omega arith) }))
+              (same-grows (k .settings) ruled s t same .auxs);
+          sent = λ i lo hi m. h .sent i lo hi (ap (λ (w : ℕ). mark w i) (sym (late 144 (omega arith) (omega arith))) ∙ m);
+          turns =
+              omega (
+                arith,
+                low-same turnsAt (omega arith) (λ z. omega arith),
+                h .turns,
+                finished,
+                potential-grows (k .settings .n) s t (same-grows (k .settings) ruled s t same),
+                potential-grows (k .settings .n) t s (same-grows (k .settings) ruled t s (λ a u z. sym (same a u z))),
+              );
+        }
 
 -- what a delivery leaves
-pub record Delivered (g : Settings) (s t : List ℕ) : Type 0 where
-  pub sound : Sound g t
+pub record Delivered (k : Terms) (s t : List ℕ) : Type 0 where
+  pub sound : Sound k t
   pub count : word t turnsAt ≡ word s turnsAt
   pub kind : word t boxedAt ≡ word s boxedAt
   pub same : (a : ℕ) → Untouched a → word t a ≡ word s a
 
-module _ (g : Settings) (ruled : Ruled g) (s : List ℕ) (h : Sound g s) (link : ℕ) (b : List ℕ) where
-  accepted-sound : (m : Message) → Form (g .n) (sessionOf s .number) link b m → Delivered g s (recorded s link m (drop 12 b))
+module _ (k : Terms) (ruled : Ruled (k .settings)) (s : List ℕ) (h : Sound k s) (link : ℕ) (b : List ℕ) where
+  accepted-sound : (m : Message) → Form (k .version) (k .settings .n) (sessionOf s .number) link b m → Delivered k s (recorded s link m (drop 12 b))
   accepted-sound m f =
       record {
         sound =
-            same-sound g ruled s (recorded s link m (drop 12 b)) (λ a u z. same a u) h (length-recorded s (drop 12 b) link m)
-            (word-free s (drop 12 b) link m 141 (in-layout (g .n) link m (ruled .few) (f .link-low) (f .link-high) (f .layout)) (omega arith) (omega arith))
-            kind
-            (counts-recorded (g .n) (ruled .few) s (drop 12 b) (h .size) link (f .link-low) (f .link-high) m (f .layout) (h .counts));
+            same-sound k ruled s (recorded s link m (drop 12 b)) (λ a u z. same a u) late h (length-recorded s (drop 12 b) link m)
+            (counts-recorded (k .settings .n) (ruled .few) s (drop 12 b) (h .size) link (f .link-low) (f .link-high) m (f .layout) (h .counts));
         count = same turnsAt (inl (omega arith));
-        kind = kind;
+        kind = late boxedAt (omega arith) (omega arith);
         same = same;
       }
     where
-      kind : word (recorded s link m (drop 12 b)) boxedAt ≡ word s boxedAt
-      kind = word-free s (drop 12 b) link m boxedAt (in-layout (g .n) link m (ruled .few) (f .link-low) (f .link-high) (f .layout)) (omega arith) (omega arith)
+      late : (a : ℕ) → 141 ≤ a → a ≤ 144 → word (recorded s link m (drop 12 b)) a ≡ word s a
+      late a lo hi = word-free s (drop 12 b) link m a (in-layout (k .settings .n) link m (ruled .few) (f .link-low) (f .link-high) (f .layout)) lo hi
 
       same : (a : ℕ) → Untouched a → word (recorded s link m (drop 12 b)) a ≡ word s a
-      same a u = word-untouched s (drop 12 b) link m a (in-layout (g .n) link m (ruled .few) (f .link-low) (f .link-high) (f .layout)) u
+      same a u = word-untouched s (drop 12 b) link m a (in-layout (k .settings .n) link m (ruled .few) (f .link-low) (f .link-high) (f .layout)) u
 
-  session-settings : sessionOf s .settings ≡ g
+  session-settings : sessionOf s .settings ≡ k .settings
   unfolding sessionOf sessionWith
-  session-settings = h .settings
+  session-settings = same-settings k ruled s h
 
-  of-verdict : (v : Verdict) → verdict s link b ≡ v → Delivered g s (wordsAfter v s link b)
+  of-verdict : (v : Verdict) → verdict s link b ≡ v → Delivered k s (wordsAfter v s link b)
   unfolding wordsAfter
-  of-verdict (Refused k) e = record { sound = h; count = refl; kind = refl; same = λ a u. refl }
+  of-verdict (Refused j) e = record { sound = h; count = refl; kind = refl; same = λ a u. refl }
   of-verdict (Accepted m) e =
       accepted-sound m
-      (taken-form (g .n) (sessionOf s .number) link b m (rw session-settings at (accepting s link b m e .taken)))
+      (taken-form (k .version) (k .settings .n) (sessionOf s .number) link b m (rw (session-settings, same-version k ruled s h) at (accepting s link b m e .taken)))
 
-  pub delivery-sound : Delivered g s (delivered s link b)
+  pub delivery-sound : Delivered k s (delivered s link b)
   unfolding delivered
   delivery-sound = of-verdict (verdict s link b) refl

@@ -10,20 +10,23 @@ use borrow.Author.Tests.{eq-eqb, leb-true}
 use Rattle.quorum.specs.laws.Bools.{and-left, and-right}
 use Rattle.settings.specs.Rules.{Ruled}
 use Rattle.settings.specs.laws.Rules.{valid-rules}
+use Rattle.settings.specs.laws.Versions.{Known, version-known}
 use Rattle.settings.specs.declared.Settings.{Settings}
 use Rattle.quorum.specs.Marks.{mark}
 use Rattle.quorum.specs.laws.Marks.{mark-zero}
 use Rattle.quorum.specs.Total.{total, everyone}
-use Rattle.records.specs.Layout.{turnsAt, flagsAt, roundAt, estSentAt, estSentMark, auxSentAt, commitCountAt}
+use Rattle.records.specs.Layout.{turnsAt, flagsAt, finishSentAt, roundAt, estSentAt, estSentMark, auxSentAt, commitCountAt}
 use Rattle.records.specs.Words.{word}
 use Rattle.session.specs.Session.{numbered, settingsOf}
 use Rattle.opening.specs.Arguments.{Arguments, weightsBy, taBy, settingsBy}
 use Rattle.opening.specs.Opening.{openAnswer, openWords, opened}
 use Rattle.opening.specs.laws.Cases.{Accepted, accepted}
 use Rattle.opening.specs.laws.Given.{coins-given}
-use Rattle.opening.specs.laws.Opening.{length-first, first-n, first-ta, first-ts, first-own, first-turns, first-flags, first-weights, first-boxed, first-zero}
+use Rattle.opening.specs.laws.Opening.{length-first, first-n, first-ta, first-ts, first-own, first-turns, first-flags, first-weights, first-boxed, first-version, first-zero}
 use Rattle.turn_bound.specs.laws.Sums.{zero-count}
 use Rattle.turn_bound.specs.laws.Potential.{instancePart, potential}
+use Rattle.turn_bound.specs.TurnBound.{termsBy, termsOf}
+use Rattle.turn_bound.specs.laws.Finishes.{measure}
 use Rattle.turn_bound.specs.laws.Sound.{Sound}
 
 -- the words of a new state
@@ -31,11 +34,11 @@ module _ (o : Arguments) (few : o .n ≤ 16) where
   abbrev new : List ℕ
   new = openWords o
 
-  new-settings : settingsOf new ≡ settingsBy o
+  new-terms : termsOf new ≡ termsBy o
   unfolding settingsOf
-  new-settings = rw (first-n o, first-ta o, first-ts o, first-weights o few)
+  new-terms = rw (first-n o, first-ta o, first-ts o, first-weights o few, first-version o few)
 
-  new-zero : (k : ℕ) → 24 ≤ k → (k ≤ 142 → k < 141) → word new k ≡ 0
+  new-zero : (k : ℕ) → 24 ≤ k → (k ≤ 143 → k < 141) → word new k ≡ 0
   new-zero = first-zero o few
 
   no-est : (j p : ℕ) → 1 ≤ j → j ≤ o .n → mark (word new (estSentAt j)) p ≡ true → ⊥
@@ -62,11 +65,16 @@ module _ (o : Arguments) (few : o .n ≤ 16) where
   unfolding potential
   new-potential = omega (arith, zero-count (word new flagsAt) 3 (first-flags o), parts-zero (o .n) (omega arith))
 
-  new-sound : 1 ≤ o .own → o .own ≤ o .n → o .boxed ≤ 1 → Sound (settingsBy o) new
-  new-sound low high kind =
+  new-measure : measure (o .n) new ≡ 0
+  unfolding measure
+  new-measure = omega (arith, new-potential, zero-count (word new finishSentAt) (o .n) (new-zero finishSentAt (omega arith) (λ z. omega arith)))
+
+  new-sound : Known (o .version) → 1 ≤ o .own → o .own ≤ o .n → o .boxed ≤ 1 → Sound (termsBy o) new
+  new-sound known low high kind =
       record {
         size = length-first o;
-        settings = new-settings;
+        terms = new-terms;
+        known = known;
         own-low = rw (first-own o) low;
         own-high = rw (first-own o) high;
         kind = rw (first-boxed o few) kind;
@@ -77,7 +85,8 @@ module _ (o : Arguments) (few : o .n ≤ 16) where
               reached = λ j r b lo hi rl rh bb e. absurd (no-est j (estSentMark r b) lo hi e);
               passed = λ j r lo hi l e. absurd (omega (arith, new-zero (roundAt j) (omega arith) (λ z. omega arith)));
             };
-        turns = first-turns o ∙ sym new-potential;
+        sent = λ i lo hi e. absurd (false≢true (sym (mark-zero i) ∙ ap (λ (x : ℕ). mark x i) (sym (new-zero finishSentAt (omega arith) (λ z. omega arith))) ∙ e));
+        turns = first-turns o ∙ sym new-measure;
       }
 
 module _ (s : List ℕ) (o : Arguments) (e : openAnswer (length s) o ≡ 0) where
@@ -105,8 +114,8 @@ module _ (s : List ℕ) (o : Arguments) (e : openAnswer (length s) o ≡ 0) wher
   kind : o .boxed ≤ 1
   kind = coins-given (o .n) (o .coins) (o .boxed) (is-accepted .given) .kind
 
-  pub opened-sound : Sound g (opened s o)
-  opened-sound = rw opened-new (new-sound o (opened-ruled .few) own-low own-high kind)
+  pub opened-sound : Sound (termsBy o) (opened s o)
+  opened-sound = rw opened-new (new-sound o (opened-ruled .few) (version-known (o .version) (is-accepted .known)) own-low own-high kind)
 
   pub opened-turns : word (opened s o) turnsAt ≡ 0
   opened-turns = rw opened-new (first-turns o)

@@ -1,4 +1,5 @@
--- A measure of the state that each act raises and that is at most 99·n+3: the marks of what was sent, and the votes that have moved out of round 32.
+-- A measure of the state that each act but FINISH raises and that is at most 99·n+3: the marks of what was sent, and the votes that have moved out
+-- of round 32. FINISHes are counted beside it (Finishes).
 use Prim.Native.Nat.{ℕ, _+_, _*_, _≤_, _<_}
 use mathlib.Core.Bool.{true, false}
 use mathlib.Core.List.{List}

@@ -1,4 +1,4 @@
--- Each act that is due raises the potential.
+-- Each act that is due, but FINISH, raises the potential.
 use Prim.Native.Nat.{ℕ, _+_, _≤_, _<_}
 use mathlib.Core.Bool.{Bool, true, false, false≢true}
 use mathlib.Core.List.{List}
@@ -17,7 +17,7 @@ use Rattle.records.specs.laws.Words.{length-put, word-put-same, word-put-other,
 use Rattle.records.specs.Records.{closed, sendSent, commitSent, echoSent, readySent, estSent, auxSent, round, coin}
 use Rattle.acts.specs.Acts.{isDue}
 use Rattle.acts.specs.declared.Act.{Act}
-use Rattle.acts.specs.declared.Act.the-variants.{Idle, InForce, Commit, Send, Echo, Ready, Start, Relay, Aux, Move}
+use Rattle.acts.specs.declared.Act.the-variants.{Idle, InForce, Commit, Send, Echo, Ready, Start, Relay, Aux, Move, Finish}
 use Rattle.acts.specs.declared.View.{View}
 use Rattle.acts.specs.declared.View.the-variants.{Only, Both}
 use Rattle.votes.specs.Votes.{estimate, coinValue}
@@ -29,6 +29,20 @@ use Rattle.turn.specs.laws.Frame.{Spared, Placed, told-placed, length-counted, 
 use Rattle.turn.specs.laws.Marks.{MarkWord, keeps-applied, closed-marked, send-marked, commit-marked, echo-marked, ready-marked, relay-marked, aux-marked}
 use Rattle.turn_bound.specs.laws.Potential.{potential, Grows, Gain, flag, of-instance, echo, ready, est, aux, potential-rises}
 use Rattle.turn_bound.specs.laws.Rounds.{Still, Entry, Change, still, relayed, entry, Orderly, orderly-kept, moved-out-kept, entry-gain}
+
+-- an act that the potential measures
+abbrev pub Plain : Act → Type 0
+Plain Idle = Unit {0}
+Plain InForce = Unit {0}
+Plain (Commit k) = Unit {0}
+Plain (Send v) = Unit {0}
+Plain (Echo i v) = Unit {0}
+Plain (Ready i v) = Unit {0}
+Plain (Start i b) = Unit {0}
+Plain (Relay i r b) = Unit {0}
+Plain (Aux i r b) = Unit {0}
+Plain (Move i r v) = Unit {0}
+Plain (Finish i b) = ⊥
 
 coin-bit : (c : Bool) → coinValue c ≤ 1
 coin-bit true = omega arith
@@ -152,31 +166,33 @@ module _ (s : List ℕ) (size : length s ≡ 2048) where
           marks = relay-marks i r b (omega (arith, h .0 .high, ruled .few));
         })
     act-change (Aux i r b) h = still (spared-still (Aux i r b) (λ j lo hi. (λ e. omega (arith, h .0 .low), λ e. omega (arith, h .0 .low))))
+    act-change (Finish i b) h = still (spared-still (Finish i b) (λ j lo hi. (λ e. omega arith, λ e. omega arith)))
     act-change (Move i r v) h = entry i r (moveBit i r v) (move-entry i r v h (decLt r 32))
 
     module _ (o : Orderly (g .n) s) (unclosed : closed s ≡ false) where
       -- what is new after an act
-      act-gain : (a : Act) → isDue a ≡ true → ActTold g s a → Gain (g .n) s (applied s a)
+      act-gain : (a : Act) → isDue a ≡ true → Plain a → ActTold g s a → Gain (g .n) s (applied s a)
       unfolding closed sendSent commitSent echoSent readySent estSent auxSent marked
-      act-gain Idle d h = absurd (false≢true d)
-      act-gain InForce d h = flag 1 (omega arith) (omega arith) (record { clear = unclosed; set = closed-marked s size })
-      act-gain (Commit k) d h = flag 3 (omega arith) (omega arith) (record { clear = h .unsent; set = commit-marked s size k })
-      act-gain (Send v) d h = flag 2 (omega arith) (omega arith) (record { clear = h .unsent; set = send-marked s size v })
-      act-gain (Echo i v) d h =
+      act-gain Idle d x h = absurd (false≢true d)
+      act-gain InForce d x h = flag 1 (omega arith) (omega arith) (record { clear = unclosed; set = closed-marked s size })
+      act-gain (Commit k) d x h = flag 3 (omega arith) (omega arith) (record { clear = h .unsent; set = commit-marked s size k })
+      act-gain (Send v) d x h = flag 2 (omega arith) (omega arith) (record { clear = h .unsent; set = send-marked s size v })
+      act-gain (Echo i v) d x h =
           of-instance i (h .among .low) (h .among .high)
           (echo (record { clear = h .unsent; set = echo-marked s size i v (h .among .low) (omega (arith, h .among .high, ruled .few)) }))
-      act-gain (Ready i v) d h =
+      act-gain (Ready i v) d x h =
           of-instance i (h .among .low) (h .among .high)
           (ready (record { clear = h .unsent; set = ready-marked s size i v (h .among .low) (omega (arith, h .among .high, ruled .few)) }))
-      act-gain (Start i b) d h = of-instance i (h .0 .low) (h .0 .high) (entry-gain (g .n) (ruled .few) s (applied s (Start i b)) o i 0 b (h .0 .low) (h .0 .high) (start-entry i b h))
-      act-gain (Relay i r b) d h =
+      act-gain (Start i b) d x h = of-instance i (h .0 .low) (h .0 .high) (entry-gain (g .n) (ruled .few) s (applied s (Start i b)) o i 0 b (h .0 .low) (h .0 .high) (start-entry i b h))
+      act-gain (Relay i r b) d x h =
           of-instance i (h .0 .low) (h .0 .high)
           (est (estSentMark r b) (omega (arith, h .1 .low)) (omega (arith, h .1 .high, h .1 .bit))
           (record { clear = h .1 .unsent; set = relay-marked s size i r b (omega (arith, h .0 .high, ruled .few)) (h .1 .low) (h .1 .high) (h .1 .bit) }))
-      act-gain (Aux i r b) d h =
+      act-gain (Aux i r b) d x h =
           of-instance i (h .0 .low) (h .0 .high)
           (aux r (h .1 .low) (h .1 .high) (record { clear = h .1 .unsent; set = aux-marked s size i r b (omega (arith, h .0 .high, ruled .few)) (h .1 .low) (h .1 .high) }))
-      act-gain (Move i r v) d h =
+      act-gain (Finish i b) d x h = absurd x
+      act-gain (Move i r v) d x h =
           of-instance i (h .0 .low) (h .0 .high)
           (entry-gain (g .n) (ruled .few) s (applied s (Move i r v)) o i r (moveBit i r v) (h .0 .low) (h .0 .high) (move-entry i r v h (decLt r 32)))
 
@@ -209,9 +225,9 @@ module _ (s : List ℕ) (size : length s ≡ 2048) where
                 moved-out = moved-out-kept (g .n) (ruled .few) s (applied s a) o (act-change a h);
               }
 
-      -- every act raises the potential
-      pub act-raises : (a : Act) → isDue a ≡ true → ActTold g s a → potential (g .n) s < potential (g .n) (applied s a)
-      act-raises a d h = potential-rises (g .n) s (applied s a) (act-grows a h) (act-gain a d h)
+      -- every act but FINISH raises the potential
+      pub act-raises : (a : Act) → isDue a ≡ true → Plain a → ActTold g s a → potential (g .n) s < potential (g .n) (applied s a)
+      act-raises a d x h = potential-rises (g .n) s (applied s a) (act-grows a h) (act-gain a d x h)
 
       pub act-orderly : (a : Act) → ActTold g s a → Orderly (g .n) (applied s a)
       act-orderly a h = orderly-kept (g .n) (ruled .few) s (applied s a) o (act-change a h) (act-grows a h .auxs)

@@ -5,13 +5,13 @@ use mathlib.Core.Bool.{cond}
 use mathlib.Core.List.{List, [], _∷_}
 use lib.Dec.{eqb}
 use lib.ListN.{length}
-use Rattle.settings.specs.declared.Settings.{Settings}
-use Rattle.opening.specs.Arguments.{Arguments, settingsBy}
+use Rattle.opening.specs.Arguments.{Arguments}
 use Rattle.opening.specs.Opening.{openAnswer, opened}
 use Rattle.delivery.specs.Delivery.{delivered}
 use Rattle.recording.specs.Recording.{recordedWords}
 use Rattle.turn.specs.Turn.{turnOutcome, turnWords}
 use Rattle.journal.specs.Journal.{acts}
+use Rattle.turn_bound.specs.TurnBound.{Terms, termsBy}
 
 -- an opening, a delivery of any bytes from any link, a turn lent any bytes, a report, or a recording of any vote, round and bit
 pub data Step : Type 0 where
@@ -30,10 +30,10 @@ after s (turn out ∷ cs) = turnWords (after s cs) (length out)
 after s (report ∷ cs) = after s cs
 after s (recording i r b ∷ cs) = recordedWords (after s cs) i r b
 
--- the settings of the last accepted opening, g before any
-unfoldable pub current : Settings → List ℕ → List Step → Settings
+-- the version and the settings of the last accepted opening, g before any
+unfoldable pub current : Terms → List ℕ → List Step → Terms
 current g s [] = g
-current g s (opening o ∷ cs) = cond (eqb (openAnswer (length (after s cs)) o) 0) (settingsBy o) (current g s cs)
+current g s (opening o ∷ cs) = cond (eqb (openAnswer (length (after s cs)) o) 0) (termsBy o) (current g s cs)
 current g s (delivery link b ∷ cs) = current g s cs
 current g s (turn out ∷ cs) = current g s cs
 current g s (report ∷ cs) = current g s cs

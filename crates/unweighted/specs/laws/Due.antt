@@ -4,7 +4,8 @@ use mathlib.Core.Bool.{cond}
 use mathlib.Core.List.{List}
 use mathlib.Core.Path.{_≡_, ap, ap₂, fun-ext, _∙_}
 use lib.Dec.{eqb}
-use Rattle.records.specs.Records.{commitSent}
+use Rattle.settings.specs.Versions.{finishing}
+use Rattle.records.specs.Records.{commitSent, version}
 use Rattle.acts.specs.Acts.{firstAct}
 use Rattle.acts.specs.declared.Act.{Act}
 use Rattle.acts.specs.declared.Act.the-variants.{Idle, InForce}
@@ -16,12 +17,12 @@ use Rattle.turn.specs.Due.{orSet, commitOf}
 use Rattle.turn.specs.Due as weighted
 use Rattle.votes.specs.Votes as weighted-votes
 use Rattle.settings.specs.declared.Settings as weighted-settings
-use Rattle.unweighted.specs.Votes.{votesDecidedOne, voteAct}
+use Rattle.unweighted.specs.Votes.{votesDecidedOne, voteDue}
 use Rattle.unweighted.specs.Broadcasts.{output}
 use Rattle.unweighted.specs.Due.{inForceRule, commitDue, commitRule, votesRule, due}
 use Rattle.unweighted.specs.laws.Counts.{Ones, plain, quorum-same, repeat-same}
 use Rattle.unweighted.specs.laws.Broadcasts.{output-same, echo-rule-same, ready-rule-same}
-use Rattle.unweighted.specs.laws.Votes.{decided-same, vote-act-same}
+use Rattle.unweighted.specs.laws.Votes.{decided-same, vote-due-same}
 use Rattle.unweighted.specs.laws.Exits.{exit-now-same}
 use Rattle.unweighted.specs.laws.Commits.{leader-same, leading-set-same}
 
@@ -38,10 +39,10 @@ module _ (g : weighted-settings.Settings) (one : Ones g) (s : List ℕ) where
   unfolding weighted.commitRule commitRule
   commit-same = ap (λ (xs : List ℕ). cond (commitSent s) Idle (commitOf xs)) commit-due-same
 
-  vote-same : (i : ℕ) → weighted-votes.voteAct g s (present (weighted-broadcasts.output g s i)) (weighted-votes.votesDecidedOne g s) i ≡ voteAct (plain g) s (present (output (plain g) s i)) (votesDecidedOne (plain g) s) i
+  vote-same : (i : ℕ) → weighted-votes.voteDue g s (finishing (version s)) (present (weighted-broadcasts.output g s i)) (weighted-votes.votesDecidedOne g s) i ≡ voteDue (plain g) s (finishing (version s)) (present (output (plain g) s i)) (votesDecidedOne (plain g) s) i
   vote-same i =
-      ap₂ (λ (o : Output) (k : ℕ). weighted-votes.voteAct g s (present o) k i) (output-same g one s i) (decided-same g one s)
-      ∙ vote-act-same g one s i (present (output (plain g) s i)) (votesDecidedOne (plain g) s)
+      ap₂ (λ (o : Output) (k : ℕ). weighted-votes.voteDue g s (finishing (version s)) (present o) k i) (output-same g one s i) (decided-same g one s)
+      ∙ vote-due-same g one s i (finishing (version s)) (present (output (plain g) s i)) (votesDecidedOne (plain g) s)
 
   votes-same : weighted.votesRule g s ≡ votesRule (plain g) s
   unfolding weighted.votesRule weighted-votes.voteRule votesRule

@@ -20,7 +20,7 @@ use Rattle.journal.specs.Journal.{openNumber}
 use Rattle.journal.specs.laws.Journal.{line-taken}
 use Rattle.calls.specs.Machine.{Call, opening, delivery, turn, report, restore, recording, place, left, words, traced}
 use Rattle.calls.specs.Engine.{OpeningGiven, engine}
-use Rattle.turn_bound.specs.TurnBound.{Begun, oneMore, sessionAfter, sessionAt}
+use Rattle.turn_bound.specs.TurnBound.{Terms, termsBy, Begun, oneMore, sessionAfter, sessionAt}
 use Rattle.turn_bound.specs.laws.Opened.{opened-ruled}
 use Rattle.turn_bound.specs.laws.CallCount.{calls-going}
 use Rattle.unweighted.specs.Statement.{AllOne, Alike, GivenOnes, GivesOnes, EachGivenOnes, unweightedLeft, unweightedWords, SideBySide, AnswersAlike, Unweighted}
@@ -43,25 +43,25 @@ given-ones o e r =
 record OnesBegun (x : Option Begun) : Type 0 where
   session : Begun
   was : x ≡ some session
-  ones : Ones (session .settings)
+  ones : Ones (session .terms .settings)
 
-opening-ones : (w : List ℕ) (o : OpeningGiven) → engine .opens w o ≡ true → GivenOnes (o .given) → OnesBegun (some (record { settings = settingsBy (o .given); turns = 0 }))
+opening-ones : (w : List ℕ) (o : OpeningGiven) → engine .opens w o ≡ true → GivenOnes (o .given) → OnesBegun (some (record { terms = termsBy (o .given); turns = 0 }))
 unfolding openNumber
 opening-ones w o e h =
     let t = line-taken (openAnswer (length w) (o .given)) (o .line) (eqb-true _ 0 e) in
-    record { session = record { settings = settingsBy (o .given); turns = 0 }; was = refl; ones = given-ones (o .given) h (opened-ruled w (o .given) (t .0)) }
+    record { session = record { terms = termsBy (o .given); turns = 0 }; was = refl; ones = given-ones (o .given) h (opened-ruled w (o .given) (t .0)) }
 
 ones-after : (c : Call engine) → GivesOnes c → (w : List ℕ) (x : Option Begun) → OnesBegun x → OnesBegun (sessionAfter c w x)
 ones-after (opening p o) h w x y = of (engine .opens w o) refl
   where
-    of : (b : Bool) → engine .opens w o ≡ b → OnesBegun (cond b (some (record { settings = settingsBy (o .given); turns = 0 })) x)
+    of : (b : Bool) → engine .opens w o ≡ b → OnesBegun (cond b (some (record { terms = termsBy (o .given); turns = 0 })) x)
     of true e = opening-ones w o e h
     of false e = y
 ones-after (delivery p m b) h w x y = y
 ones-after (turn p l) h w x y = of (engine .acts w l)
   where
     of : (b : Bool) → OnesBegun (cond b (oneMore x) x)
-    of true = record { session = record { settings = y .session .settings; turns = y .session .turns + 1 }; was = ap oneMore (y .was); ones = y .ones }
+    of true = record { session = record { terms = y .session .terms; turns = y .session .turns + 1 }; was = ap oneMore (y .was); ones = y .ones }
     of false = y
 ones-after (report p r) h w x y = y
 ones-after (restore p v r) h w x y = absurd h
@@ -79,7 +79,7 @@ module _ (start : ℕ → List ℕ) (q : ℕ) where
 
   all-one : (cs : List (Call engine)) → OnesBegun (sessionAt start cs q) → AllOne (words engine start cs q)
   all-one cs y =
-      let same = calls-going start cs q (y .session) (y .was) .sound .settings in
+      let same = ap (λ (k : Terms). k .settings) (calls-going start cs q (y .session) (y .was) .sound .terms) in
       stored-one (words engine start cs q) (subst (λ (g : Settings). Ones g) (sym same) (y .ones))
 
   call-beside : (c : Call engine) (cs : List (Call engine)) → (place engine c ≡ q → GivesOnes c) → Beside cs → Beside (c ∷ cs)

@@ -12,7 +12,7 @@ use Rattle.quorum.specs.Weights.{weightOf}
 use Rattle.quorum.specs.laws.Whole.{ones-weight}
 use Rattle.settings.specs.laws.Rules.{valid-rules}
 use Rattle.settings.specs.Settings as weighted-settings
-use Rattle.records.specs.Layout.{weightsAt, boxedAt, coinAt}
+use Rattle.records.specs.Layout.{weightsAt, boxedAt, versionAt, coinAt}
 use Rattle.records.specs.Words.{put}
 use Rattle.records.specs.Words.{storeOf}
 use Rattle.opening.specs.Given.{item, weightsWord}
@@ -69,7 +69,9 @@ module _ (o : Arguments) (ones : GivenOnes o) where
   unfolding weighted.openWords weighted.withSettings withCoins openWords withSettings GivenOnes
   words-same some few =
       rw (ones, ones-named (o .n) (o .ta) (o .ts) some few)
-      (ap (λ (t : List ℕ). storeOf (item (o .coins)) (coinAt 0) t (o .n)) (put-swap _ weightsAt boxedAt (onesWord (o .n)) (o .boxed) (λ z. omega arith))
+      (ap (λ (t : List ℕ). storeOf (item (o .coins)) (coinAt 0) t (o .n))
+      (ap (λ (t : List ℕ). put t versionAt (o .version)) (put-swap _ weightsAt boxedAt (onesWord (o .n)) (o .boxed) (λ z. omega arith))
+      ∙ put-swap _ weightsAt versionAt (onesWord (o .n)) (o .version) (λ z. omega arith))
       ∙ store-put (item (o .coins)) (coinAt 0) _ weightsAt (onesWord (o .n)) (o .n) (λ j lo hi z. omega arith))
 
   module _ (s : List ℕ) where

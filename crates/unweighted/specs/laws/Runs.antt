@@ -9,7 +9,7 @@ use lib.Dec.{ltb}
 use lib.ListN.{length}
 use lib.Seq.{set-set, set-getD}
 use borrow.Author.Tests.{eqb-true, eq-eqb}
-use Rattle.records.specs.Layout.{stateWords, nAt, taAt, tsAt, ownAt, sessionAt, inputAt, weightsAt, boxedAt, coinAt}
+use Rattle.records.specs.Layout.{stateWords, nAt, taAt, tsAt, ownAt, sessionAt, inputAt, weightsAt, boxedAt, versionAt, coinAt}
 use Rattle.records.specs.Words.{word, put}
 use Rattle.records.specs.laws.Words.{length-put, word-put-other}
 use Rattle.records.specs.laws.Fill.{word-blank, store-other}
@@ -57,6 +57,7 @@ module _ (o : Arguments) where
   unfolding openWords withSettings withCoins
   words-zero few =
       store-other (item (o .coins)) (coinAt 0) _ (o .n) weightsAt (λ j lo hi z. omega arith)
+      ∙ word-put-other _ versionAt (o .version) weightsAt (λ z. omega arith)
       ∙ word-put-other _ boxedAt (o .boxed) weightsAt (λ z. omega arith)
       ∙ word-put-other _ inputAt (o .input) weightsAt (λ z. omega arith)
       ∙ word-put-other _ sessionAt (o .session) weightsAt (λ z. omega arith)

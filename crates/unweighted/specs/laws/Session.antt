@@ -2,7 +2,7 @@
 use Prim.Native.Nat.{ℕ}
 use mathlib.Core.List.{List}
 use mathlib.Core.Path.{_≡_, refl, ap, _∙_}
-use Rattle.settings.specs.Settings as weighted-settings
+use Rattle.settings.specs.Versions as weighted-versions
 use Rattle.records.specs.Layout.{nAt, taAt, tsAt, weightsAt}
 use Rattle.records.specs.Words.{word}
 use Rattle.session.specs.Session as weighted
@@ -27,7 +27,7 @@ module _ (s : List ℕ) (all : AllOne s) where
   plain-same = refl
 
   numbers-same : weighted.numbersRight (weighted.settingsOf s) s ≡ numbersRight (settingsOf s) s
-  unfolding weighted.numbersRight weighted.settingsOf weighted-settings.turnBound numbersRight settingsOf turnBound
+  unfolding weighted.numbersRight weighted.settingsOf weighted-versions.turnBound numbersRight settingsOf turnBound
   numbers-same = refl
 
   pub state-same : weighted.isState s ≡ isState s

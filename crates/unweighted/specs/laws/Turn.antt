@@ -8,7 +8,7 @@ use lib.ListN.{length}
 use Rattle.settings.specs.Refusals.{SHORT, NO-STATE, CLOSED}
 use Rattle.records.specs.Layout.{ownAt}
 use Rattle.records.specs.Words.{word}
-use Rattle.records.specs.Records.{closed}
+use Rattle.records.specs.Records.{closed, version}
 use Rattle.acts.specs.declared.Act.{Act}
 use Rattle.session.specs.Session.{sessionWith, sessionOf}
 use Rattle.session.specs.Session as weighted-session
@@ -54,7 +54,7 @@ module _ (s : List ℕ) (all : AllOne s) where
   unfolding weighted.bytesAfter sessionOf sessionWith bytesAfter sessionNumber
   after-same (outcome.Refused k) out = refl
   after-same outcome.Idle out = refl
-  after-same (outcome.Sent m) out = ap (λ (set : List ℕ). atFront (encode m (word s ownAt) (sessionNumber s) set) out) (stored-commit s all)
+  after-same (outcome.Sent m) out = ap (λ (set : List ℕ). atFront (encode m (version s) (word s ownAt) (sessionNumber s) set) out) (stored-commit s all)
   after-same outcome.MovedOut out = refl
   after-same outcome.InForce out = refl
 

@@ -1,17 +1,18 @@
 -- With all weights 1: what is due in a vote.
 use Prim.Native.Nat.{ℕ, min}
-use mathlib.Core.Bool.{Bool, _&&_}
+use mathlib.Core.Bool.{Bool, _&&_, not}
 use mathlib.Core.List.{List}
 use mathlib.Core.Path.{_≡_, ap, ap₂, fun-ext}
 use lib.Dec.{leb, ltb}
 use Rattle.settings.specs.Settings.{roundLimit}
-use Rattle.records.specs.Records.{estHeld, auxHeld, round, decidedOne}
+use Rattle.records.specs.Records.{estHeld, auxHeld, finishHeld, round, decided, decidedOne}
 use Rattle.acts.specs.Acts.{orAct, firstAct}
 use Rattle.acts.specs.declared.Act.{Act}
 use Rattle.votes.specs.Votes.{viewOf}
 use Rattle.votes.specs.Votes as weighted
+use Rattle.votes.specs.Finishing as weighted-finishing
 use Rattle.settings.specs.declared.Settings as weighted-settings
-use Rattle.unweighted.specs.Votes.{estCount, accepted, votesDecidedOne, startAct, relayValue, relayRound, relayAct, auxValue, auxAct, carries, carriers, carried, view, moveValue, moveAct, roundAct, voteAct}
+use Rattle.unweighted.specs.Votes.{estCount, accepted, votesDecidedOne, startAct, relayValue, relayRound, relayAct, auxValue, auxAct, carries, carriers, carried, view, moveValue, moveAct, roundAct, voteAct, finishCount, repeated, finishValue, finishAct, finishDecides, windingAct, voteDue}
 use Rattle.unweighted.specs.laws.Counts.{Ones, plain, counts, vote-quorum-same, relay-same, accept-same}
 
 module _ (g : weighted-settings.Settings) (one : Ones g) (s : List ℕ) where
@@ -83,3 +84,23 @@ module _ (g : weighted-settings.Settings) (one : Ones g) (s : List ℕ) where
     pub vote-act-same : (hasOutput : Bool) (ones : ℕ) → weighted.voteAct g s hasOutput ones i ≡ voteAct (plain g) s hasOutput ones i
     unfolding weighted.voteAct voteAct
     vote-act-same hasOutput ones = rw (start-same hasOutput ones, relay-act-same, round-act-same)
+
+    finish-same : (b : ℕ) → weighted-finishing.finishCount g s i b ≡ finishCount (plain g) s i b
+    unfolding weighted-finishing.finishCount finishCount
+    finish-same b = counts g one (finishHeld s i b)
+
+    repeated-same : (b : ℕ) → weighted-finishing.repeated g s i b ≡ repeated (plain g) s i b
+    unfolding weighted-finishing.repeated repeated
+    repeated-same b = ap₂ leb (relay-same g) (finish-same b)
+
+    finish-act-same : weighted-finishing.finishAct g s i ≡ finishAct (plain g) s i
+    unfolding weighted-finishing.finishAct weighted-finishing.finishValue weighted-finishing.finishRepeated finishAct finishValue
+    finish-act-same = rw (repeated-same 0, repeated-same 1)
+
+    pub finish-decides-same : (b : ℕ) → weighted-finishing.finishDecides g s i b ≡ finishDecides (plain g) s i b
+    unfolding weighted-finishing.finishDecides finishDecides
+    finish-decides-same b = ap₂ (λ (k c : ℕ). not (decided s i) && leb k c) (accept-same g) (finish-same b)
+
+    pub vote-due-same : (finishes hasOutput : Bool) (ones : ℕ) → weighted.voteDue g s finishes hasOutput ones i ≡ voteDue (plain g) s finishes hasOutput ones i
+    unfolding weighted.voteDue weighted.windingAct voteDue windingAct
+    vote-due-same finishes hasOutput ones = rw (finish-act-same, vote-act-same hasOutput ones)

@@ -8,23 +8,23 @@ use lib.ListN.{drop}
 use Rattle.settings.specs.Refusals.{NO-STATE, CLOSED, HELD}
 use Rattle.records.specs.Layout.{nAt, weightsAt}
 use Rattle.records.specs.Words.{word, put}
-use Rattle.records.specs.Records.{closed}
+use Rattle.records.specs.Records.{closed, version}
 use Rattle.wire.specs.Reading.{readMessage}
 use Rattle.wire.specs.declared.Message.{Message}
 use Rattle.wire.specs.declared.Message.the-variants as message
 use Rattle.wire.specs.declared.Parsed.{Parsed}
 use Rattle.wire.specs.declared.Parsed.the-variants as parsed
 use Rattle.wire_laws.proofs.Converse.{taken-form}
-use Rattle.delivery.specs.Delivery.{placeHeld, judged, answerOf, wordsAfter}
+use Rattle.delivery.specs.Delivery.{placeHeld, judged, answerOf}
 use Rattle.delivery.specs.laws.Frame.{InLayout}
 use Rattle.delivery.specs.laws.Kept.{in-layout}
 use Rattle.delivery.specs.declared.Verdict.{Verdict}
 use Rattle.delivery.specs.declared.Verdict.the-variants as verdicts
 use Rattle.unweighted.specs.Session.{sessionNumber, isState}
-use Rattle.unweighted.specs.Delivery.{verdict, deliverAnswer, delivered}
-use Rattle.unweighted.specs.laws.apart.Records.{word-apart, closed-apart, send-held-apart, echo-held-apart, ready-held-apart, est-held-apart, aux-held-apart, commit-held-apart}
+use Rattle.unweighted.specs.Delivery.{verdict, wordsAfter, deliverAnswer, delivered}
+use Rattle.unweighted.specs.laws.apart.Records.{word-apart, version-apart, closed-apart, finish-held-apart, send-held-apart, echo-held-apart, ready-held-apart, est-held-apart, aux-held-apart, commit-held-apart}
 use Rattle.unweighted.specs.laws.apart.Stores.{recorded-apart}
-use Rattle.unweighted.specs.laws.apart.Session.{number-apart, state-apart, few-held}
+use Rattle.unweighted.specs.laws.apart.Session.{number-apart, state-apart, state-held, few-held}
 
 module _ (s : List ℕ) (x link : ℕ) (b : List ℕ) where
   abbrev t : List ℕ
@@ -38,19 +38,20 @@ module _ (s : List ℕ) (x link : ℕ) (b : List ℕ) where
   place-apart (message.Est i r v) l = rw (est-held-apart s x i r v)
   place-apart (message.Aux i r v) l = rw (aux-held-apart s x i r 0, aux-held-apart s x i r 1)
   place-apart (message.Commit k) l = commit-held-apart s x link (l .1)
+  place-apart (message.Finish i v) l = rw (finish-held-apart s x i 0, finish-held-apart s x i 1)
 
   abbrev read : Parsed
-  read = readMessage (word s nAt) (sessionNumber s) link b
+  read = readMessage (version s) (word s nAt) (sessionNumber s) link b
 
   laid : isState s ≡ true → (m : Message) → read ≡ parsed.Taken m → InLayout link m
   laid e m f =
-      let form = taken-form (word s nAt) (sessionNumber s) link b m f in
+      let form = taken-form (version s) (word s nAt) (sessionNumber s) link b m f in
       in-layout (word s nAt) link m (few-held s e) (form .link-low) (form .link-high) (form .layout)
 
   verdict-apart : verdict t link b ≡ verdict s link b
   unfolding verdict judged
   verdict-apart =
-      rw (state-apart s x, closed-apart s x, word-apart s x nAt (λ e. omega arith), number-apart s x)
+      rw (state-apart s x, closed-apart s x, version-apart s x, word-apart s x nAt (λ e. omega arith), number-apart s x)
       (at (isState s) refl)
     where
       of : isState s ≡ true → (y : Parsed) → read ≡ y → judged t link y ≡ judged s link y
@@ -69,13 +70,13 @@ module _ (s : List ℕ) (x link : ℕ) (b : List ℕ) where
   unfolding verdict judged wordsAfter
   words-apart = at (isState s) refl (closed s)
     where
-      place : (m : Message) → InLayout link m → (p : Bool) → wordsAfter (cond p (verdicts.Refused HELD) (verdicts.Accepted m)) t link b ≡ put (wordsAfter (cond p (verdicts.Refused HELD) (verdicts.Accepted m)) s link b) weightsAt x
-      place m l true = refl
-      place m l false = recorded-apart x s (drop 12 b) link m l
+      place : isState s ≡ true → (m : Message) → InLayout link m → (p : Bool) → wordsAfter (cond p (verdicts.Refused HELD) (verdicts.Accepted m)) t link b ≡ put (wordsAfter (cond p (verdicts.Refused HELD) (verdicts.Accepted m)) s link b) weightsAt x
+      place e m l true = refl
+      place e m l false = recorded-apart x s (drop 12 b) link m (state-held s e .few) l
 
       of : isState s ≡ true → (y : Parsed) → read ≡ y → wordsAfter (judged s link y) t link b ≡ put (wordsAfter (judged s link y) s link b) weightsAt x
       of e (parsed.Refused k) f = refl
-      of e (parsed.Taken m) f = place m (laid e m f) (placeHeld s link m)
+      of e (parsed.Taken m) f = place e m (laid e m f) (placeHeld s link m)
 
       judge : Bool → Bool → Verdict
       judge c d = cond (not c) (verdicts.Refused NO-STATE) (cond d (verdicts.Refused CLOSED) (judged s link read))

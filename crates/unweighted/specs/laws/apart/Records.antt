@@ -10,10 +10,10 @@ use lib.ListN.{take}
 use lib.Seq.{drop-set-lt}
 use Rattle.quorum.specs.Every.{every}
 use Rattle.quorum.specs.Marks.{mark}
-use Rattle.records.specs.Layout.{weightsAt, flagsAt, closedMark, sendSentMark, commitSentMark, echoSentAt, readySentAt, decidedZeroAt, decidedOneAt, sendMarksAt, boxedAt, coinAt, zeroMark, roundAt, estSentAt, estSentMark, auxSentAt, sendValueAt, echoMarksAt, readyMarksAt, echoValueAt, readyValueAt, commitCountAt, commitValueAt, voteAt, estMark, auxMark}
+use Rattle.records.specs.Layout.{weightsAt, flagsAt, closedMark, sendSentMark, commitSentMark, echoSentAt, readySentAt, finishSentAt, versionAt, finishMarksAt, finishMark, decidedZeroAt, decidedOneAt, sendMarksAt, boxedAt, coinAt, zeroMark, roundAt, estSentAt, estSentMark, auxSentAt, sendValueAt, echoMarksAt, readyMarksAt, echoValueAt, readyValueAt, commitCountAt, commitValueAt, voteAt, estMark, auxMark}
 use Rattle.records.specs.Words.{word, put, marked}
 use Rattle.records.specs.laws.Words.{word-put-other}
-use Rattle.records.specs.Records.{closed, sendSent, commitSent, echoSent, readySent, sendHeld, sendValue, echoHeld, echoValue, readyHeld, readyValue, estHeld, auxHeld, coin, printed, coinRecorded, coinKnown, round, estSent, auxSent, decidedZero, decidedOne, decided, commitCount, commitValue, commitSet}
+use Rattle.records.specs.Records.{closed, sendSent, commitSent, echoSent, readySent, sendHeld, sendValue, echoHeld, echoValue, readyHeld, readyValue, estHeld, auxHeld, finishHeld, finishSent, version, coin, printed, coinRecorded, coinKnown, round, estSent, auxSent, decidedZero, decidedOne, decided, commitCount, commitValue, commitSet}
 use Rattle.commits.specs.Commits.{commitHeld, sameSet}
 
 module _ (s : List ℕ) (x : ℕ) where
@@ -47,6 +47,17 @@ module _ (s : List ℕ) (x : ℕ) where
   pub ready-sent-apart : (i : ℕ) → readySent t i ≡ readySent s i
   unfolding readySent
   ready-sent-apart i = mark-apart readySentAt i (λ e. omega arith)
+
+  pub finish-sent-apart : (i : ℕ) → finishSent t i ≡ finishSent s i
+  unfolding finishSent
+  finish-sent-apart i = mark-apart finishSentAt i (λ e. omega arith)
+
+  pub version-apart : version t ≡ version s
+  version-apart = word-apart versionAt (λ e. omega arith)
+
+  pub finish-held-apart : (i b : ℕ) → finishHeld t i b ≡ finishHeld s i b
+  unfolding finishHeld
+  finish-held-apart i b = fun-ext (λ p. mark-apart (finishMarksAt i) (finishMark b p) (λ e. omega arith))
 
   pub send-held-apart : (i : ℕ) → sendHeld t i ≡ sendHeld s i
   unfolding sendHeld

@@ -12,7 +12,7 @@ use Rattle.settings.specs.Settings.{roundLimit}
 use Rattle.settings.specs.declared.Settings as weighted-settings
 use Rattle.records.specs.Layout.{weightsAt, inputAt}
 use Rattle.records.specs.Words.{put}
-use Rattle.records.specs.Records.{round, decidedZero, decidedOne}
+use Rattle.records.specs.Records.{round, decidedZero, decidedOne, version}
 use Rattle.acts.specs.Acts.{orAct, firstAct}
 use Rattle.acts.specs.declared.Act.{Act}
 use Rattle.acts.specs.declared.Act.the-variants.{Idle}
@@ -20,19 +20,22 @@ use Rattle.broadcasts.specs.Broadcasts.{echoAct}
 use Rattle.broadcasts.specs.Leading.{present}
 use Rattle.broadcasts.specs.declared.Output.{Output}
 use Rattle.votes.specs.Votes.{running}
+use Rattle.votes.specs.Finishing.{finished}
+use Rattle.settings.specs.Versions.{finishing}
 use Rattle.exits.specs.Exits.{Exit}
 use Rattle.exits.specs.laws.Exits.{exit-agree}
 use Rattle.commits.specs.Commits.{setOf}
 use Rattle.turn.specs.Due.{orSet, sendRule}
 use Rattle.unweighted.specs.Settings.{Settings}
 use Rattle.unweighted.specs.Broadcasts.{output, readyDue, readyAct, echoRule, readyRule}
-use Rattle.unweighted.specs.Votes.{estCount, accepted, votesDecidedOne, startAct, relayValue, relayRound, relayAct, auxValue, auxAct, carries, carriers, carried, view, moveValue, moveAct, roundAct, voteAct}
+use Rattle.unweighted.specs.Votes.{estCount, accepted, votesDecidedOne, startAct, relayValue, relayRound, relayAct, auxValue, auxAct, carries, carriers, carried, view, moveValue, moveAct, roundAct, voteAct, finishCount, repeated, finishValue, finishAct, finishDecides, windingAct, voteDue}
 use Rattle.unweighted.specs.Exits.{exitOf, exitNow}
 use Rattle.unweighted.specs.Commits.{setHolders, setLeads, setLeader, leadingSet}
 use Rattle.unweighted.specs.Due.{inForceRule, commitDue, commitRule, votesRule, due}
 use Rattle.unweighted.specs.laws.Counts.{Ones}
 use Rattle.unweighted.specs.laws.Exits.{exit-same}
-use Rattle.unweighted.specs.laws.apart.Records.{word-apart, send-sent-apart, commit-sent-apart, echo-sent-apart, ready-sent-apart, send-held-apart, zero-apart, one-apart, est-held-apart, aux-held-apart, echo-value-apart, ready-value-apart, send-value-apart, echo-held-apart, ready-held-apart, round-apart, est-sent-apart, aux-sent-apart, coin-known-apart, commit-held-apart, commit-set-apart, same-set-apart}
+use Rattle.unweighted.specs.laws.apart.Records.{word-apart, send-sent-apart, commit-sent-apart, echo-sent-apart, ready-sent-apart, send-held-apart, finish-sent-apart, version-apart, finish-held-apart, zero-apart, one-apart, est-held-apart, aux-held-apart, echo-value-apart, ready-value-apart, send-value-apart, echo-held-apart, ready-held-apart, round-apart, est-sent-apart, aux-sent-apart, coin-known-apart, commit-held-apart, commit-set-apart, same-set-apart}
+use Rattle.unweighted.specs.laws.apart.Records as records
 use Rattle.acts.specs.laws.First.{first-agree}
 
 -- outputs that agree on 1 to n give the same exit: it is that of settings in which each of 1 to n weighs 1
@@ -124,6 +127,30 @@ module _ (g : Settings) (few : g .n ≤ 16) (s : List ℕ) (x : ℕ) where
     unfolding voteAct
     vote-act-apart hasOutput decidedOnes = rw (start-apart hasOutput decidedOnes, relay-act-apart, round-act-apart)
 
+    finish-count-apart : (b : ℕ) → finishCount g t i b ≡ finishCount g s i b
+    unfolding finishCount
+    finish-count-apart b = rw (finish-held-apart s x i b)
+
+    repeated-apart : (b : ℕ) → repeated g t i b ≡ repeated g s i b
+    unfolding repeated
+    repeated-apart b = rw (finish-count-apart b)
+
+    finish-act-apart : finishAct g t i ≡ finishAct g s i
+    unfolding finishAct finishValue
+    finish-act-apart = rw (finish-sent-apart s x i, zero-apart s x, one-apart s x, repeated-apart 0, repeated-apart 1)
+
+    finished-apart : finished t i ≡ finished s i
+    unfolding finished
+    finished-apart = rw (finish-sent-apart s x i, records.decided-apart s x i)
+
+    pub finish-decides-apart : (b : ℕ) → finishDecides g t i b ≡ finishDecides g s i b
+    unfolding finishDecides
+    finish-decides-apart b = rw (records.decided-apart s x i, finish-count-apart b)
+
+    vote-due-apart : (hasOutput : Bool) (decidedOnes : ℕ) → voteDue g t (finishing (version t)) hasOutput decidedOnes i ≡ voteDue g s (finishing (version s)) hasOutput decidedOnes i
+    unfolding voteDue windingAct
+    vote-due-apart hasOutput decidedOnes = rw (version-apart s x, finish-act-apart, finished-apart, vote-act-apart hasOutput decidedOnes)
+
   -- ---- the sets that COMMITs hold
   holders-apart : (p : ℕ) → p ≤ 16 → setHolders t (g .n) p ≡ setHolders s (g .n) p
   unfolding setHolders
@@ -182,10 +209,10 @@ module _ (g : Settings) (few : g .n ≤ 16) (s : List ℕ) (x : ℕ) where
   unfolding votesDecidedOne
   decided-apart = rw (one-apart s x)
 
-  vote-apart : (i : ℕ) → i ≤ 16 → voteAct g t (present (output g t i)) (votesDecidedOne g t) i ≡ voteAct g s (present (output g s i)) (votesDecidedOne g s) i
+  vote-apart : (i : ℕ) → i ≤ 16 → voteDue g t (finishing (version t)) (present (output g t i)) (votesDecidedOne g t) i ≡ voteDue g s (finishing (version s)) (present (output g s i)) (votesDecidedOne g s) i
   vote-apart i high =
-      ap₂ (λ (o : Output) (k : ℕ). voteAct g t (present o) k i) (output-apart i high) decided-apart
-      ∙ vote-act-apart i high (present (output g s i)) (votesDecidedOne g s)
+      ap₂ (λ (o : Output) (k : ℕ). voteDue g t (finishing (version t)) (present o) k i) (output-apart i high) decided-apart
+      ∙ vote-due-apart i high (present (output g s i)) (votesDecidedOne g s)
 
   votes-apart : votesRule g t ≡ votesRule g s
   unfolding votesRule

@@ -28,7 +28,7 @@ use Rattle.unweighted.specs.Due.{due}
 use Rattle.unweighted.specs.Turn.{dueIn}
 use Rattle.unweighted.specs.Statement.{AllOne}
 use Rattle.unweighted.specs.laws.Session.{state-same, stored-due}
-use Rattle.unweighted.specs.laws.apart.Records.{word-apart}
+use Rattle.unweighted.specs.laws.apart.Records.{word-apart, version-apart}
 use Rattle.unweighted.specs.laws.apart.Rules.{due-apart}
 
 module _ (s : List ℕ) (x : ℕ) where
@@ -49,6 +49,7 @@ module _ (s : List ℕ) (x : ℕ) where
       rw (
         word-apart s x ownAt (λ e. omega arith),
         word-apart s x boxedAt (λ e. omega arith),
+        version-apart s x,
         word-apart s x turnsAt (λ e. omega arith),
         every-agree (λ i. leb (word t (roundAt i)) 33) (λ i. leb (word s (roundAt i)) 33) (g .n) (λ i lo hi. rw (word-apart s x (roundAt i) (λ e. omega arith))),
         every-agree (λ p. leb (word t (commitCountAt p)) (g .n)) (λ p. leb (word s (commitCountAt p)) (g .n)) (g .n) (λ p lo hi. rw (word-apart s x (commitCountAt p) (λ e. omega arith))),

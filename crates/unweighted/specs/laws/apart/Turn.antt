@@ -20,7 +20,7 @@ use Rattle.unweighted.specs.Settings.{Settings}
 use Rattle.unweighted.specs.Session.{settingsOf, isState}
 use Rattle.unweighted.specs.Due.{due}
 use Rattle.unweighted.specs.Turn.{dueIn, outcomeIn, bytesAfter, taking, turnOutcome, turnWords, turnBytes}
-use Rattle.unweighted.specs.laws.apart.Records.{word-apart, closed-apart, coin-apart}
+use Rattle.unweighted.specs.laws.apart.Records.{version-apart, word-apart, closed-apart, coin-apart}
 use Rattle.unweighted.specs.laws.apart.Rules.{commit-due-apart, due-apart}
 use Rattle.unweighted.specs.laws.apart.Stores.{applied-apart}
 use Rattle.unweighted.specs.laws.apart.Session.{settings-apart, number-apart, state-apart, state-held, due-placed}
@@ -56,6 +56,7 @@ module _ (s : List ℕ) (x : ℕ) where
   outcome-of-apart own (act.Relay i r b) l = refl
   outcome-of-apart own (act.Aux i r b) l = refl
   outcome-of-apart own (act.Move i r v) l = rw (coin-apart s x i (l .1) r)
+  outcome-of-apart own (act.Finish i b) l = refl
 
   outcome-in-apart : isState s ≡ true → outcomeIn t ≡ outcomeIn s
   unfolding outcomeIn
@@ -66,7 +67,7 @@ module _ (s : List ℕ) (x : ℕ) where
   after-apart e (outcome.Refused k) out = refl
   after-apart e outcome.Idle out = refl
   after-apart e (outcome.Sent m) out =
-      rw (word-apart s x ownAt (λ z. omega arith), number-apart s x, settings-apart s x, commit-due-apart (settingsOf s) (state-held s e .few) s x)
+      rw (word-apart s x ownAt (λ z. omega arith), version-apart s x, number-apart s x, settings-apart s x, commit-due-apart (settingsOf s) (state-held s e .few) s x)
   after-apart e outcome.MovedOut out = refl
   after-apart e outcome.InForce out = refl
 
