@@ -15,7 +15,7 @@ use Rattle.settings.specs.declared.Settings.{Settings}
 use Rattle.agreement.specs.Evidence.{World, whole, Honest, Backed}
 
 -- what a turn does: SEND of the input, ECHO and READY of an instance and a value, a start with a value, relay and AUX of a vote, a round
--- and a value, a move out of a round with what its AUXs carry, and COMMIT of a set
+-- and a value, a move out of a round with what its AUXs carry, COMMIT of a set, and, in version 2, FINISH of a vote and a value
 pub data Act : Type 0 where
   send : ℕ → Act
   echo ready : ℕ → ℕ → Act
@@ -23,6 +23,7 @@ pub data Act : Type 0 where
   relay aux : ℕ → ℕ → ℕ → Act
   move : ℕ → ℕ → View → Act
   commit : List ℕ → Act
+  finish : ℕ → ℕ → Act
 
 pub data Event : Type 0 where
   by : ℕ → Act → Event
@@ -88,9 +89,10 @@ module _ (W : World) where
     pub coin : b ≡ coinValue (W .coin i round)
     pub move : Did h m (move i round (Only b))
 
-  -- vote i is decided b at p
+  -- vote i is decided b at p: by a move of its own or, in version 2, by FINISHes that reach the accept threshold
   pub data Decided (h : History) (p i b : ℕ) : Type 0 where
     by-move : Deciding h i b p → Decided h p i b
+    by-finish : Backed W (2 * ta + 1) 0 (λ m. Did h m (finish i b)) → Decided h p i b
 
   -- a broadcast has output v where READYs of v are a quorum (PROTOCOL 4.3)
   abbrev pub Delivers : History → ℕ → ℕ → Type 0
@@ -134,6 +136,8 @@ module _ (W : World) (G : ℕ → Act → Type 0) where
   Guard h p (move i r v) = Moving h i r v
   -- the named set, or else one whose COMMITs reach the repeat threshold (PROTOCOL 7.2)
   Guard h p (commit X) = Naming W h X p ⊎ Backed W (ts W + 1) 0 (λ m. Did h m (commit X))
+  -- the decided value where a decision stands, or else one whose FINISHes reach the relay threshold
+  Guard h p (finish i b) = Decided W h p i b ⊎ Backed W (ta W + 1) 0 (λ m. Did h m (finish i b))
 
   abbrev pub Allowed : History → Event → Type 0
   Allowed h (by p a) = Guard h p a

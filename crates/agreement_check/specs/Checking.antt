@@ -112,14 +112,15 @@ sentBy w l = sentIn (turnedOutcome w (length (l .message)) (l .line)) (turnedMes
 
 unfoldable pub sameSession : Agreed → Agreed → Bool
 sameSession a b =
-    eqb (a .settings .n) (b .settings .n)
+    eqb (a .version) (b .version)
+    && (eqb (a .settings .n) (b .settings .n)
     && (eqb (a .settings .ta) (b .settings .ta)
     && (eqb (a .settings .ts) (b .settings .ts)
     && (eqb (a .settings .whole) (b .settings .whole)
     && (eqb (a .settings .weights) (b .settings .weights)
     && (eqb (a .number) (b .number)
     && (sameList (a .coins) (b .coins)
-    && eqb (a .boxed) (b .boxed)))))))
+    && eqb (a .boxed) (b .boxed))))))))
 
 -- an opening of 2,048 words is accepted
 unfoldable pub opens : OpeningGiven → Bool

@@ -162,3 +162,4 @@ module _ (o : OpeningGiven) (H : ℕ → Bool) (κ : ℕ → ℕ → Bool) (w : 
         numbered : (i : ℕ) → 1 ≤ i → i ≤ g .n → Numbered i
         numbered i low high = record { low = low; high = omega (arith, ruled .few) }
     shown-acted (act.Move j q v) h = plain g (act.Move j q v) _ (told-placed g w ruled (act.Move j q v) h) (λ i r u e. let same : j ≡ i = cc in let same-round : q ≡ r = cc in let same-view : v ≡ u = cc in (rw (same, same-round, same-view), rw (← same, ← same-round, ← same-view) (h .1))) (λ i u e. let z : _≡_ {A = ℕ} 0 1 = cc in omega arith) (λ i r c e. let z : _≡_ {A = ℕ} 0 1 = cc in omega arith)
+    shown-acted (act.Finish j b) h = plain g (act.Finish j b) _ (told-placed g w ruled (act.Finish j b) h) (λ i r v e. absurd (let z : _≡_ {A = ℕ} 0 1 = cc in omega arith)) (λ i v e. let z : _≡_ {A = ℕ} 0 1 = cc in omega arith) (λ i r c e. let z : _≡_ {A = ℕ} 0 1 = cc in omega arith)

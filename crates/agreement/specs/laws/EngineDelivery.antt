@@ -1,16 +1,17 @@
 -- The engine keeps the laws of delivery: a refused one leaves the words; after an accepted one they belong to the session as before, and
--- hold at most one message more, which is what the bytes say. Bytes say one message.
+-- hold at most one message more, which is what the bytes say; what is newly decided has its FINISHes. Bytes say one message.
 use Prim.Native.Nat.{ℕ, _≤_, _<_, _%_, _^_}
 use mathlib.Core.Bool.{Bool, true, false}
 use mathlib.Core.List.{List}
-use mathlib.Core.Logic.{inl, inr}
+use mathlib.Core.Logic.{_⊎_, inl, inr}
 use mathlib.Core.Path.{_≡_, refl, sym, ap, subst, _∙_}
 use native.Mathlib.Omega.{arith}
 use native.Mathlib.Nat.{mod-eq-of-lt}
 use lib.ListN.{length, drop}
 use borrow.Author.Tests.{eqb-true, eqb-false}
 use Rattle.quorum.specs.Marks.{mark}
-use Rattle.records.specs.Layout.{nAt, taAt, tsAt, ownAt, sessionAt, inputAt, weightsAt, boxedAt, coinAt, auxSentAt, echoSentAt, decidedZeroAt, decidedOneAt}
+use Rattle.settings.specs.declared.Settings.{Settings}
+use Rattle.records.specs.Layout.{nAt, taAt, tsAt, ownAt, sessionAt, inputAt, weightsAt, boxedAt, versionAt, coinAt, auxSentAt, echoSentAt}
 use Rattle.records.specs.Records.{commitSet, echoSent, auxSent, decidedZero, decidedOne}
 use Rattle.records.specs.Words.{word, marked}
 use Rattle.commits.specs.laws.Sets.{set-length}
@@ -33,14 +34,17 @@ use Rattle.delivery.specs.laws.Frame.{InLayout, length-recorded}
 use Rattle.delivery.specs.laws.Kept.{in-layout, SetAfter, before, now, set-after, Untouched, word-untouched, word-free, ValueFits, fit-recorded}
 use Rattle.journal.specs.Journal.{LINE-BYTES, deliverNumber, deliveredWords}
 use Rattle.journal.specs.laws.Journal.{line-taken, line-words, line-stays}
+use Rattle.agreement.specs.Evidence.{World}
 use Rattle.agreement.specs.History.{Decision, zero, one}
 use Rattle.held.specs.laws.Held.{Message, meaning}
 use Rattle.held.specs.laws.Recording.{held-recorded}
-use Rattle.agreement.specs.laws.Runs.{Delivered, CoinsStay}
+use Rattle.held.specs.laws.Deciding.{Finishes, decided-came}
+use Rattle.agreement.specs.laws.Thresholds.{by-accept}
+use Rattle.agreement.specs.laws.Runs.{Finished, Delivered, CoinsStay}
 use Rattle.calls.specs.Engine.{OpeningGiven, Agreed, Bytes, engine}
 use Rattle.agreement.specs.laws.Machine.{at, Delivery}
 use Rattle.agreement.specs.laws.EngineSeen.{engineSeen, coins-stay}
-use Rattle.agreement.specs.laws.EngineReading.{Belongs, Sets, Belonging, Says, engineReading}
+use Rattle.agreement.specs.laws.EngineReading.{Belongs, settings-same, Sets, Belonging, Says, engineReading}
 
 -- the values of a message that is taken have 64 bits
 value-fits : (m : wire-message.Message) (xs v : List ℕ) → Fitting (valuesOf m xs) → ((j : ℕ) → valueAt v j < 2 ^ 64) → ValueFits m v
@@ -50,6 +54,7 @@ value-fits (wire.Ready i x) xs v f all = f .0
 value-fits (wire.Est i r b) xs v f all = tt
 value-fits (wire.Aux i r b) xs v f all = tt
 value-fits (wire.Commit k) xs v f all = all
+value-fits (wire.Finish i b) xs v f all = tt
 
 -- ---- a message recorded in words of a session
 
@@ -60,6 +65,7 @@ module _ (o : OpeningGiven) (w : List ℕ) (B : Belongs o w) (v : List ℕ) (p :
   recorded-belongs : ValueFits m v → Belongs o (recorded w p m v)
   recorded-belongs f =
       record {
+        known = B .known;
         ruled = B .ruled;
         own-low = B .own-low;
         own-high = B .own-high;
@@ -70,6 +76,7 @@ module _ (o : OpeningGiven) (w : List ℕ) (B : Belongs o w) (v : List ℕ) (p :
         is-ts = same tsAt (inl (omega arith)) ∙ B .is-ts;
         is-weights = word-free w v p m weightsAt h (omega arith) (omega arith) ∙ B .is-weights;
         is-boxed = word-free w v p m boxedAt h (omega arith) (omega arith) ∙ B .is-boxed;
+        is-version = word-free w v p m versionAt h (omega arith) (omega arith) ∙ B .is-version;
         is-own = same ownAt (inl (omega arith)) ∙ B .is-own;
         is-session = same sessionAt (inl (omega arith)) ∙ B .is-session;
         is-input = same inputAt (inl (omega arith)) ∙ B .is-input;
@@ -110,51 +117,71 @@ module _ (o : OpeningGiven) (w : List ℕ) (B : Belongs o w) (v : List ℕ) (p :
       right : (k : ℕ) → 1 ≤ k → k ≤ o .given .n → Right (commitSet (recorded w p m v) k)
       right k lo hi = of k lo hi (set-after w v p m k (B .size) h lo (small k hi))
 
-  -- marks of what was sent and decided stay
+  -- marks of what was sent stay
   same-mark : (a j : ℕ) → Untouched a → marked (recorded w p m v) a j ≡ marked w a j
   unfolding marked
   same-mark a j u = ap (λ (x : ℕ). mark x j) (same a u)
 
-  recorded-decided : (i b : ℕ) → Decision (engineSeen .standing (recorded w p m v)) i b → Decision (engineSeen .standing w) i b
-  unfolding decidedZero decidedOne
-  recorded-decided i b (zero e) = zero (sym (same-mark decidedZeroAt i (inr (omega arith, omega arith))) ∙ e)
-  recorded-decided i b (one e) = one (sym (same-mark decidedOneAt i (inr (omega arith, omega arith))) ∙ e)
+  module _ (H : ℕ → Bool) (κ : ℕ → ℕ → Bool) where
+    abbrev W : World
+    W = at engine engineReading H κ o
 
-  recorded-delivered : (H : ℕ → Bool) (κ : ℕ → ℕ → Bool) → placeHeld w p m ≡ false → Delivered (at engine engineReading H κ o) engineSeen w (recorded w p m v) p (meaning m (values (countOf m) v))
-  unfolding echoSent auxSent
-  recorded-delivered H κ free =
-      record {
-        held = λ k y lo hi x. held-recorded w v p m (B .size) h free k (record { low = lo; high = omega (arith, B .ruled .few) }) y x;
-        echoed = λ i e. same-mark echoSentAt i (inr (omega arith, omega arith)) ∙ e;
-        auxed = λ i r x. (x .0, same-mark (auxSentAt i) r (inl (omega (arith, x .0 .high))) ∙ x .1);
-        decs = λ i b lo hi d. inl (recorded-decided i b d);
-      }
+    -- FINISHes that reach the threshold of the words reach that of the session
+    finished : (i b : ℕ) → Finishes (settingsOf w) (recorded w p m v) i b → Finished W engineSeen (recorded w p m v) i b
+    finished i b f =
+        let g = subst (λ (y : Settings). Finishes y (recorded w p m v) i b) (settings-same o w B) f in
+        by-accept W (B .ruled) (g .senders) (λ k lo hi t. g .held k t) (g .enough)
+
+    -- what is newly decided has its FINISHes
+    recorded-decided : (i b : ℕ) → Decision (engineSeen .standing (recorded w p m v)) i b → Decision (engineSeen .standing w) i b ⊎ Finished W engineSeen (recorded w p m v) i b
+    unfolding decidedZero decidedOne
+    recorded-decided i b (zero e) = of (decided-came w v p (B .size) i true m h e)
+      where
+        of : (decidedZero w i ≡ true) ⊎ Finishes (settingsOf w) (recorded w p m v) i 0 → Decision (engineSeen .standing w) i 0 ⊎ Finished W engineSeen (recorded w p m v) i 0
+        of (inl d) = inl (zero d)
+        of (inr f) = inr (finished i 0 f)
+    recorded-decided i b (one e) = of (decided-came w v p (B .size) i false m h e)
+      where
+        of : (decidedOne w i ≡ true) ⊎ Finishes (settingsOf w) (recorded w p m v) i 1 → Decision (engineSeen .standing w) i 1 ⊎ Finished W engineSeen (recorded w p m v) i 1
+        of (inl d) = inl (one d)
+        of (inr f) = inr (finished i 1 f)
+
+    recorded-delivered : placeHeld w p m ≡ false → Delivered W engineSeen w (recorded w p m v) p (meaning m (values (countOf m) v))
+    unfolding echoSent auxSent
+    recorded-delivered free =
+        record {
+          held = λ k y lo hi x. held-recorded w v p m (B .size) h free k (record { low = lo; high = omega (arith, B .ruled .few) }) y x;
+          echoed = λ i e. same-mark echoSentAt i (inr (omega arith, omega arith)) ∙ e;
+          auxed = λ i r x. (x .0, same-mark (auxSentAt i) r (inl (omega (arith, x .0 .high))) ∙ x .1);
+          decs = λ i b lo hi d. recorded-decided i b d;
+        }
 
 -- ---- an accepted delivery
 
 module _ (o : OpeningGiven) (w : List ℕ) (B : Belongs o w) (S : Sets o w) (p : ℕ) (b : Bytes) where
   -- the message is taken in the session of the opening
-  session-taken : (m : wire-message.Message) → Accepting w p (b .list) m → readMessage (o .given .n) (o .given .session) p (b .list) ≡ Taken m
+  session-taken : (m : wire-message.Message) → Accepting w p (b .list) m → readMessage (o .given .version) (o .given .n) (o .given .session) p (b .list) ≡ Taken m
   unfolding sessionOf sessionWith settingsOf
   session-taken m a =
       let number : word w sessionAt % 2 ^ 32 ≡ o .given .session = ap (λ (x : ℕ). x % 2 ^ 32) (B .is-session) ∙ mod-eq-of-lt (o .session-fits) in
       sym
-      (ap (λ (x : ℕ). readMessage x (word w sessionAt % 2 ^ 32) p (b .list)) (B .is-n)
-      ∙ ap (λ (x : ℕ). readMessage (o .given .n) x p (b .list)) number)
+      (ap (λ (x : ℕ). readMessage x (word w nAt) (word w sessionAt % 2 ^ 32) p (b .list)) (B .is-version)
+      ∙ ap (λ (x : ℕ). readMessage (o .given .version) x (word w sessionAt % 2 ^ 32) p (b .list)) (B .is-n)
+      ∙ ap (λ (x : ℕ). readMessage (o .given .version) (o .given .n) x p (b .list)) number)
       ∙ a .taken
 
   module _ (H : ℕ → Bool) (κ : ℕ → ℕ → Bool) (t : Taking w p (b .list)) where
     message-accepting : Accepting w p (b .list) (t .message)
     message-accepting = accepting w p (b .list) (t .message) (t .accepted)
 
-    read : readMessage (o .given .n) (o .given .session) p (b .list) ≡ Taken (t .message)
+    read : readMessage (o .given .version) (o .given .n) (o .given .session) p (b .list) ≡ Taken (t .message)
     read = session-taken (t .message) message-accepting
 
-    form : Form (o .given .n) (o .given .session) p (b .list) (t .message)
-    form = taken-form (o .given .n) (o .given .session) p (b .list) (t .message) read
+    form : Form (o .given .version) (o .given .n) (o .given .session) p (b .list) (t .message)
+    form = taken-form (o .given .version) (o .given .n) (o .given .session) p (b .list) (t .message) read
 
-    encoded : Encoded (o .given .n) (o .given .session) p (b .list) (t .message)
-    encoded = only-encodings (o .given .n) (o .given .session) p (b .list) (t .message) (b .each) read
+    encoded : Encoded (o .given .version) (o .given .n) (o .given .session) p (b .list) (t .message)
+    encoded = only-encodings (o .given .version) (o .given .n) (o .given .session) p (b .list) (t .message) (b .each) read
 
     layout : InLayout p (t .message)
     layout = in-layout (o .given .n) p (t .message) (B .ruled .few) (form .link-low) (form .link-high) (form .layout)

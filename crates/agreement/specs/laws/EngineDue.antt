@@ -6,6 +6,7 @@ use mathlib.Core.Logic.{_⊎_, inl, inr}
 use mathlib.Core.Option.{Option, none, some}
 use mathlib.Core.Path.{_≡_, refl, sym, _∙_}
 use native.Mathlib.Omega.{arith}
+use native.Mathlib.Decide.{ℕ-discrete}
 use lib.Dec.{eqb}
 use lib.ListN.{length}
 use borrow.Author.Tests.{eqb-true, leb-true}
@@ -13,7 +14,7 @@ use Rattle.quorum.specs.laws.Bools.{and-left, and-right}
 use Rattle.settings.specs.Settings.{quorum, repeat, relay, accept}
 use Rattle.settings.specs.Rules.{Ruled}
 use Rattle.settings.specs.declared.Settings.{Settings}
-use Rattle.records.specs.Records.{echoHeld, echoValue, readyHeld, readyValue, estHeld, auxHeld, commitSet}
+use Rattle.records.specs.Records.{echoHeld, echoValue, readyHeld, readyValue, estHeld, auxHeld, finishHeld, commitSet}
 use Rattle.acts.specs.declared.Act as acts
 use Rattle.acts.specs.declared.Act.the-variants as act
 use Rattle.acts.specs.declared.View.{View}
@@ -21,7 +22,8 @@ use Rattle.acts.specs.declared.View.the-variants.{Only, Both}
 use Rattle.broadcasts.specs.Leading.{holders}
 use Rattle.broadcasts.specs.laws.Broadcasts.{ready-rests, output-holders}
 use Rattle.votes.specs.Votes.{estCount, accepted, carries, carriers, auxCount}
-use Rattle.votes.specs.laws.Told.{Among, MoveTold}
+use Rattle.votes.specs.Finishing.{finishCount}
+use Rattle.votes.specs.laws.Told.{Among, MoveTold, DecidedAs, FinishTold}
 use Rattle.commits.specs.Commits.{commitHeld, sameSet, setHolders}
 use Rattle.commits.specs.laws.Sets.{same-set}
 use Rattle.session.specs.Session.{settingsOf}
@@ -30,8 +32,8 @@ use Rattle.turn.specs.Due.{commitDue}
 use Rattle.turn.specs.laws.Told.{ActTold, SetHeld, Rests, on-exit, on-copies}
 use Rattle.agreement.specs.Evidence.{World, whole}
 use Rattle.agreement.specs.laws.Thresholds.{by-quorum, by-vote-quorum, by-repeat, by-relay, by-accept}
-use Rattle.agreement.specs.History.{Act, Occurs, Names}
-use Rattle.held.specs.laws.Held.{ECHO, READY, EST, COMMIT, Numbered, Voting}
+use Rattle.agreement.specs.History.{Act, Occurs, Decision, zero, one, Names}
+use Rattle.held.specs.laws.Held.{ECHO, READY, EST, COMMIT, FINISH, Numbered, Voting}
 use Rattle.agreement.specs.laws.Runs.{HeldFrom, Carried, MoveDue, Due, OutputsHeld}
 use Rattle.agreement.specs.laws.EngineSeen.{engineSeen}
 use Rattle.agreement.specs.laws.EngineReading.{shownAct}
@@ -132,6 +134,23 @@ module _ (s : List ℕ) (ruled : Ruled (settingsOf s)) (size : length s ≡ 2048
       both-accepted c (inl e) z o = rw e (accepted-due i r 0 z (x .shown .zero-accepted))
       both-accepted c (inr e) z o = rw e (accepted-due i r 1 o (x .shown .one-accepted))
 
+  -- ---- FINISH
+
+  decision : (i b : ℕ) → b ≤ 1 → DecidedAs s i b → Decision (engineSeen .standing s) i b
+  decision i b bit d = of (ℕ-discrete b 0)
+    where
+      of : Dec (b ≡ 0) → Decision (engineSeen .standing s) i b
+      of (yes e) = rw e (zero (d .0 e))
+      of (no ne) = let e : b ≡ 1 = omega (arith, bit, ne) in rw e (one (d .1 e))
+
+  finish-due : (i b : ℕ) → Among (g .n) i → FinishTold g s i b → ((1 ≤ i) × (i ≤ g .n) × Decision (engineSeen .standing s) i b) ⊎ HeldFrom W engineSeen s (g .ta + 1) 0 (FINISH i b)
+  unfolding finishCount
+  finish-due i b a x = of (x .basis)
+    where
+      of : DecidedAs s i b ⊎ (relay g ≤ finishCount g s i b) → ((1 ≤ i) × (i ≤ g .n) × Decision (engineSeen .standing s) i b) ⊎ HeldFrom W engineSeen s (g .ta + 1) 0 (FINISH i b)
+      of (inl d) = inl (a .low, a .high, decision i b (x .bit) d)
+      of (inr h) = inr (by-relay W ruled (finishHeld s i b) (λ m lo hi t. record { instance = numbered a; bit = x .bit; there = t }) h)
+
   -- ---- COMMIT
 
   abbrev holding : ℕ → ℕ → Bool
@@ -173,3 +192,4 @@ module _ (s : List ℕ) (ruled : Ruled (settingsOf s)) (size : length s ≡ 2048
   shown-due (act.Relay i r b) x = relay-due i r b (voting (x .0) (x .1 .low) (x .1 .high) (x .1 .bit)) (x .1 .held)
   shown-due (act.Aux i r b) x = λ e. true≢false (sym (e .1) ∙ x .1 .unsent)
   shown-due (act.Move i r v) x = move-due i r v (x .0) (x .1)
+  shown-due (act.Finish i b) x = finish-due i b (x .0) (x .1)

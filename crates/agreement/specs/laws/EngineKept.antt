@@ -14,13 +14,13 @@ use Rattle.records.specs.Records.{coin}
 use Rattle.records.specs.laws.Bounds.{Fit, fit-put, fit-setMark}
 use Rattle.acts.specs.Acts.{isDue}
 use Rattle.acts.specs.declared.Act as acts
-use Rattle.acts.specs.declared.Act.the-variants.{Idle, InForce, Commit, Send, Echo, Ready, Start, Relay, Aux, Move}
+use Rattle.acts.specs.declared.Act.the-variants.{Idle, InForce, Commit, Send, Echo, Ready, Start, Relay, Aux, Move, Finish}
 use Rattle.acts.specs.declared.View.{View}
 use Rattle.votes.specs.Votes.{estimate}
 use Rattle.turn.specs.Turn.{withTurnCounted, entered, newDecision, moveDecided, moved, applied}
 use Rattle.turn.specs.Turn as turn
 use Rattle.turn.specs.laws.Told.{ActTold}
-use Rattle.turn.specs.laws.Frame.{Placed, told-placed, setting, coins, beyond, length-applied, applied-kept}
+use Rattle.turn.specs.laws.Frame.{Placed, told-placed, setting, coins, between, length-applied, applied-kept}
 use Rattle.calls.specs.Engine.{OpeningGiven}
 use Rattle.agreement.specs.laws.Runs.{CoinsStay}
 use Rattle.agreement.specs.laws.EngineSeen.{engineSeen, coins-stay}
@@ -57,6 +57,7 @@ Ended (Start i b) = Unit {0}
 Ended (Relay i r b) = Unit {0}
 Ended (Aux i r b) = Unit {0}
 Ended (Move i r v) = r ≤ 32
+Ended (Finish i b) = Unit {0}
 
 told-ended : (g : Settings) (s : List ℕ) (a : acts.Act) → ActTold g s a → Ended a
 told-ended g s Idle x = tt
@@ -69,6 +70,7 @@ told-ended g s (Start i b) x = tt
 told-ended g s (Relay i r b) x = tt
 told-ended g s (Aux i r b) x = tt
 told-ended g s (Move i r v) x = x .1 .high
+told-ended g s (Finish i b) x = tt
 
 fit-done : (s : List ℕ) (a : acts.Act) → Ended a → Fit s → Fit (turn.done s a)
 unfolding turn.done moved
@@ -82,6 +84,7 @@ fit-done s (Start i b) e f = fit-entered s i 1 b f (omega arith)
 fit-done s (Relay i r b) e f = fit-setMark s _ _ f
 fit-done s (Aux i r b) e f = fit-setMark s _ _ f
 fit-done s (Move i r v) e f = fit-entered (moveDecided s i r v) i (r + 1) (estimate (coin s i r) v) (fit-decided s i r v f) (omega arith)
+fit-done s (Finish i b) e f = fit-setMark s _ _ f
 
 fit-applied : (s : List ℕ) (a : acts.Act) → Ended a → word s turnsAt ≤ 65535 → Fit s → Fit (applied s a)
 unfolding applied withTurnCounted
@@ -97,6 +100,7 @@ belongs-applied o g w x ruled a told few = of (told-placed g w ruled a told)
     of : Placed a → Belongs o (applied w a)
     of p =
         record {
+          known = x .known;
           ruled = x .ruled;
           own-low = x .own-low;
           own-high = x .own-high;
@@ -105,8 +109,9 @@ belongs-applied o g w x ruled a told few = of (told-placed g w ruled a told)
           is-n = applied-kept w a p 0 (setting (omega arith)) ∙ x .is-n;
           is-ta = applied-kept w a p 1 (setting (omega arith)) ∙ x .is-ta;
           is-ts = applied-kept w a p 2 (setting (omega arith)) ∙ x .is-ts;
-          is-weights = applied-kept w a p 141 (beyond (omega arith)) ∙ x .is-weights;
-          is-boxed = applied-kept w a p 142 (beyond (omega arith)) ∙ x .is-boxed;
+          is-weights = applied-kept w a p 141 (between (omega arith) (omega arith)) ∙ x .is-weights;
+          is-boxed = applied-kept w a p 142 (between (omega arith) (omega arith)) ∙ x .is-boxed;
+          is-version = applied-kept w a p 143 (between (omega arith) (omega arith)) ∙ x .is-version;
           is-own = applied-kept w a p 3 (setting (omega arith)) ∙ x .is-own;
           is-session = applied-kept w a p 4 (setting (omega arith)) ∙ x .is-session;
           is-input = applied-kept w a p 5 (setting (omega arith)) ∙ x .is-input;
@@ -115,5 +120,5 @@ belongs-applied o g w x ruled a told few = of (told-placed g w ruled a told)
 
 pub coins-applied : (o : OpeningGiven) (w : List ℕ) → Belongs o w → (a : acts.Act) → Placed a → CoinsStay engineSeen w (applied w a)
 coins-applied o w x a p =
-    coins-stay w (applied w a) (omega (arith, x .is-n, x .ruled .few)) (applied-kept w a p 0 (setting (omega arith))) (applied-kept w a p 142 (beyond (omega arith)))
+    coins-stay w (applied w a) (omega (arith, x .is-n, x .ruled .few)) (applied-kept w a p 0 (setting (omega arith))) (applied-kept w a p 142 (between (omega arith) (omega arith)))
     (λ i low high. applied-kept w a p (7 + i) (coins (omega arith) (omega arith)))

@@ -12,10 +12,11 @@ use borrow.Author.Tests.{eqb-true, ne-eqb, leb-true}
 use Rattle.quorum.specs.laws.Bools.{and-left, and-right}
 use Rattle.settings.specs.Rules.{Ruled}
 use Rattle.settings.specs.laws.Rules.{valid-rules, whole-few}
+use Rattle.settings.specs.laws.Versions.{Known, version-known}
 use Rattle.quorum.specs.Marks.{mark}
 use Rattle.quorum.specs.laws.Marks.{mark-zero}
 use Rattle.records.specs.Layout.{boxedAt, coinAt, zeroMark, commitCountAt}
-use Rattle.records.specs.Records.{printed, coin, coinRecorded, coinKnown, sendHeld, echoHeld, readyHeld, estHeld, auxHeld, decidedZero, decidedOne, commitCount, commitSet}
+use Rattle.records.specs.Records.{printed, coin, coinRecorded, coinKnown, sendHeld, echoHeld, readyHeld, estHeld, auxHeld, finishHeld, decidedZero, decidedOne, commitCount, commitSet}
 use Rattle.records.specs.Words.{word, marked}
 use Rattle.commits.specs.Commits.{commitHeld}
 use Rattle.session.specs.Session.{numbered}
@@ -24,12 +25,12 @@ use Rattle.opening.specs.Arguments.{weightsBy, taBy, settingsBy}
 use Rattle.opening.specs.laws.Cases.{Accepted, accepted}
 use Rattle.opening.specs.Given.{item}
 use Rattle.opening.specs.laws.Given.{weights-fit, CoinsGiven, coins-given}
-use Rattle.opening.specs.laws.Opening.{coin-below, length-first, first-n, first-ta, first-ts, first-own, first-session, first-input, first-coin, first-weights, first-boxed, first-zero, fit-first}
+use Rattle.opening.specs.laws.Opening.{coin-below, length-first, first-n, first-ta, first-ts, first-own, first-session, first-input, first-coin, first-weights, first-boxed, first-version, first-zero, fit-first}
 use Rattle.opening.specs.Opening.{openAnswer, openWords, opened}
 use Rattle.journal.specs.Journal.{LINE-BYTES, openNumber, openedWords}
 use Rattle.journal.specs.laws.Journal.{line-taken, line-words, line-stays}
 use Rattle.agreement.specs.History.{Decision, zero, one}
-use Rattle.held.specs.laws.Held.{Message, SEND, ECHO, READY, EST, AUX, COMMIT, holds}
+use Rattle.held.specs.laws.Held.{Message, SEND, ECHO, READY, EST, AUX, COMMIT, FINISH, holds}
 use Rattle.agreement.specs.laws.Runs.{Blank}
 use Rattle.calls.specs.Engine.{OpeningGiven, agreed, engine}
 use Rattle.agreement.specs.laws.Machine.{at}
@@ -61,9 +62,10 @@ module _ (w : List ℕ) (o : OpeningGiven) (e : engine .opens w o ≡ true) wher
   pub open-ruled : Ruled (settingsBy (o .given))
   open-ruled = valid-rules (o .given .n) (taBy (o .given)) (o .given .ts) (weightsBy (o .given)) (told .valid)
 
-first-belongs : (o : OpeningGiven) → Ruled (settingsBy (o .given)) → 1 ≤ o .given .own → o .given .own ≤ o .given .n → o .given .boxed ≤ 1 → Belongs o (openWords (o .given))
-first-belongs o r lo hi kind =
+first-belongs : (o : OpeningGiven) → Known (o .given .version) → Ruled (settingsBy (o .given)) → 1 ≤ o .given .own → o .given .own ≤ o .given .n → o .given .boxed ≤ 1 → Belongs o (openWords (o .given))
+first-belongs o known r lo hi kind =
     record {
+      known = known;
       ruled = r;
       own-low = lo;
       own-high = hi;
@@ -74,6 +76,7 @@ first-belongs o r lo hi kind =
       is-ts = first-ts (o .given);
       is-weights = first-weights (o .given) (r .few);
       is-boxed = first-boxed (o .given) (r .few);
+      is-version = first-version (o .given) (r .few);
       is-own = first-own (o .given);
       is-session = first-session (o .given);
       is-input = first-input (o .given);
@@ -87,14 +90,15 @@ first-belongs o r lo hi kind =
           (o .input-fits)
           (weights-fit (o .given .n) (o .given .weights))
           (omega (arith, kind))
+          (omega (arith, known .high))
           (λ i. coin-below (o .given .coins) i (o .coins-fit));
     }
 
 module _ (o : OpeningGiven) (few : o .given .n ≤ 16) where
-  zero-at : (a : ℕ) → 24 ≤ a → (a ≤ 142 → a < 141) → word (openWords (o .given)) a ≡ 0
+  zero-at : (a : ℕ) → 24 ≤ a → (a ≤ 143 → a < 141) → word (openWords (o .given)) a ≡ 0
   zero-at = first-zero (o .given) few
 
-  no-mark : (a j : ℕ) → 24 ≤ a → (a ≤ 142 → a < 141) → marked (openWords (o .given)) a j ≡ true → ⊥
+  no-mark : (a j : ℕ) → 24 ≤ a → (a ≤ 143 → a < 141) → marked (openWords (o .given)) a j ≡ true → ⊥
   unfolding marked
   no-mark a j h ne e = true≢false (sym e ∙ ap (λ (x : ℕ). mark x j) (zero-at a h ne) ∙ mark-zero j)
 
@@ -111,13 +115,14 @@ module _ (o : OpeningGiven) (few : o .given .n ≤ 16) where
       }
 
   none-held : (m : ℕ) (x : Message) → m ≤ 16 → holds (openWords (o .given)) m x → ⊥
-  unfolding sendHeld echoHeld readyHeld estHeld auxHeld
+  unfolding sendHeld echoHeld readyHeld estHeld auxHeld finishHeld
   none-held m (SEND v) hi h = no-mark _ m (omega arith) (λ z. omega arith) (h .there)
   none-held m (ECHO i v) hi h = no-mark _ m (omega arith) (λ z. omega (arith, h .instance .high)) (h .there)
   none-held m (READY i v) hi h = no-mark _ m (omega arith) (λ z. omega (arith, h .instance .high)) (h .there)
   none-held m (EST i r b) hi h = no-mark _ _ (omega arith) (λ z. omega arith) (h .there)
   none-held m (AUX i r b) hi h = no-mark _ _ (omega arith) (λ z. omega arith) (h .there)
   none-held m (COMMIT X) hi h = no-set m hi (h .there)
+  none-held m (FINISH i b) hi h = no-mark _ _ (omega arith) (λ z. omega (arith, h .instance .low)) (h .there)
 
   none-decided : (i b : ℕ) → Decision (engineSeen .standing (openWords (o .given))) i b → ⊥
   unfolding decidedZero decidedOne
@@ -150,7 +155,7 @@ pub open-belongs : (w : List ℕ) (o : OpeningGiven) → engine .opens w o ≡ t
 open-belongs w o e =
     let r = open-ruled w o e in
     subst (Belonging o) (sym (opened-first w o e))
-    (record { words = first-belongs o r (own-within w o e .0) (own-within w o e .1) (coins-told w o e .kind); sets = first-sets o (r .few) })
+    (record { words = first-belongs o (version-known (o .given .version) (told w o e .known)) r (own-within w o e .0) (own-within w o e .1) (coins-told w o e .kind); sets = first-sets o (r .few) })
 
 pub open-blank : (H : ℕ → Bool) (κ : ℕ → ℕ → Bool) (w : List ℕ) (o : OpeningGiven) → engine .opens w o ≡ true → Blank (at engine engineReading H κ o) engineSeen (engine .opened w o)
 open-blank H κ w o e =

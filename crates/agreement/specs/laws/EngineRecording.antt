@@ -10,13 +10,13 @@ use native.Mathlib.Decide.{ℕ-discrete}
 use lib.ListN.{length}
 use borrow.Author.Tests.{eqb-true, eqb-false, eq-eqb}
 use Rattle.quorum.specs.Marks.{mark}
-use Rattle.records.specs.Layout.{nAt, taAt, tsAt, ownAt, sessionAt, inputAt, weightsAt, boxedAt, coinAt, auxSentAt, echoSentAt, decidedZeroAt, decidedOneAt}
+use Rattle.records.specs.Layout.{nAt, taAt, tsAt, ownAt, sessionAt, inputAt, weightsAt, boxedAt, versionAt, coinAt, auxSentAt, echoSentAt, decidedZeroAt, decidedOneAt}
 use Rattle.records.specs.Words.{word, marked}
 use Rattle.records.specs.laws.Words.{length-setMark}
 use Rattle.records.specs.laws.Bounds.{fit-setMark}
 use Rattle.records.specs.Records.{printed, coin, coinKnown, echoSent, auxSent, decidedZero, decidedOne}
 use Rattle.votes.specs.Votes.{coinValue}
-use Rattle.held.specs.laws.Keeping.{Holding, early, late, held-back, count-back, set-back}
+use Rattle.held.specs.laws.Keeping.{Holding, early, middle, late, held-back, count-back, set-back}
 use Rattle.recording.specs.Recording.{bitMark, recordAnswer, withBit, recordedWords}
 use Rattle.recording.specs.laws.Recording.{Recordable, accepted, accepted-marks, refused-same, other-word, coin-here, coin-elsewhere}
 use Rattle.journal.specs.Journal.{LINE-BYTES, recordNumber, recordWords}
@@ -39,6 +39,7 @@ module _ (s t : List ℕ) (size : length s ≡ 2048) (sizes : length t ≡ lengt
 
   held-words : (j : ℕ) → Holding j → word t j ≡ word s j
   held-words j (early a b) = alike j (omega arith)
+  held-words j (middle a b) = alike j (omega arith)
   held-words j (late a) = alike j (omega arith)
 
   decided-alike : (i b : ℕ) → Decision (engineSeen .standing t) i b → Decision (engineSeen .standing s) i b
@@ -102,6 +103,7 @@ module _ (o : OpeningGiven) (w : List ℕ) (B : Belongs o w) (b : BitGiven) (k :
   unfolding withBit
   with-bit-belongs =
       record {
+        known = B .known;
         ruled = B .ruled;
         own-low = B .own-low;
         own-high = B .own-high;
@@ -112,6 +114,7 @@ module _ (o : OpeningGiven) (w : List ℕ) (B : Belongs o w) (b : BitGiven) (k :
         is-ts = low-stays tsAt (omega arith) ∙ B .is-ts;
         is-weights = high-stays weightsAt (omega arith) ∙ B .is-weights;
         is-boxed = high-stays boxedAt (omega arith) ∙ B .is-boxed;
+        is-version = high-stays versionAt (omega arith) ∙ B .is-version;
         is-own = low-stays ownAt (omega arith) ∙ B .is-own;
         is-session = low-stays sessionAt (omega arith) ∙ B .is-session;
         is-input = low-stays inputAt (omega arith) ∙ B .is-input;

@@ -36,9 +36,8 @@ use Rattle.agreement.specs.laws.Worlds.{worldWith}
 use Rattle.calls.specs.Engine.{OpeningGiven, agreed, TurnLent, ReportNames, ReportEnforces, engine}
 use Rattle.agreement.specs.laws.EngineSeen.{engineSeen}
 use Rattle.agreement.specs.laws.EngineLent.{forMessage}
-use Rattle.agreement.specs.laws.EngineReading.{Belongs, admittedAct, actOf}
+use Rattle.agreement.specs.laws.EngineReading.{Belongs, settings-same, admittedAct, actOf}
 use Rattle.agreement.specs.laws.EngineDue.{outputs-held, force-due}
-use Rattle.agreement.specs.laws.EngineTurn.{settings-same}
 use Rattle.wire.specs.Message.{atFront}
 
 -- a set is read from the front of the words that were lent for it

@@ -12,6 +12,7 @@ use lib.Seq.{take-all, take-at}
 use borrow.Author.Tests.{lt-ltb, ltb-true}
 use Rattle.quorum.specs.laws.Bools.{and-both}
 use Rattle.settings.specs.Settings.{quorum, repeat}
+use Rattle.settings.specs.Versions.{finishing}
 use Rattle.settings.specs.laws.Thresholds.{ruled-bounds, repeat-sum}
 use Rattle.settings.specs.declared.Settings.{Settings}
 use Rattle.records.specs.Records.{sendValue, echoHeld, echoValue, readyHeld, readyValue, commitCount, commitValue, commitSet, decidedZero, decidedOne}
@@ -37,7 +38,8 @@ use Rattle.exits.specs.laws.Exits.{names-rising, names-few}
 use Rattle.exits.specs.Exits.{exitNow}
 use Rattle.commits.specs.laws.Sets.{listed, set-listed, set-length}
 use Rattle.wire.specs.Bytes.{risesFrom, rises}
-use Rattle.wire.specs.Message.{besides, lengthOf, valuesOf, encode, atFront}
+use Rattle.wire.specs.Message.{COMMIT, kindOf, lastKind, besides, lengthOf, valuesOf, encode, atFront}
+use Rattle.wire.specs.laws.Kinds.{last-low, finish-last}
 use Rattle.wire.specs.declared.Message as wire
 use Rattle.wire.specs.declared.Message.the-variants as message
 use Rattle.wire.proofs.Laws.{length-encode}
@@ -139,10 +141,14 @@ module _ (o : OpeningGiven) (H : ℕ → Bool) (κ : ℕ → ℕ → Bool) (w : 
   rests-good (on-exit ne same) = rw same exit-good
   rests-good (on-copies p h same) = rw same (held-good p (h .low) (h .high))
 
+  -- the kinds up to COMMIT are of either version
+  first-kinds : {k : ℕ} → k ≤ COMMIT → k ≤ lastKind (o .given .version)
+  first-kinds l = omega (arith, last-low (o .given .version))
+
   -- one value beside the header
-  single : (m : wire.Message) (v : ℕ) → Layout (o .given .n) (o .given .own) m → besides m ≡ 0 → valuesOf m xs ≡ v ∷ [] → v < 2 ^ 64 → Proper (o .given .n) (o .given .own) m xs
+  single : (m : wire.Message) (v : ℕ) → kindOf m ≤ lastKind (o .given .version) → Layout (o .given .n) (o .given .own) m → besides m ≡ 0 → valuesOf m xs ≡ v ∷ [] → v < 2 ^ 64 → Proper (o .given .version) (o .given .n) (o .given .own) m xs
   unfolding rises risesFrom
-  single m v l b e f = record { layout = l; held = omega arith; fits = rw e (f, tt); rising = rw e }
+  single m v k l b e f = record { kind = k; layout = l; held = omega arith; fits = rw e (f, tt); rising = rw e }
 
   ready-fits : (i v : ℕ) → (quorum g ≤ holders g (echoHeld w i) (echoValue w i) v) ⊎ (repeat g ≤ holders g (readyHeld w i) (readyValue w i) v) → v < 2 ^ 64
   unfolding echoValue readyValue
@@ -172,7 +178,7 @@ module _ (o : OpeningGiven) (H : ℕ → Bool) (κ : ℕ → ℕ → Bool) (w : 
   ShownMessage (some a) y = runs.message W a ≡ y
 
   record Sending (a : Option Act) (m : wire.Message) : Type 0 where
-    proper : Proper (o .given .n) (o .given .own) m xs
+    proper : Proper (o .given .version) (o .given .n) (o .given .own) m xs
     shows : ShownMessage a (meaning m (valuesOf m xs))
 
   -- the outcome of an act, where it is that m0 is sent
@@ -180,13 +186,13 @@ module _ (o : OpeningGiven) (H : ℕ → Bool) (κ : ℕ → ℕ → Bool) (w : 
   sending a m0 m e s = let same : m0 ≡ m = cc in subst (Sending a) same s
 
   est-sending : (a : Act) (i r b : ℕ) → 1 ≤ i → i ≤ o .given .n → 1 ≤ r → r ≤ 32 → b ≤ 1 → runs.message W a ≡ EST i r b → Sending (some a) (message.Est i r b)
-  est-sending a i r b lo hi begun ended bit e = record { proper = single (message.Est i r b) b (lo, hi, begun, ended, bit) refl refl (omega arith); shows = e }
+  est-sending a i r b lo hi begun ended bit e = record { proper = single (message.Est i r b) b (first-kinds (omega arith)) (lo, hi, begun, ended, bit) refl refl (omega arith); shows = e }
 
   commit-sending : (k : ℕ) → 1 ≤ k → length xs ≡ k → Good xs → Sending (some (commit xs)) (message.Commit k)
   commit-sending k least len good =
       let all : take k xs ≡ xs = take-all k xs (omega arith) in
       record {
-        proper = record { layout = (least, omega (arith, good .few)); held = omega arith; fits = rw all (good .fits); rising = rw all (good .rising) };
+        proper = record { kind = first-kinds (omega arith); layout = (least, omega (arith, good .few)); held = omega arith; fits = rw all (good .fits); rising = rw all (good .rising) };
         shows = rw all;
       }
 
@@ -207,18 +213,21 @@ module _ (o : OpeningGiven) (H : ℕ → Bool) (κ : ℕ → ℕ → Bool) (w : 
   act-sending act.InForce t m e = absurd (let z : _≡_ {A = ℕ} 0 1 = cc in omega arith)
   act-sending (act.Commit k) t m e = sending _ (message.Commit k) m e (commit-sending k (t .some) (t .sized) (rests-good (t .rests)))
   act-sending (act.Send v) t m e =
-      sending _ (message.Send (o .given .own) v) m e (record { proper = single (message.Send (o .given .own) v) v refl refl refl (rw (t .own) (x .fits 5)); shows = refl })
+      sending _ (message.Send (o .given .own) v) m e (record { proper = single (message.Send (o .given .own) v) v (first-kinds (omega arith)) refl refl refl (rw (t .own) (x .fits 5)); shows = refl })
   act-sending (act.Echo i v) t m e =
-      sending _ (message.Echo i v) m e (record { proper = single (message.Echo i v) v (t .among .low, t .among .high) refl refl (rw (t .same) (x .fits (71 + i))); shows = refl })
+      sending _ (message.Echo i v) m e (record { proper = single (message.Echo i v) v (first-kinds (omega arith)) (t .among .low, t .among .high) refl refl (rw (t .same) (x .fits (71 + i))); shows = refl })
   act-sending (act.Ready i v) t m e =
-      sending _ (message.Ready i v) m e (record { proper = single (message.Ready i v) v (t .among .low, t .among .high) refl refl (ready-fits i v (ready-rests g w i v (t .rests))); shows = refl })
+      sending _ (message.Ready i v) m e (record { proper = single (message.Ready i v) v (first-kinds (omega arith)) (t .among .low, t .among .high) refl refl (ready-fits i v (ready-rests g w i v (t .rests))); shows = refl })
   act-sending (act.Start i b) t m e = sending _ (message.Est i 1 b) m e (est-sending _ i 1 b (t .0 .low) (t .0 .high) (omega arith) (omega arith) (t .1 .bit) refl)
   act-sending (act.Relay i r b) t m e = sending _ (message.Est i r b) m e (est-sending _ i r b (t .0 .low) (t .0 .high) (t .1 .low) (t .1 .high) (t .1 .bit) refl)
   act-sending (act.Aux i r b) t m e =
       sending _ (message.Aux i r b) m e
-      (record { proper = single (message.Aux i r b) b (t .0 .low, t .0 .high, t .1 .low, t .1 .high, t .1 .bit) refl refl (omega (arith, t .1 .bit)); shows = refl })
+      (record { proper = single (message.Aux i r b) b (first-kinds (omega arith)) (t .0 .low, t .0 .high, t .1 .low, t .1 .high, t .1 .bit) refl refl (omega (arith, t .1 .bit)); shows = refl })
   act-sending (act.Move i r v) t m e =
       move-sending i r v m (t .0 .low) (t .0 .high) (t .1) (estimate-bit (records.coin w i r) v (shown-bit i r v (t .1 .shown))) e
+  act-sending (act.Finish i b) t m e =
+      sending _ (message.Finish i b) m e
+      (record { proper = single (message.Finish i b) b (omega (arith, finish-last (o .given .version) (ap finishing (sym (x .is-version)) ∙ t .1 .allowed))) (t .0 .low, t .0 .high, t .1 .bit) refl refl (omega (arith, t .1 .bit)); shows = refl })
 
   -- ---- the bytes of a turn that sends
 
@@ -226,12 +235,15 @@ module _ (o : OpeningGiven) (H : ℕ → Bool) (κ : ℕ → ℕ → Bool) (w : 
   session = record { settings = g; own = o .given .own; number = o .given .session }
 
   sent-bytes : (lent : List ℕ) → Taken w lent session → (m : wire.Message) → besides m ≤ length xs → outcomeOf (o .given .own) w (due g w) ≡ outcome.Sent m →
-      take (lengthOf m) (turnBytes w lent) ≡ encode m (o .given .own) (o .given .session) xs
+      take (lengthOf m) (turnBytes w lent) ≡ encode m (o .given .version) (o .given .own) (o .given .session) xs
   unfolding bytesAfter atFront
   sent-bytes lent t m b e =
       ap (take (lengthOf m)) (t .bytes ∙ ap (λ (y : Outcome). bytesAfter session w y lent) e)
-      ∙ take-at (encode m (o .given .own) (o .given .session) xs) (drop (length (encode m (o .given .own) (o .given .session) xs)) lent) (lengthOf m)
-      (length-encode m (o .given .own) (o .given .session) xs b)
+      ∙ take-at (written (records.version w)) (drop (length (written (records.version w))) lent) (lengthOf m) (length-encode m (records.version w) (o .given .own) (o .given .session) xs b)
+      ∙ ap written (x .is-version)
+    where
+      written : ℕ → List ℕ
+      written version = encode m version (o .given .own) (o .given .session) xs
 
   -- the bytes of a message do not depend on what was lent
   pub same-bytes : (lent other : List ℕ) → Taken w lent session → Taken w other session → (m : wire.Message) → turnOutcome w (length lent) ≡ outcome.Sent m → take (lengthOf m) (turnBytes w lent) ≡ take (lengthOf m) (turnBytes w other)
@@ -240,10 +252,10 @@ module _ (o : OpeningGiven) (H : ℕ → Bool) (κ : ℕ → ℕ → Bool) (w : 
       let b = act-sending (due g w) (t .told) m f .proper .held in
       sent-bytes lent t m b f ∙ sym (sent-bytes other u m b f)
 
-  encoded-says : (m : wire.Message) → Proper (o .given .n) (o .given .own) m xs → (b : Bytes) → b .list ≡ encode m (o .given .own) (o .given .session) xs →
+  encoded-says : (m : wire.Message) → Proper (o .given .version) (o .given .n) (o .given .own) m xs → (b : Bytes) → b .list ≡ encode m (o .given .version) (o .given .own) (o .given .session) xs →
       Says (agreed (o .given)) (o .given .own) b (meaning m (valuesOf m xs))
   encoded-says m p b e =
-      let back : ReadBack (o .given .n) (o .given .session) (o .given .own) m xs = round-trip (o .given .n) (o .given .session) (o .given .own) m xs (o .session-fits) (x .own-low) (x .own-high) p in
+      let back : ReadBack (o .given .version) (o .given .n) (o .given .session) (o .given .own) m xs = round-trip (o .given .version) (o .given .n) (o .given .session) (o .given .own) m xs (o .session-fits) (x .own-low) (x .own-high) p in
       record {
         message = m;
         taken = rw e (back .message);

@@ -45,7 +45,7 @@ use Rattle.agreement.specs.laws.Runs.{CoinsAre, CoinsStay}
 use Rattle.agreement.specs.laws.Machine.{Turned}
 use Rattle.agreement.specs.laws.EngineSeen.{engineSeen}
 use Rattle.agreement.specs.laws.EngineLent.{forMessage, room-same, SendsPlain, sends-plain}
-use Rattle.agreement.specs.laws.EngineReading.{Belongs, Sets, Belonging, shownAct, admittedAct, actOf, engineReading}
+use Rattle.agreement.specs.laws.EngineReading.{Belongs, settings-same, Sets, Belonging, shownAct, admittedAct, actOf, engineReading}
 use Rattle.agreement.specs.laws.EngineKept.{belongs-applied, coins-applied}
 use Rattle.agreement.specs.laws.EngineDue.{ShownDue, shown-due}
 use Rattle.agreement.specs.laws.EngineActed.{unchanged, kept-by, ShownActed, shown-acted}
@@ -55,13 +55,9 @@ module _ (o : OpeningGiven) (w : List ℕ) (x : Belongs o w) where
   abbrev pub session : Session
   session = record { settings = settingsBy (o .given); own = o .given .own; number = o .given .session }
 
-  pub settings-same : settingsOf w ≡ settingsBy (o .given)
-  unfolding settingsOf
-  settings-same = rw (x .is-n, x .is-ta, x .is-ts, x .is-weights)
-
   session-same : sessionOf w ≡ session
   unfolding sessionOf sessionWith
-  session-same = rw (settings-same, x .is-own, x .is-session, short (o .given .session) (o .session-fits))
+  session-same = rw (settings-same o w x, x .is-own, x .is-session, short (o .given .session) (o .session-fits))
     where
       short : (k : ℕ) → k < 2 ^ 32 → k % 2 ^ 32 ≡ k
       short k h = omega arith
@@ -153,6 +149,7 @@ module _ (o : OpeningGiven) (w : List ℕ) (x : Belonging o w) (l : TurnLent) wh
     input-shown (act.Relay i r b) t v e = absurd (let z : _≡_ {A = ℕ} 0 1 = cc in omega arith)
     input-shown (act.Aux i r b) t v e = absurd (let z : _≡_ {A = ℕ} 0 1 = cc in omega arith)
     input-shown (act.Move i r u) t v e = absurd (let z : _≡_ {A = ℕ} 0 1 = cc in omega arith)
+    input-shown (act.Finish i b) t v e = absurd (let z : _≡_ {A = ℕ} 0 1 = cc in omega arith)
 
     hidden : (a : acts.Act) → shownAct g w a ≡ none → (i r : ℕ) (v : View) → a ≡ act.Move i r v → ⊥
     hidden a e i r v f = let z : none ≡ shownAct g w (act.Move i r v) = sym e ∙ ap (shownAct g w) f in let y : _≡_ {A = ℕ} 0 1 = cc in omega arith
@@ -204,6 +201,7 @@ idle-words own s (act.Ready i v) e = absurd (false≢true (sym e))
 idle-words own s (act.Start i b) e = absurd (false≢true (sym e))
 idle-words own s (act.Relay i r b) e = absurd (false≢true (sym e))
 idle-words own s (act.Aux i r b) e = absurd (false≢true (sym e))
+idle-words own s (act.Finish i b) e = absurd (false≢true (sym e))
 idle-words own s (act.Move i r v) e = absurd (go (ltb r roundLimit) (outcome.Sent (message.Est i (r + 1) (estimate (coin s i r) v))) e refl)
   where
     go : (t : Bool) (y : Outcome) → journal.acts (cond t y outcome.MovedOut) ≡ false → journal.acts y ≡ true → ⊥

@@ -1,7 +1,8 @@
 -- The laws that a machine must keep so that the claims of specs/DemandThree.antt hold of it. A machine comes with a reading of its words:
 -- what they show, what a turn does, which words belong to a session, and what bytes say. The laws ask of words that belong to a session:
 --   opening    accepted: the settings are within the rules, the words belong to the session and show nothing held or decided.
---   delivery   refused: the words stay. Accepted: the bytes say one message, and the words hold at most that one more.
+--   delivery   refused: the words stay. Accepted: the bytes say one message, and the words hold at most that one more; what is newly decided
+--              has FINISHes from the accept threshold.
 --   turn       it does nothing that shows, or one act that was due; the bytes that it sends say the message of that act; a SEND carries
 --              the own input.
 --   restore    refused: the words stay. Accepted, of the lines of calls that were made one after another from an accepted opening on, with at

@@ -1,6 +1,6 @@
 -- From states to lawful histories: what a state shows, when an act is due in it, and what a delivery and a turn may change. All laws go in
--- one direction: nothing is held that was not delivered, no mark of an ECHO or AUX vanishes, a new decision is that of the move. Marks tell of
--- the acts that are on record at the concentrator; the history may have more of its acts.
+-- one direction: nothing is held that was not delivered, no mark of an ECHO or AUX vanishes, a new decision is that of the move, or has its
+-- FINISHes. Marks tell of the acts that are on record at the concentrator; the history may have more of its acts.
 use Prim.Native.Nat.{ℕ, suc, _+_, _*_, _≤_}
 use mathlib.Core.Bool.{Bool}
 use mathlib.Core.List.{List, _∷_}
@@ -12,10 +12,10 @@ use Rattle.acts.specs.declared.View.the-variants.{Only}
 use Rattle.votes.specs.Votes.{estimate, coinValue}
 use Rattle.broadcasts.specs.declared.Output.the-variants.{Value}
 use Rattle.exits.specs.Standing.{Standing}
-use Rattle.held.specs.laws.Held.{Message, SEND, ECHO, READY, EST, AUX, COMMIT}
+use Rattle.held.specs.laws.Held.{Message, SEND, ECHO, READY, EST, AUX, COMMIT, FINISH}
 use Rattle.agreement.specs.Evidence.{World, whole, Honest, Backed}
 use Rattle.agreement.specs.laws.Evidence.{backed-map}
-use Rattle.agreement.specs.History.{Act, send, echo, ready, start, relay, aux, move, commit, Event, by, History, Did, Single, Heard, Occurs, Decision, Names, started, moved, Est, own, relayed, Decided, by-move, Stands, Guard}
+use Rattle.agreement.specs.History.{Act, send, echo, ready, start, relay, aux, move, commit, finish, Event, by, History, Did, Single, Heard, Occurs, Decision, Names, started, moved, Est, own, relayed, Decided, by-move, by-finish, Stands, Guard}
 use Rattle.agreement.specs.laws.Votes.{est-keep, decided-keep}
 use Rattle.agreement.specs.Agreement.{Shown, by-exits, in-force}
 
@@ -40,6 +40,7 @@ module _ (W : World) where
   Said h m (EST i r b) = Est W h i r b m
   Said h m (AUX i r b) = Did h m (aux i r b)
   Said h m (COMMIT X) = Did h m (commit X)
+  Said h m (FINISH i b) = Did h m (finish i b)
 
   -- the message that an act sends; the move out of round 32 sends none
   abbrev pub message : Act → Message
@@ -51,6 +52,7 @@ module _ (W : World) where
   message (aux i r b) = AUX i r b
   message (move i r v) = EST i (suc r) (estimate (W .coin i r) v)
   message (commit X) = COMMIT X
+  message (finish i b) = FINISH i b
 
   -- which act an ECHO, an AUX tells of
   pub echo-of : (a : Act) (i v : ℕ) → ECHO i v ≡ message a → a ≡ echo i v
@@ -62,6 +64,7 @@ module _ (W : World) where
   echo-of (aux j r b) i v e = absurd (let z : _≡_ {A = ℕ} 0 1 = cc in omega arith)
   echo-of (move j r b) i v e = absurd (let z : _≡_ {A = ℕ} 0 1 = cc in omega arith)
   echo-of (commit X) i v e = absurd (let z : _≡_ {A = ℕ} 0 1 = cc in omega arith)
+  echo-of (finish j b) i v e = absurd (let z : _≡_ {A = ℕ} 0 1 = cc in omega arith)
 
   pub aux-of : (a : Act) (i r v : ℕ) → AUX i r v ≡ message a → a ≡ aux i r v
   aux-of (send u) i r v e = absurd (let z : _≡_ {A = ℕ} 0 1 = cc in omega arith)
@@ -72,6 +75,7 @@ module _ (W : World) where
   aux-of (aux j q b) i r v e = cc
   aux-of (move j q b) i r v e = absurd (let z : _≡_ {A = ℕ} 0 1 = cc in omega arith)
   aux-of (commit X) i r v e = absurd (let z : _≡_ {A = ℕ} 0 1 = cc in omega arith)
+  aux-of (finish j b) i r v e = absurd (let z : _≡_ {A = ℕ} 0 1 = cc in omega arith)
 
   -- what was done has been said
   pub said-of : (h : History) (m : ℕ) (a : Act) → Did h m a → Said h m (message a)
@@ -83,6 +87,7 @@ module _ (W : World) where
   said-of h m (aux i r b) d = d
   said-of h m (move i r v) d = own (moved r v refl refl d)
   said-of h m (commit X) d = d
+  said-of h m (finish i b) d = d
 
   said-keep : (e : Event) (h : History) (m : ℕ) (x : Message) → Said h m x → Said (e ∷ h) m x
   said-keep e h m (SEND v) d = inr d
@@ -91,6 +96,7 @@ module _ (W : World) where
   said-keep e h m (EST i r b) d = est-keep W e h i r b m d
   said-keep e h m (AUX i r b) d = inr d
   said-keep e h m (COMMIT X) d = inr d
+  said-keep e h m (FINISH i b) d = inr d
 
   -- a decides vote i as b
   pub record Decides (a : Act) (i b : ℕ) : Type 0 where
@@ -125,6 +131,7 @@ module _ (W : World) {St : Type 0} (S : Seen St) where
   Due s (aux i r b) = S .auxed s i r → ⊥
   Due s (move i r v) = MoveDue s i r v
   Due s (commit X) = Names (W .settings) (S .standing s) X ⊎ HeldFrom s (W .settings .ts + 1) 0 (COMMIT X)
+  Due s (finish i b) = ((1 ≤ i) × (i ≤ W .settings .n) × Decision (S .standing s) i b) ⊎ HeldFrom s (W .settings .ta + 1) 0 (FINISH i b)
 
   -- ---- what a state shows by itself, and what calls may change
 
@@ -147,9 +154,13 @@ module _ (W : World) {St : Type 0} (S : Seen St) where
   abbrev pub Kept : St → St → Type 0
   Kept s t = Changed s t (λ m x. ⊥) (λ i b. ⊥)
 
-  -- a delivery of x from m
+  -- FINISHes of a value that are held decide it
+  abbrev pub Finished : St → ℕ → ℕ → Type 0
+  Finished t i b = HeldFrom t (2 * W .settings .ta + 1) 0 (FINISH i b)
+
+  -- a delivery of x from m: what it decides has its FINISHes now
   abbrev pub Delivered : St → St → ℕ → Message → Type 0
-  Delivered s t m x = Changed s t (λ k y. (k ≡ m) × (y ≡ x)) (λ i b. ⊥)
+  Delivered s t m x = Changed s t (λ k y. (k ≡ m) × (y ≡ x)) (Finished t)
 
   -- a turn that does a
   pub record Acted (s t : St) (a : Act) : Type 0 where
@@ -222,6 +233,8 @@ module _ (W : World) {St : Type 0} (S : Seen St) (Left : ℕ → Message → Typ
         }
     due-guard (commit X) (inl x) = inl (record { standing = S .standing s; stands = stands; names = x })
     due-guard (commit X) (inr x) = inr (backing (COMMIT X) x)
+    due-guard (finish i b) (inl x) = inl (inv .decs i b (x .0) (x .1) (x .2))
+    due-guard (finish i b) (inr x) = inr (backing (FINISH i b) x)
 
     -- what the state shows is shown
     pub shows-named : (X : List ℕ) → Names (W .settings) (S .standing s) X → Shown W h X
@@ -270,7 +283,7 @@ module _ (W : World) {St : Type 0} (S : Seen St) (Left : ℕ → Message → Typ
 
   module _ (h : History) (J : Act → Type 0) (p : ℕ) (s t : St) (inv : Inv h J p s) (coins : CoinsAre W S t) where
     -- a call that is no act
-    inv-changed : (new : ℕ → Message → Type 0) → ((m : ℕ) (x : Message) → Honest W m → new m x → Credit h m x) → Changed W S s t new (λ i b. ⊥) → Inv h J p t
+    inv-changed : (new : ℕ → Message → Type 0) → ((m : ℕ) (x : Message) → Honest W m → new m x → Credit h m x) → Changed W S s t new (Finished W S t) → Inv h J p t
     inv-changed new said c =
         record {
           credit = λ m x hm u. held m x hm (c .held m x (hm .low) (hm .high) u);
@@ -285,12 +298,16 @@ module _ (W : World) {St : Type 0} (S : Seen St) (Left : ℕ → Message → Typ
         held m x hm (inl u) = inv .credit m x hm u
         held m x hm (inr u) = said m x hm u
 
-        decs : (i b : ℕ) → 1 ≤ i → i ≤ W .settings .n → Decision (S .standing s) i b ⊎ ⊥ → Decided W h p i b
+        decs : (i b : ℕ) → 1 ≤ i → i ≤ W .settings .n → Decision (S .standing s) i b ⊎ Finished W S t i b → Decided W h p i b
         decs i b lo hi (inl e) = inv .decs i b lo hi e
-        decs i b lo hi (inr e) = absurd e
+        decs i b lo hi (inr e) = by-finish (backed-map W (λ m hm u. held m (FINISH i b) hm (c .held m (FINISH i b) (hm .low) (hm .high) u) .said) e)
 
     pub inv-kept : Kept W S s t → Inv h J p t
-    inv-kept k = inv-changed (λ m x. ⊥) (λ m x hm u. absurd u) k
+    inv-kept k = inv-changed (λ m x. ⊥) (λ m x hm u. absurd u) (record { held = k .held; echoed = k .echoed; auxed = k .auxed; decs = λ i b lo hi d. stood i b (k .decs i b lo hi d) })
+      where
+        stood : (i b : ℕ) → Decision (S .standing s) i b ⊎ ⊥ → Decision (S .standing s) i b ⊎ Finished W S t i b
+        stood i b (inl d) = inl d
+        stood i b (inr d) = absurd d
 
     pub inv-delivered : (m : ℕ) (x : Message) → (Honest W m → Credit h m x) → Delivered W S s t m x → Inv h J p t
     inv-delivered m x said d = inv-changed (λ k y. (k ≡ m) × (y ≡ x)) (λ k y hk e. rw (e .0, e .1) (said (rw (e .0) at hk))) d

@@ -1,5 +1,6 @@
 -- Votes over lawful histories, with up to ta liars: all decisions of a vote, in whatever rounds and at whichever honest concentrators, are
--- one value. The lock: once a move decides b in a round, every move of that round and of each later one takes b with it.
+-- one value. The lock: once a move decides b in a round, every move of that round and of each later one takes b with it. FINISHes, and what
+-- they decide, go back to a deciding move.
 use Prim.Native.Nat.{ℕ, suc, _≤_}
 use mathlib.Core.List.{_∷_}
 use mathlib.Core.Logic.{inl, inr}
@@ -11,7 +12,7 @@ use Rattle.acts.specs.declared.View.the-variants.{Only, Both}
 use Rattle.votes.specs.Votes.{estimate, coinValue}
 use Rattle.agreement.specs.Evidence.{World, Sound}
 use Rattle.agreement.specs.laws.Evidence.{Some, backed-map, one-of, two-of}
-use Rattle.agreement.specs.History.{Act, relay, move, History, Did, Event, Single, Occurs, Own, started, moved, Est, own, relayed, Accepted, Moving, Deciding, Decided, by-move, Guard, Lawful}
+use Rattle.agreement.specs.History.{Act, relay, move, finish, History, Did, Event, Single, Occurs, Own, started, moved, Est, own, relayed, Accepted, Moving, Deciding, Decided, by-move, by-finish, Guard, Lawful}
 use Rattle.agreement.specs.laws.History.{by-history}
 
 -- what is in a history stays
@@ -32,8 +33,12 @@ module _ (W : World) (e : Event) (h : History) where
         accepted = λ c t. backed-map W (λ m hm o. est-keep i r c m o) (x .accepted c t);
       }
 
+  deciding-keep : (i b m : ℕ) → Deciding W h i b m → Deciding W (e ∷ h) i b m
+  deciding-keep i b m x = record { round = x .round; coin = x .coin; move = inr (x .move) }
+
   pub decided-keep : (p i b : ℕ) → Decided W h p i b → Decided W (e ∷ h) p i b
-  decided-keep p i b (by-move x) = by-move (record { round = x .round; coin = x .coin; move = inr (x .move) })
+  decided-keep p i b (by-move x) = by-move (deciding-keep i b p x)
+  decided-keep p i b (by-finish x) = by-finish (backed-map W (λ m hm d. inr d) x)
 
 module _ (W : World) (G : ℕ → Act → Type 0) (so : Sound W (W .settings .ta)) where
   -- ---- where an EST comes from
@@ -107,8 +112,19 @@ module _ (W : World) (G : ℕ → Act → Type 0) (so : Sound W (W .settings .ta
 
   -- ---- decisions agree
 
-  decided-deciding : (h : History) (p i b : ℕ) → Decided W h p i b → Deciding W h i b p
-  decided-deciding h p i b (by-move x) = x
+  -- a FINISH goes back to a deciding move
+  finish-deciding : (i b : ℕ) (h : History) → Lawful W G h → (p : ℕ) → Did h p (finish i b) → Some (Deciding W h i b)
+  finish-deciding i b = by-history W G (finish i b) (λ h. Some (Deciding W h i b)) (λ e h o. record { who = o .who; has = deciding-keep W e h i b (o .who) (o .has) }) step
+    where
+      step : (h : History) (p : ℕ) → Guard W G h p (finish i b) → ((m : ℕ) → Did h m (finish i b) → Some (Deciding W h i b)) → Some (Deciding W h i b)
+      step h p (inl (by-move x)) rest = record { who = p; has = x }
+      step h p (inl (by-finish x)) rest = let o = one-of W so (omega arith) x in rest (o .who) (o .has)
+      step h p (inr x) rest = let o = one-of W so (omega arith) x in rest (o .who) (o .has)
+
+  -- and so does a decision, maybe to another's move
+  decided-deciding : (h : History) → Lawful W G h → (p i b : ℕ) → Decided W h p i b → Some (Deciding W h i b)
+  decided-deciding h law p i b (by-move x) = record { who = p; has = x }
+  decided-deciding h law p i b (by-finish x) = let o = one-of W so (omega arith) x in finish-deciding i b h law (o .who) (o .has)
 
   module _ (one : Single G) (h : History) (law : Lawful W G h) (i : ℕ) where
     -- the later of two deciding moves decides as the earlier
@@ -116,8 +132,8 @@ module _ (W : World) (G : ℕ → Act → Type 0) (so : Sound W (W .settings .ta
     later-agrees b c p q x y le = locked one h law i (x .round) b (x .coin) p (x .move) (y .round) le q (Only c) (y .move)
 
     pub decided-agree : (p q b c : ℕ) → Decided W h p i b → Decided W h q i c → b ≡ c
-    decided-agree p q b c x y = go (decided-deciding h p i b x) (decided-deciding h q i c y)
+    decided-agree p q b c x y = go (decided-deciding h law p i b x) (decided-deciding h law q i c y)
       where
-        go : Deciding W h i b p → Deciding W h i c q → b ≡ c
+        go : Some (Deciding W h i b) → Some (Deciding W h i c) → b ≡ c
         go u v =
-            elim (decLe (u .round) (v .round)) [ yes le ↦ sym (later-agrees b c p q u v le) | no l ↦ later-agrees c b q p v u (omega arith) ]
+            elim (decLe (u .has .round) (v .has .round)) [ yes le ↦ sym (later-agrees b c (u .who) (v .who) (u .has) (v .has) le) | no l ↦ later-agrees c b (v .who) (u .who) (v .has) (u .has) (omega arith) ]

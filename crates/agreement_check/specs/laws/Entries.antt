@@ -30,14 +30,16 @@ same-list (x ∷ xs) (y ∷ ys) e =
 pub same-session : (a b : Agreed) → sameSession a b ≡ true → a ≡ b
 unfolding sameSession
 same-session a b e =
-    let e1 = and-right (eqb (a .settings .n) (b .settings .n)) _ e in
+    let e0 = and-right (eqb (a .version) (b .version)) _ e in
+    let e1 = and-right (eqb (a .settings .n) (b .settings .n)) _ e0 in
     let e2 = and-right (eqb (a .settings .ta) (b .settings .ta)) _ e1 in
     let e3 = and-right (eqb (a .settings .ts) (b .settings .ts)) _ e2 in
     let e4 = and-right (eqb (a .settings .whole) (b .settings .whole)) _ e3 in
     let e5 = and-right (eqb (a .settings .weights) (b .settings .weights)) _ e4 in
     let e6 = and-right (eqb (a .number) (b .number)) _ e5 in
     same
-    (eqb-true _ _ (and-left (eqb (a .settings .n) (b .settings .n)) _ e))
+    (eqb-true _ _ (and-left (eqb (a .version) (b .version)) _ e))
+    (eqb-true _ _ (and-left (eqb (a .settings .n) (b .settings .n)) _ e0))
     (eqb-true _ _ (and-left (eqb (a .settings .ta) (b .settings .ta)) _ e1))
     (eqb-true _ _ (and-left (eqb (a .settings .ts) (b .settings .ts)) _ e2))
     (eqb-true _ _ (and-left (eqb (a .settings .whole) (b .settings .whole)) _ e3))
@@ -46,8 +48,8 @@ same-session a b e =
     (same-list _ _ (and-left (sameList (a .coins) (b .coins)) _ e6))
     (eqb-true _ _ (and-right (sameList (a .coins) (b .coins)) _ e6))
   where
-    same : a .settings .n ≡ b .settings .n → a .settings .ta ≡ b .settings .ta → a .settings .ts ≡ b .settings .ts → a .settings .whole ≡ b .settings .whole → a .settings .weights ≡ b .settings .weights → a .number ≡ b .number → a .coins ≡ b .coins → a .boxed ≡ b .boxed → a ≡ b
-    same n ta ts u w k c x = λ i. record { settings = record { n = n i; ta = ta i; ts = ts i; whole = u i; weights = w i }; number = k i; coins = c i; boxed = x i }
+    same : a .version ≡ b .version → a .settings .n ≡ b .settings .n → a .settings .ta ≡ b .settings .ta → a .settings .ts ≡ b .settings .ts → a .settings .whole ≡ b .settings .whole → a .settings .weights ≡ b .settings .weights → a .number ≡ b .number → a .coins ≡ b .coins → a .boxed ≡ b .boxed → a ≡ b
+    same m n ta ts u w k c x = λ i. record { version = m i; settings = record { n = n i; ta = ta i; ts = ts i; whole = u i; weights = w i }; number = k i; coins = c i; boxed = x i }
 
 -- who is not opened has no journal
 pub lines-none : (xs : List Entry) (p : ℕ) → isOpened xs p ≡ false → linesOf xs p ≡ []
