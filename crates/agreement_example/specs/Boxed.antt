@@ -14,7 +14,7 @@ use Rattle.agreement_example.specs.Messages.{inputFive, openingWith, rec
 use Rattle.agreement_example.specs.Weighted.{firstTwo, turns, withAuxes, withLastAuxes, withSets}
 
 abbrev pub session : Agreed
-session = record { settings = record { n = 3; ta = 1; ts = 1; whole = 6; weights = 2 ^ 48 + 2 ^ 32 + 2 ^ 16 + 7 }; number = 7; coins = 0 ∷ 0 ∷ 0 ∷ []; boxed = 1 }
+session = record { version = 1; settings = record { n = 3; ta = 1; ts = 1; whole = 6; weights = 2 ^ 48 + 2 ^ 32 + 2 ^ 16 + 7 }; number = 7; coins = 0 ∷ 0 ∷ 0 ∷ []; boxed = 1 }
 
 unfoldable pub openings : List (Call engine)
 openings = opens 2 ∷ opens 1 ∷ []

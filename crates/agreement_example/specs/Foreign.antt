@@ -23,7 +23,7 @@ abbrev pub asSecond : OpeningGiven
 asSecond = openingWith 3 1 1 (1 ∷ 0 ∷ 1 ∷ []) (4 ∷ 1 ∷ 1 ∷ []) 0 2 6
 
 abbrev pub unsent : Bytes
-unsent = bytesOf (encode (Send 2 6) 2 7 [])
+unsent = bytesOf (encode (Send 2 6) 1 2 7 [])
 
 -- The last call stands first.
 

@@ -15,7 +15,7 @@ use Rattle.calls.specs.Given.{bytesOf}
 use Rattle.agreement_example.specs.Messages.{inputFive, openingFive, deliver, turnOf}
 
 abbrev pub session : Agreed
-session = record { settings = record { n = 4; ta = 1; ts = 1; whole = 4; weights = 15 }; number = 7; coins = 0 ∷ 0 ∷ 0 ∷ 0 ∷ []; boxed = 0 }
+session = record { version = 1; settings = record { n = 4; ta = 1; ts = 1; whole = 4; weights = 15 }; number = 7; coins = 0 ∷ 0 ∷ 0 ∷ 0 ∷ []; boxed = 0 }
 
 abbrev pub firstThree : ℕ → Bool
 firstThree p = leb p 3
@@ -39,7 +39,7 @@ openings = opening 3 (openingFive 4 UNNAMED 1 3) ∷ opening 2 (openingFive 4 1 
 -- the SENDs; the liar sends 5 to 1, 6 to 2, and to 3 a SEND in the name of 1, which is refused (5 SENDER)
 unfoldable pub untilSends : List (Call engine)
 untilSends =
-    delivery 3 4 (bytesOf (encode (Send 1 6) 1 7 []))
+    delivery 3 4 (bytesOf (encode (Send 1 6) 1 1 7 []))
     ∷ deliver 2 4 (Send 4 6) []
     ∷ deliver 1 4 (Send 4 5) []
     ∷ toAll 3 (Send 3 5) [] (toAll 2 (Send 2 5) [] (toAll 1 (Send 1 5) [] (turns openings)))

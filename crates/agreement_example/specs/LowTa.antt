@@ -19,7 +19,7 @@ use Rattle.agreement_example.specs.Messages.{inputFive, openingFive, del
 use Rattle.agreement_example.specs.Weighted.{firstTwo, turns, toBoth, fromBoth}
 
 abbrev pub session : Agreed
-session = record { settings = record { n = 3; ta = 0; ts = 1; whole = 3; weights = 7 }; number = 7; coins = 0 ∷ 0 ∷ 0 ∷ []; boxed = 0 }
+session = record { version = 1; settings = record { n = 3; ta = 0; ts = 1; whole = 3; weights = 7 }; number = 7; coins = 0 ∷ 0 ∷ 0 ∷ []; boxed = 0 }
 
 -- The last call stands first; `cs` are the calls before.
 

@@ -1,6 +1,7 @@
--- The arguments of the calls in the examples: session 7; each is lent 512 bytes for its line.
+-- The arguments of the calls in the examples: session 7, of version 1 where no other is named; each is lent 512 bytes for its line.
 use Prim.Native.Nat.{ℕ}
 use mathlib.Core.List.{List}
+use Rattle.settings.specs.Versions.{FIRST-VERSION}
 use Rattle.records.specs.Words.{blank}
 use Rattle.opening.specs.Given.{onesGiven}
 use Rattle.opening.specs.Arguments.{arguments}
@@ -11,8 +12,11 @@ use Rattle.calls.specs.Engine.{engine, OpeningGiven}
 use Rattle.calls.specs.Given.{bytesOf, openingOf, turnWith, bitOf}
 
 -- an opening under the number p, with v as input
+unfoldable pub openingIn : (version n ta ts : ℕ) (coins weights : List ℕ) (boxed p v : ℕ) → OpeningGiven
+openingIn version n ta ts coins weights boxed p v = openingOf (arguments version n ta ts p 7 v coins weights boxed)
+
 unfoldable pub openingWith : (n ta ts : ℕ) (coins weights : List ℕ) (boxed p v : ℕ) → OpeningGiven
-openingWith n ta ts coins weights boxed p v = openingOf (arguments n ta ts p 7 v coins weights boxed)
+openingWith = openingIn FIRST-VERSION
 
 -- .. with printed coin words of 0, weights of 1 and the input 5
 unfoldable pub openingFive : (n ta ts p : ℕ) → OpeningGiven
@@ -23,8 +27,11 @@ abbrev pub inputFive : ℕ → ℕ
 inputFive p = 5
 
 -- the message m of the link's concentrator p, with the values xs beside a COMMIT, delivered to q
+unfoldable pub deliverIn : (version q p : ℕ) → Message → List ℕ → Call engine
+deliverIn version q p m xs = delivery q p (bytesOf (encode m version p 7 xs))
+
 unfoldable pub deliver : (q p : ℕ) → Message → List ℕ → Call engine
-deliver q p m xs = delivery q p (bytesOf (encode m p 7 xs))
+deliver = deliverIn FIRST-VERSION
 
 -- a turn of p, lent 140 bytes for a message
 unfoldable pub turnOf : ℕ → Call engine

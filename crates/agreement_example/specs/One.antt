@@ -11,7 +11,7 @@ use Rattle.calls.specs.Given.{bytesOf}
 use Rattle.agreement_example.specs.Messages.{inputFive, openingFive, deliver, turnOf}
 
 abbrev pub session : Agreed
-session = record { settings = record { n = 1; ta = 0; ts = 0; whole = 1; weights = 1 }; number = 7; coins = 0 ∷ []; boxed = 0 }
+session = record { version = 1; settings = record { n = 1; ta = 0; ts = 0; whole = 1; weights = 1 }; number = 7; coins = 0 ∷ []; boxed = 0 }
 
 abbrev pub everyone : ℕ → Bool
 everyone p = true

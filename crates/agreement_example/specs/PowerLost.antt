@@ -19,7 +19,7 @@ use Rattle.agreement_example.specs.One.{session, everyone}
 
 -- the line of the opening
 abbrev pub firstLine : List ℕ
-firstLine = openingLine (arguments 1 0 0 1 7 5 (0 ∷ []) (1 ∷ []) 0)
+firstLine = openingLine (arguments 1 1 0 0 1 7 5 (0 ∷ []) (1 ∷ []) 0)
 
 -- a restore from these bytes, lent 140 bytes for a message
 unfoldable pub from : List ℕ → RestoreLent

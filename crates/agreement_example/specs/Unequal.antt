@@ -15,7 +15,7 @@ use Rattle.agreement_example.specs.Messages.{openingWith}
 use Rattle.agreement_example.specs.Four.{firstThree, turns, toAll, fromAll}
 
 abbrev pub session : Agreed
-session = record { settings = record { n = 4; ta = 1; ts = 1; whole = 4; weights = 15 }; number = 7; coins = 1 ∷ 1 ∷ 1 ∷ 0 ∷ []; boxed = 0 }
+session = record { version = 1; settings = record { n = 4; ta = 1; ts = 1; whole = 4; weights = 15 }; number = 7; coins = 1 ∷ 1 ∷ 1 ∷ 0 ∷ []; boxed = 0 }
 
 -- what p puts in
 abbrev pub inputOf : ℕ → ℕ

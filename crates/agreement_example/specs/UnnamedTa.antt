@@ -12,7 +12,7 @@ use Rattle.agreement_example.specs.LowTa.{closing, OverTa}
 
 -- the weights as one word: each has two marks
 abbrev pub session : Agreed
-session = record { settings = record { n = 3; ta = 1; ts = 2; whole = 6; weights = 7 * 2 ^ 16 + 7 }; number = 7; coins = 0 ∷ 0 ∷ 0 ∷ []; boxed = 0 }
+session = record { version = 1; settings = record { n = 3; ta = 1; ts = 2; whole = 6; weights = 7 * 2 ^ 16 + 7 }; number = 7; coins = 0 ∷ 0 ∷ 0 ∷ []; boxed = 0 }
 
 unfoldable pub openings : List (Call engine)
 openings = opens 2 ∷ opens 1 ∷ []

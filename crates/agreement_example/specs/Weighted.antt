@@ -17,7 +17,7 @@ use Rattle.agreement_example.specs.Messages.{inputFive, openingWith, del
 
 -- the weights as one word: 1 has the marks 1, 17, 33 and 49, 2 and 3 the marks 2 and 3
 abbrev pub session : Agreed
-session = record { settings = record { n = 3; ta = 1; ts = 1; whole = 6; weights = 2 ^ 48 + 2 ^ 32 + 2 ^ 16 + 7 }; number = 7; coins = 1 ∷ 0 ∷ 1 ∷ []; boxed = 0 }
+session = record { version = 1; settings = record { n = 3; ta = 1; ts = 1; whole = 6; weights = 2 ^ 48 + 2 ^ 32 + 2 ^ 16 + 7 }; number = 7; coins = 1 ∷ 0 ∷ 1 ∷ []; boxed = 0 }
 
 abbrev pub firstTwo : ℕ → Bool
 firstTwo p = leb p 2

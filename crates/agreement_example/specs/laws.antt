@@ -7,5 +7,6 @@ pub mod One
 pub mod Four
 pub mod Weighted
 pub mod Boxed
+pub mod Finishing
 pub mod PowerLost
 pub mod LineLost

@@ -6,6 +6,7 @@ ghost use Rattle.agreement_example.specs.One.{OneMeets};
 ghost use Rattle.agreement_example.specs.Four.{FourMeet};
 ghost use Rattle.agreement_example.specs.Weighted.{WeightedMeet};
 ghost use Rattle.agreement_example.specs.Boxed.{BoxedMeet, Waits};
+ghost use Rattle.agreement_example.specs.Finishing.{FinishingMeet, DecidedByFinishes};
 ghost use Rattle.agreement_example.specs.Unequal.{UnequalMeet};
 ghost use Rattle.agreement_example.specs.LowTa.{LowTaMeet};
 ghost use Rattle.agreement_example.specs.UnnamedTa.{UnnamedMeet};
@@ -37,6 +38,16 @@ pub fn boxed_concentrators()
 // Until it has recorded the bit, a concentrator of that session waits: its turns are idle.
 pub fn waits_for_coin()
     ensures { λ _. ⌜ Waits ⌝ }
+{}
+
+// In version 2 the heavy one's moves decide the votes, and its FINISHes decide those of the light one; both close.
+pub fn finishing_concentrators()
+    ensures { λ _. ⌜ FinishingMeet ⌝ }
+{}
+
+// The light one's votes are decided by the delivery of FINISHes, before it leaves a round.
+pub fn decided_by_finishes()
+    ensures { λ _. ⌜ DecidedByFinishes ⌝ }
 {}
 
 // Three honest concentrators with unequal inputs close by Exit 3 with the set of all three, beside a liar that never sends.

@@ -7,7 +7,7 @@ use Rattle.text.specs.Numbers.{decimalIn, decimalText}
 use Rattle.journal.specs.Lines.{numberText, numberTexts, tabbed, openingForms, openingText, hexBytes, deliveryText, recordingText, withEnd}
 use Rattle.journal.specs.Journal.{lineAnswer, lineWords, openNumber, openedWords, deliverNumber, deliveredWords, recordNumber, recordWords, turnRoom, turnedMessage}
 use Rattle.calls.specs.Given.{lowBytes, bytesOf, coinsOf, openingOf, turnWith, bitOf}
-use Rattle.agreement_example.specs.Messages.{openingWith, openingFive, deliver, turnOf, recordOf}
+use Rattle.agreement_example.specs.Messages.{openingIn, openingWith, openingFive, deliverIn, deliver, turnOf, recordOf}
 use Rattle.agreement_check.specs.Bits.{boxBit}
 
 -- the test of a list
@@ -17,7 +17,7 @@ testing = tt
 
 -- the calls of the lists, and their refusals
 unfoldable listing : Unit {0}
-unfolding boxBit closesWith closes allClose ends passesAt passes refusalOf refusal withRefusal afterCall refusals lowBytes bytesOf coinsOf openingOf turnWith bitOf openingWith openingFive deliver turnOf recordOf
+unfolding boxBit closesWith closes allClose ends passesAt passes refusalOf refusal withRefusal afterCall refusals lowBytes bytesOf coinsOf openingOf turnWith bitOf openingIn openingWith openingFive deliverIn deliver turnOf recordOf
 listing = tt
 
 -- the lines of a journal

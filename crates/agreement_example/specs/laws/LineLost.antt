@@ -18,7 +18,7 @@ use Rattle.agreement.specs.laws.Worlds.{world}
 use Rattle.agreement.specs.DemandThree.{Departed, Conditions}
 use Rattle.calls.specs.Engine.{engine, Agreed, Bytes, TurnLent}
 use Rattle.calls.specs.Given.{bytesOf}
-use Rattle.agreement_example.specs.Messages.{inputFive, deliver}
+use Rattle.agreement_example.specs.Messages.{inputFive, deliverIn, deliver}
 use Rattle.agreement_example.specs.One.{session, everyone}
 use Rattle.agreement_example.specs.PowerLost.{firstLine, from}
 use Rattle.agreement_check.specs.Checking.{Line, Entry, isOpened, wordsOf, linesOf, sameList, completeOf, restoreRight, run}
@@ -62,7 +62,7 @@ module _ (start : ℕ → List ℕ) (room : (p : ℕ) → Honest (world engine s
   got = run session everyone inputFive untilGot .states
 
   abbrev message : Bytes
-  message = bytesOf (encode (Send 1 5) 1 7 [])
+  message = bytesOf (encode (Send 1 5) 1 1 7 [])
 
   sent-tracks : Tracks start session everyone inputFive untilSent sent (run session everyone inputFive untilSent .gone)
   unfolding calls checks untilSent
@@ -86,7 +86,7 @@ module _ (start : ℕ → List ℕ) (room : (p : ℕ) → Honest (world engine s
 
   -- the SEND left
   departed : Departed engine start untilGot 1 message
-  unfolding deliver untilGot
+  unfolding deliverIn deliver untilGot
   departed = record { who = 1; past = untilSent; within = now; opened = sent-tracks .some 1 sent-opened; accepted = rw (sent-tracks .equal 1 sent-opened) taken }
 
   reads : restoreRight (from firstLine) (linesOf got 1) ≡ true

@@ -5,7 +5,7 @@ use mathlib.Core.List.{List, [], _∷_}
 use mathlib.Core.Path.{_≡_, refl}
 use lib.Dec.{eqb}
 use Rattle.settings.specs.Refusals.{SETTINGS, CLOSED, HELD, NO-STATE}
-use Rattle.records.specs.Records.{closed}
+use Rattle.records.specs.Records.{closed, version}
 use Rattle.session.specs.Session.{isState, sessionOf}
 use Rattle.wire.specs.Reading.{lengthRight, readMessage}
 use Rattle.delivery.specs.Delivery.{judged, verdict, answerOf, deliverAnswer}
@@ -41,7 +41,7 @@ unfolding deliverAnswer verdict judged answerOf readMessage lengthRight
 short-refused s = go (isState s) (closed s)
   where
     parsed : Parsed
-    parsed = readMessage (sessionOf s .settings .n) (sessionOf s .number) 1 (1 ∷ 1 ∷ 1 ∷ [])
+    parsed = readMessage (version s) (sessionOf s .settings .n) (sessionOf s .number) 1 (1 ∷ 1 ∷ 1 ∷ [])
 
     go : (t c : Bool) → eqb (answerOf (cond (not t) (Refused NO-STATE) (cond c (Refused CLOSED) (judged s 1 parsed)))) 0 ≡ false
     go false c = refl
