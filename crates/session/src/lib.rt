@@ -5,9 +5,12 @@ use settings::Settings;
 ghost use mathlib.Core.Path.{_≡_};
 ghost use Prim.Native.Nat.{_+_, _<_};
 ghost use Rattle.session.specs.Session.{numbered, numbersRight, sessionWith, stored};
-ghost use Rattle.session.specs.laws.Session.{storedWith};
+ghost use Rattle.session.specs.laws.Session.{placeRight, storedWith};
 ghost use Rattle.records.specs.Words.{word};
-ghost use Rattle.records.specs.Layout.{ownAt};
+ghost use Rattle.records.specs.Layout.{ownAt, boxedAt};
+ghost use Rattle.records.specs.Records.{version};
+ghost use Rattle.settings.specs.Versions.{versionKnown};
+ghost use mathlib.Core.Bool.{_&&_};
 ghost use Rattle.quorum.specs.Every.{every};
 ghost use lib.Dec.{leb};
 ghost use lib.ListN.{length};
@@ -30,27 +33,35 @@ pub fn numbered(n: u64, own: u64) -> bool
     (1 <= own) & (own <= n)
 }
 
-// Whether the word at base + k is at most limit.
-fn limited(s: &[u64], base: u8, limit: u64, k: u8) -> bool
-    requires { ⌜ base + k < length (now s) ⌝ }
-    ensures { λ r. ⌜ r ≡ leb (word (now (s .entry)) (base + k)) limit ⌝ }
+// Whether the round of vote k and the number of values in the COMMIT of sender k are within the rules.
+fn place_right(s: &[u64], n: u8, k: u8) -> bool
+    requires { ⌜ 119 + k < length (now s) ⌝ }
+    ensures { λ r. ⌜ r ≡ placeRight (now (s .entry)) n k ⌝ }
 {
-    s[base as usize + k as usize] <= limit
+    (s[layout::ROUNDS + k as usize] <= Settings::MOVED_OUT_ROUND as u64)
+        & (s[layout::COMMIT_COUNTS + k as usize] <= n as u64)
 }
 
-// Whether the words base + 1 to base + n are all at most limit.
-fn all_limited(s: &[u64], base: u8, limit: u64, n: u8) -> bool
-    requires { ⌜ base + n < length (now s) ⌝ }
-    ensures { λ r. ⌜ r ≡ every (λ k. leb (word (now (s .entry)) (base + k)) limit) n ⌝ }
+// The same of 1 to n: one walk for both, since every call makes it.
+fn places_right(s: &[u64], n: u8) -> bool
+    requires { ⌜ 119 + n < length (now s) ⌝ }
+    ensures { λ r. ⌜ r ≡ every (placeRight (now (s .entry)) n) n ⌝ }
 {
     let mut k: u8 = 0;
     while k < n {
         k += 1;
-        if !limited(s, base, limit, k) {
+        if !place_right(s, n, k) {
             return false;
         }
     }
     true
+}
+
+// Whether the coins are of a kind that opening takes, and the version one of the two.
+fn kinds_right(s: &[u64]) -> bool
+    ensures { λ r. ⌜ r ≡ (leb (word (now (s .entry)) boxedAt) 1 && versionKnown (version (now (s .entry)))) ⌝ }
+{
+    (records::word(s, layout::BOXED) <= 1) & settings::version_known(records::version(s))
 }
 
 // Whether the stored numbers beside the settings are within the rules.
@@ -61,25 +72,13 @@ fn numbers_right(s: &[u64], g: Settings) -> bool
     if !numbered(g.n as u64, records::word(s, layout::OWN)) {
         return false;
     }
-    if 1 < records::word(s, layout::BOXED) {
+    if !kinds_right(s) {
         return false;
     }
-    let version = records::version(s);
-    if !settings::version_known(version) {
+    if g.turn_bound(records::version(s)) < records::word(s, layout::TURNS) {
         return false;
     }
-    if g.turn_bound(version) < records::word(s, layout::TURNS) {
-        return false;
-    }
-    if !all_limited(
-        s,
-        layout::ROUNDS as u8,
-        Settings::MOVED_OUT_ROUND as u64,
-        g.n,
-    ) {
-        return false;
-    }
-    all_limited(s, layout::COMMIT_COUNTS as u8, g.n as u64, g.n)
+    places_right(s, g.n)
 }
 
 // What is read of a state with these settings.

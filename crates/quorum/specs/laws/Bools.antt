@@ -15,6 +15,12 @@ pub and-both : (a b : Bool) → a ≡ true → b ≡ true → a && b ≡ true
 and-both true b s t = t
 and-both false b s t = s
 
+pub and-cross : (a b c d : Bool) → (a && b) && (c && d) ≡ (a && c) && (b && d)
+and-cross false b c d = refl
+and-cross true true c d = refl
+and-cross true false true d = refl
+and-cross true false false d = refl
+
 pub or-left : (a b : Bool) → a ≡ true → a || b ≡ true
 or-left true b e = refl
 or-left false b e = absurd (false≢true e)

@@ -1,11 +1,11 @@
 -- `every` tells that each number passes, and what the loops keep that ask it.
 use Prim.Native.Nat.{ℕ, zero, suc, _+_, _≤_, _<_}
-use mathlib.Core.Bool.{Bool, true, false, not, false≢true}
+use mathlib.Core.Bool.{Bool, true, false, _&&_, not, false≢true}
 use mathlib.Core.Path.{_≡_, refl, sym, subst, _∙_}
 use native.Mathlib.Omega.{arith}
 use native.Mathlib.Decide.{decLe}
 use borrow.Author.Tests.{not-true, not-false}
-use Rattle.quorum.specs.laws.Bools.{and-left, and-right, and-both}
+use Rattle.quorum.specs.laws.Bools.{and-left, and-right, and-both, and-cross}
 use Rattle.quorum.specs.Every.{every}
 
 -- each p of 1 to k has f p
@@ -48,6 +48,14 @@ every-agree f g zero h = refl
 every-agree f g (suc n) h =
     let e : every f n ≡ every g n = every-agree f g n (λ p a b. h p a (omega arith)) in
     rw (e, h (suc n) (omega arith) (omega arith))
+
+-- two properties asked in one walk
+pub every-both : (f g : ℕ → Bool) (n : ℕ) → every (λ p. f p && g p) n ≡ every f n && every g n
+unfolding every
+every-both f g zero = refl
+every-both f g (suc n) =
+    let e : every (λ p. f p && g p) n ≡ every f n && every g n = every-both f g n in
+    rw e (and-cross (every f n) (every g n) (f (suc n)) (g (suc n)))
 
 -- a loop `p = 0; while p < n { p += 1; if !test(p) { return false; } }` that has passed 1 to k
 pub record Holding (f : ℕ → Bool) (n k : ℕ) : Type 0 where

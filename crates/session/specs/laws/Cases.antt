@@ -15,11 +15,12 @@ use Rattle.settings.specs.declared.Settings.{Settings}
 use Rattle.settings.specs.declared.Checked.{Checked}
 use Rattle.settings.specs.declared.Checked.the-variants.{Valid, Invalid}
 use Rattle.quorum.specs.Every.{every}
-use Rattle.records.specs.Layout.{nAt, taAt, tsAt, ownAt, weightsAt, boxedAt, turnsAt}
+use Rattle.quorum.specs.laws.Every.{every-both}
+use Rattle.records.specs.Layout.{nAt, taAt, tsAt, ownAt, weightsAt, boxedAt, turnsAt, roundAt, commitCountAt}
 use Rattle.records.specs.Records.{version}
 use Rattle.records.specs.Words.{word}
 use Rattle.session.specs.Session.{numbered, roundsRight, commitsRight, numbersRight, settingsOf, isState, sessionWith, sessionOf, stored}
-use Rattle.session.specs.laws.Session.{storedWith}
+use Rattle.session.specs.laws.Session.{placeRight, storedWith}
 use Rattle.session.specs.declared.Session.{Session}
 use Rattle.session.specs.declared.Stored.{Stored}
 use Rattle.session.specs.declared.Stored.the-variants.{NoState, Held}
@@ -29,31 +30,23 @@ module _ (g : Settings) (s : List ℕ) (own : ℕ) (eo : own ≡ word s ownAt) (
   unfolding numbersRight
   own-wrong t = rw (← eo, ← eb, not-true b t)
 
-  module _ (tb : not b ≡ false) (x : ℕ) (ex : x ≡ word s boxedAt) where
-    pub boxed-wrong : 1 < x → false ≡ numbersRight g s
+  module _ (tb : not b ≡ false) (x : Bool) (ex : x ≡ (leb (word s boxedAt) 1 && versionKnown (version s))) where
+    pub kinds-wrong : not x ≡ true → false ≡ numbersRight g s
     unfolding numbersRight
-    boxed-wrong l = rw (← eo, ← eb, not-false b tb, ← ex, lt-leb x 1 l)
+    kinds-wrong t = rw (← eo, ← eb, not-false b tb, ← ex, not-true x t)
 
-    module _ (lx : x ≤ 1) (v : ℕ) (ev : v ≡ version s) (w : Bool) (ew : w ≡ versionKnown v) where
-      pub version-wrong : not w ≡ true → false ≡ numbersRight g s
+    module _ (tx : not x ≡ false) (v k turns : ℕ) (ev : v ≡ version s) (ek : k ≡ turnBound v g) (et : turns ≡ word s turnsAt) where
+      pub turns-wrong : k < turns → false ≡ numbersRight g s
       unfolding numbersRight
-      version-wrong t = rw (← eo, ← eb, not-false b tb, ← ex, le-leb x 1 lx, ← ev, ← ew, not-true w t)
+      turns-wrong l = rw (← eo, ← eb, not-false b tb, ← ex, not-false x tx, ← ev, ← ek, ← et, lt-leb turns k l)
 
-      module _ (tw : not w ≡ false) (k turns : ℕ) (ek : k ≡ turnBound v g) (et : turns ≡ word s turnsAt) where
-        pub turns-wrong : k < turns → false ≡ numbersRight g s
-        unfolding numbersRight
-        turns-wrong l = rw (← eo, ← eb, not-false b tb, ← ex, le-leb x 1 lx, ← ev, ← ew, not-false w tw, ← ek, ← et, lt-leb turns k l)
+      pub places-asked : (c : Bool) → turns ≤ k → c ≡ every (placeRight s (g .n)) (g .n) → c ≡ numbersRight g s
+      unfolding numbersRight roundsRight commitsRight placeRight
+      places-asked c l ec =
+          rw (← eo, ← eb, not-false b tb, ← ex, not-false x tx, ← ev, ← ek, ← et, le-leb turns k l)
+          (ec ∙ every-both (λ i. leb (word s (roundAt i)) 33) (λ p. leb (word s (commitCountAt p)) (g .n)) (g .n))
 
-        module _ (lt : turns ≤ k) (r : Bool) (er : r ≡ every (λ i. leb (word s (23 + i)) 33) (g .n)) where
-          pub rounds-wrong : not r ≡ true → false ≡ numbersRight g s
-          unfolding numbersRight roundsRight
-          rounds-wrong t = rw (← eo, ← eb, not-false b tb, ← ex, le-leb x 1 lx, ← ev, ← ew, not-false w tw, ← ek, ← et, le-leb turns k lt, ← er, not-true r t)
-
-          pub commits-asked : (c : Bool) → not r ≡ false → c ≡ every (λ p. leb (word s (119 + p)) (g .n)) (g .n) → c ≡ numbersRight g s
-          unfolding numbersRight roundsRight commitsRight
-          commits-asked c t ec = rw (← eo, ← eb, not-false b tb, ← ex, le-leb x 1 lx, ← ev, ← ew, not-false w tw, ← ek, ← et, le-leb turns k lt, ← er, not-false r t) ec
-
-pub ruleset number-cases = (own-wrong, boxed-wrong, version-wrong, turns-wrong, rounds-wrong, commits-asked)
+pub ruleset number-cases = (own-wrong, kinds-wrong, turns-wrong, places-asked)
 
 pub own-small : (g : Settings) (s : List ℕ) (b : Bool) → b ≡ numbersRight g s → b ≡ true → g .n < 256 → word s ownAt < 256
 unfolding numbersRight numbered

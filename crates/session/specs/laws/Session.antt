@@ -5,7 +5,7 @@ use mathlib.Core.Bool.{Bool, _&&_, cond, true, false}
 use mathlib.Core.List.{List}
 use lib.ListN.{length}
 use lib.Dec.{eqb, leb}
-use Rattle.settings.specs.Settings.{validSettings}
+use Rattle.settings.specs.Settings.{validSettings, movedOutRound}
 use Rattle.settings.specs.Versions.{versionKnown, turnBound}
 use Rattle.settings.specs.laws.Versions.{Known, version-known, known-version}
 use Rattle.settings.specs.declared.Settings.{Settings}
@@ -24,6 +24,10 @@ use Rattle.quorum.specs.laws.Bools.{and-left, and-right}
 use Rattle.settings.specs.Rules.{Ruled}
 use Rattle.settings.specs.laws.Rules.{valid-rules, rules-valid}
 use Rattle.quorum.specs.laws.Every.{every-each, each-every}
+
+-- what the one walk over 1 to n asks of each number
+unfoldable pub placeRight : List ℕ → ℕ → ℕ → Bool
+placeRight s n k = leb (word s (roundAt k)) movedOutRound && leb (word s (commitCountAt k)) n
 
 unfoldable pub storedWith : Settings → List ℕ → Stored
 storedWith g s = cond (numbersRight g s) (Held (sessionWith g s)) NoState
