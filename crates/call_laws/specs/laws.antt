@@ -7,4 +7,5 @@ pub mod ReadBack
 pub mod Recorded
 pub mod Places
 pub mod SettingsKept
+pub mod Earlier
 pub mod FirstVersion

@@ -1,26 +1,21 @@
 -- The statement of specs/FirstVersion.antt.
-use Prim.Native.Nat.{ℕ, _+_, _*_, _≤_}
-use mathlib.Core.Bool.{Bool, true, false, _&&_, false≢true}
+use Prim.Native.Nat.{ℕ, _≤_}
+use mathlib.Core.Bool.{false, false≢true}
 use mathlib.Core.List.{List}
 use mathlib.Core.Logic.{inl, inr}
-use mathlib.Core.Path.{_≡_, refl, sym, ap, _∙_}
+use mathlib.Core.Path.{_≡_, refl, sym, _∙_}
 use native.Mathlib.Omega.{arith}
 use lib.ListN.{drop}
-use lib.Dec.{leb}
-use Rattle.settings.specs.Versions.{FIRST-VERSION, versionKnown, finishing, turnBound}
-use Rattle.settings.specs.laws.Versions.{first-plain}
+use Rattle.settings.specs.Versions.{finishing}
 use Rattle.settings.specs.declared.Settings.{Settings}
-use Rattle.records.specs.Layout.{ownAt, boxedAt, turnsAt}
 use Rattle.records.specs.Records.{version}
 use Rattle.records.specs.Words.{word}
 use Rattle.acts.specs.declared.Act.{Act}
 use Rattle.acts.specs.declared.Act.the-variants.{Idle, InForce, Commit, Send, Echo, Ready, Start, Relay, Aux, Move, Finish}
-use Rattle.votes.specs.laws.Versions.{first-rule}
-use Rattle.session.specs.Session.{numbered, roundsRight, commitsRight, numbersRight}
-use Rattle.wire.specs.Message.{COMMIT, kindOf, lastKind}
+use Rattle.wire.specs.Message.{COMMIT, kindOf}
 use Rattle.wire.specs.declared.Message.{Message}
 use Rattle.wire.specs.declared.Message.the-variants as message
-use Rattle.delivery.specs.Delivery.{verdict, recorded, wordsAfter, delivered}
+use Rattle.delivery.specs.Delivery.{verdict, wordsAfter, delivered}
 use Rattle.delivery.specs.laws.Frame.{InLayout, Changed, word-recorded}
 use Rattle.delivery.specs.laws.Accepting.{accepting}
 use Rattle.delivery.specs.laws.Versions.{first-kinds}
@@ -35,10 +30,8 @@ use Rattle.turn.specs.laws.Frame.{Spared, Placed, told-placed, applied-other}
 use Rattle.turn.specs.declared.Admitted.{Admitted}
 use Rattle.turn.specs.declared.Admitted.the-variants as admitted
 use Rattle.call_laws.specs.FirstVersion.{First, FinishWord, FirstVersion}
+use Rattle.call_laws.specs.laws.Earlier.{plain, calls-as-earlier, opens-as-earlier}
 use Rattle.call_laws.specs.laws.SettingsKept.{accepted-layout}
-
-plain : (s : List ℕ) → First s → finishing (version s) ≡ false
-plain s e = ap finishing e ∙ first-plain
 
 -- no message but a FINISH is recorded there
 spared : (p : ℕ) (m : Message) (a : ℕ) → InLayout p m → kindOf m ≤ COMMIT → FinishWord a → Changed p m a → ⊥
@@ -90,26 +83,12 @@ turn-keeps s room a first w = go (admits s room) refl
         let t = due-told g s r in
         rw e (applied-other s (due g s) a (λ z. omega (arith, w .low)) (unmarked g s (due g s) a (plain s first) t (told-placed g s r (due g s) t) w))
 
-and-true : (b : Bool) → (b && true) ≡ b
-and-true true = refl
-and-true false = refl
-
-first-numbers : (g : Settings) (s : List ℕ) → First s →
-    numbersRight g s
-    ≡ (numbered (g .n) (word s ownAt) && leb (word s boxedAt) 1 && leb (word s turnsAt) (99 * g .n + 3) && roundsRight s (g .n) && commitsRight s (g .n))
-unfolding numbersRight versionKnown turnBound finishing
-first-numbers g s e =
-    rw e (ap (λ (b : Bool). b && leb (word s turnsAt) (99 * g .n + 3) && roundsRight s (g .n) && commitsRight s (g .n))
-    (and-true (numbered (g .n) (word s ownAt) && leb (word s boxedAt) 1)))
-
 pub first-version : FirstVersion
-unfolding lastKind finishing
 first-version =
     record {
-      numbers = first-numbers;
-      kinds = λ byte kind. refl;
+      openings = opens-as-earlier;
+      calls = calls-as-earlier;
       accepted = λ s link b m e a. first-kinds s link b m (plain s e) a;
-      votes = λ g s hasOutput e. first-rule g s hasOutput (plain s e);
       delivery-words = delivery-keeps;
       turn-words = turn-keeps;
     }
