@@ -18,6 +18,7 @@ pub mod calls {
         pub fn pack_open(
             state: *mut u64,
             words: usize,
+            version: u64,
             n: u64,
             ta: u64,
             ts: u64,
@@ -213,11 +214,12 @@ impl Engine for CEngine {
     }
 
     fn open(&self, state: &mut Words, opening: &Opening, line: &mut [u8]) -> u64 {
-        let Opening { n, ta, ts, own, session, input, coins, weights, boxed } = *opening;
+        let Opening { version, n, ta, ts, own, session, input, coins, weights, boxed } = *opening;
         let call = |state, words, coins, coin_words, weights, weight_count, line, line_bytes| unsafe {
             pack_open(
                 state,
                 words,
+                version,
                 n,
                 ta,
                 ts,

@@ -1,9 +1,9 @@
-//! 01, "Message bytes": the six messages, their reader and their writer.
+//! 01, "Message bytes": the six messages, FINISH of version 2 (02, N6), their reader and their writer.
 
 use std::collections::BTreeSet;
 
 use crate::refusal::Refusal;
-use crate::settings::{Number, Round, Settings};
+use crate::settings::{Number, Round, Settings, Version};
 
 /// A set of packs. It lists its values rising, each once.
 pub type PackSet = BTreeSet<u64>;
@@ -12,7 +12,6 @@ pub type PackSet = BTreeSet<u64>;
 pub const HEAD: usize = 12;
 /// The longest message: a COMMIT of 16 values.
 pub const LONGEST: usize = HEAD + 8 * Settings::MOST as usize;
-const VERSION: u8 = 1;
 
 /// What one concentrator tells the others. The sender is known beside it.
 #[derive(Clone, Debug, PartialEq, Eq)]
@@ -42,6 +41,11 @@ pub enum Message {
     Commit {
         values: PackSet,
     },
+    /// In version 2 only.
+    Finish {
+        instance: Number,
+        value: bool,
+    },
 }
 
 #[derive(Clone, Copy, PartialEq, Eq)]
@@ -52,12 +56,16 @@ enum Kind {
     Est = 4,
     Aux = 5,
     Commit = 6,
+    Finish = 7,
 }
 
 impl Kind {
-    fn from_byte(byte: u8) -> Option<Kind> {
+    /// The kind of the byte, if the version knows it.
+    fn from_byte(byte: u8, version: Version) -> Option<Kind> {
         use Kind::*;
-        [Send, Echo, Ready, Est, Aux, Commit].into_iter().find(|&kind| kind as u8 == byte)
+        let kinds = [Send, Echo, Ready, Est, Aux, Commit, Finish];
+        let known = |kind: &Kind| *kind != Finish || version == Version::Two;
+        kinds.into_iter().filter(known).find(|&kind| kind as u8 == byte)
     }
 
     fn has_round(self) -> bool {
@@ -74,6 +82,7 @@ impl Message {
             Message::Est { .. } => Kind::Est,
             Message::Aux { .. } => Kind::Aux,
             Message::Commit { .. } => Kind::Commit,
+            Message::Finish { .. } => Kind::Finish,
         }
     }
 
@@ -83,7 +92,8 @@ impl Message {
             Message::Echo { instance, .. }
             | Message::Ready { instance, .. }
             | Message::Est { instance, .. }
-            | Message::Aux { instance, .. } => instance,
+            | Message::Aux { instance, .. }
+            | Message::Finish { instance, .. } => instance,
             Message::Commit { .. } => 0,
         }
     }
@@ -100,15 +110,17 @@ impl Message {
             Message::Send { value }
             | Message::Echo { value, .. }
             | Message::Ready { value, .. } => vec![*value],
-            Message::Est { value, .. } | Message::Aux { value, .. } => vec![u64::from(*value)],
+            Message::Est { value, .. }
+            | Message::Aux { value, .. }
+            | Message::Finish { value, .. } => vec![u64::from(*value)],
             Message::Commit { values } => values.iter().copied().collect(),
         }
     }
 
-    /// The bytes of this message from `sender` in `session`.
-    pub fn to_bytes(&self, sender: Number, session: u32) -> Vec<u8> {
+    /// The bytes of this message from `sender` in `session`, which is of this version.
+    pub fn to_bytes(&self, version: Version, sender: Number, session: u32) -> Vec<u8> {
         let values = self.values();
-        let mut bytes = vec![VERSION, self.kind() as u8, sender, self.instance(sender)];
+        let mut bytes = vec![version.byte(), self.kind() as u8, sender, self.instance(sender)];
         bytes.extend([self.round(), values.len() as u8, 0, 0]);
         bytes.extend(session.to_be_bytes());
         for value in values {
@@ -125,10 +137,11 @@ impl Message {
         session: u32,
     ) -> Result<(Number, Message), Refusal> {
         let (head, tail) = split(bytes)?;
-        if head[0] != VERSION {
+        let version = settings.version();
+        if head[0] != version.byte() {
             return Err(Refusal::Kind);
         }
-        let kind = Kind::from_byte(head[1]).ok_or(Refusal::Kind)?;
+        let kind = Kind::from_byte(head[1], version).ok_or(Refusal::Kind)?;
         if head[8..12] != session.to_be_bytes() {
             return Err(Refusal::Session);
         }
@@ -182,6 +195,7 @@ fn build(kind: Kind, instance: Number, round: Round, values: &[u64]) -> Result<M
         Kind::Ready => Message::Ready { instance, value },
         Kind::Est => Message::Est { instance, round, value: bit(value)? },
         Kind::Aux => Message::Aux { instance, round, value: bit(value)? },
+        Kind::Finish => Message::Finish { instance, value: bit(value)? },
         Kind::Commit if values.windows(2).all(|pair| pair[0] < pair[1]) => {
             Message::Commit { values: values.iter().copied().collect() }
         }

@@ -1,4 +1,4 @@
-//! 01, "Delivery records": the place of each message, held once.
+//! 01, "Delivery records", with FINISHes (02, N6): the place of each message, held once.
 
 use std::collections::btree_map::Entry;
 use std::collections::{BTreeMap, BTreeSet};
@@ -21,6 +21,7 @@ pub struct Records {
     ests: BTreeMap<(Number, Round, bool), BTreeSet<Number>>,
     auxes: BTreeMap<(Number, Round), BySender<bool>>,
     commits: BySender<PackSet>,
+    finishes: BTreeMap<Number, BySender<bool>>,
     /// Only with [`Fault::RepeatedEcho`]: the ECHOs beyond a sender's first.
     repeated_echoes: BTreeMap<Number, Vec<(Number, u64)>>,
 }
@@ -51,6 +52,9 @@ impl Records {
                 hold(self.auxes.entry((instance, round)).or_default(), sender, value)
             }
             Message::Commit { values } => hold(&mut self.commits, sender, values),
+            Message::Finish { instance, value } => {
+                hold(self.finishes.entry(instance).or_default(), sender, value)
+            }
         }
     }
 
@@ -105,6 +109,16 @@ impl Records {
     ) -> impl Iterator<Item = (Number, bool)> + '_ {
         let held = self.auxes.get(&(instance, round)).into_iter().flatten();
         held.map(|(&sender, &value)| (sender, value))
+    }
+
+    /// The senders whose FINISHes hold the value.
+    pub fn finish_senders(
+        &self,
+        instance: Number,
+        value: bool,
+    ) -> impl Iterator<Item = Number> + '_ {
+        let held = self.finishes.get(&instance).into_iter().flatten();
+        held.filter(move |(_, &finished)| finished == value).map(|(&sender, _)| sender)
     }
 
     /// The set whose COMMITs weigh `enough`; of several, the lowest sender's.

@@ -1,7 +1,7 @@
 //! The calls at one concentrator with the answers of another engine, one to a line, made anew here. Fields are parted by
 //! tabs; the answer stands last:
 //!
-//! - `O` n ta ts own session input coins **refusal**: input in hexadecimal, coins in hexadecimal parted by commas; all
+//! - `O` version n ta ts own session input coins **refusal**: input in hexadecimal, coins in hexadecimal parted by commas; all
 //!   weights are 1, and coins are printed;
 //! - `D` link bytes **refusal**: bytes in hexadecimal;
 //! - `T` bytes-lent **refusal outcome message**: outcome 0 idle, 1 sent, 2 moved out of round 32, 3 in force; the message
@@ -31,8 +31,9 @@ pub fn replay(text: &str) -> Result<u64, (u64, Mismatch)> {
     for line in text.lines() {
         let fields: Vec<&str> = line.split('\t').collect();
         let (given, answer) = match fields[..] {
-            ["O", n, ta, ts, own, number, input, coins, refusal] => {
-                (refusal.to_string(), open(&mut session, [n, ta, ts, own, number], input, coins))
+            ["O", version, n, ta, ts, own, number, input, coins, refusal] => {
+                let numbers = [version, n, ta, ts, own, number];
+                (refusal.to_string(), open(&mut session, numbers, input, coins))
             }
             ["D", link, bytes, refusal] => {
                 (refusal.to_string(), deliver(session.as_mut(), link, bytes))
@@ -57,18 +58,19 @@ pub fn replay(text: &str) -> Result<u64, (u64, Mismatch)> {
 
 fn open(
     session: &mut Option<Session>,
-    numbers: [&str; 5],
+    numbers: [&str; 6],
     input: &str,
     coins: &str,
 ) -> Option<String> {
     let coins = listed(coins, ',').map(hexadecimal).collect::<Option<Vec<u32>>>()?;
-    let [n, ta, ts, own] = [0, 1, 2, 3].map(|k| numbers[k].parse().ok());
+    let [version, n, ta, ts, own] = [0, 1, 2, 3, 4].map(|k| numbers[k].parse().ok());
     let opening = Opening {
+        version: version?,
         n: n?,
         ta: ta?,
         ts: ts?,
         own: own?,
-        session: numbers[4].parse().ok()?,
+        session: numbers[5].parse().ok()?,
         input: u64::from_str_radix(input, 16).ok()?,
         coins: &coins,
         weights: Settings::ones(n?),

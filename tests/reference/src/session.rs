@@ -7,12 +7,13 @@ use crate::fault::Fault;
 use crate::message::{Message, LONGEST};
 use crate::records::Records;
 use crate::refusal::Refusal;
-use crate::settings::{Number, Settings};
+use crate::settings::{Number, Settings, Version};
 use crate::votes::Vote;
 
 /// What opening takes. The numbers are as wide as the caller's, so that nothing wraps.
 #[derive(Clone, Copy, Debug)]
 pub struct Opening<'a> {
+    pub version: u64,
     pub n: u64,
     pub ta: u64,
     pub ts: u64,
@@ -60,7 +61,9 @@ impl Session {
 
     /// Opens a session whose engine has the given fault.
     pub fn open_with(opening: &Opening, fault: Fault) -> Result<Session, Refusal> {
+        let version = Version::given(opening.version)?;
         let settings = Settings::new(opening.n, opening.ta, opening.ts, opening.weights)?;
+        let settings = settings.with_version(version);
         let own = settings.number(opening.own).ok_or(Refusal::Settings)?;
         let coins = Coins::given(&settings, opening.coins, opening.boxed)?;
         Ok(Session {
@@ -87,7 +90,15 @@ impl Session {
             return Err(Refusal::Closed);
         }
         let (sender, message) = Message::from_bytes(bytes, link, &self.settings, self.session)?;
-        self.records.record(sender, message, self.fault)
+        let finished = match message {
+            Message::Finish { instance, value } => Some((instance, value)),
+            _ => None,
+        };
+        self.records.record(sender, message, self.fault)?;
+        if let Some((instance, value)) = finished {
+            self.decide_by_finishes(instance, value);
+        }
+        Ok(())
     }
 
     /// Does the first thing due. A message sent is also written to the front of `lent`.
@@ -103,7 +114,7 @@ impl Session {
             self.turns += 1;
         }
         if let Outcome::Sent(message) = &outcome {
-            let bytes = message.to_bytes(self.own, self.session);
+            let bytes = self.bytes(message);
             lent[..bytes.len()].copy_from_slice(&bytes);
         }
         Ok(outcome)
@@ -131,8 +142,8 @@ impl Session {
         self.own
     }
 
-    /// The session number, which every message carries.
-    pub fn number(&self) -> u32 {
-        self.session
+    /// The bytes of a message that this concentrator sends.
+    pub fn bytes(&self, message: &Message) -> Vec<u8> {
+        message.to_bytes(self.settings.version(), self.own, self.session)
     }
 }

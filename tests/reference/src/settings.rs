@@ -1,5 +1,5 @@
-//! 01, "Settings", with the weights of 02, N11, and the unnamed ta of N8. Every threshold is worked out from the
-//! session's own weights, ta and ts.
+//! 01, "Settings", with the weights of 02, N11, the unnamed ta of N8 and the version of N6. Every threshold is worked out
+//! from the session's own weights, ta and ts.
 
 use crate::fault::Fault;
 use crate::refusal::Refusal;
@@ -13,9 +13,36 @@ pub type Round = u8;
 /// A weight, or a sum of weights.
 pub type Weight = u32;
 
+/// The version of a session, byte 0 of its messages (02, N6).
+#[derive(Clone, Copy, Debug, PartialEq, Eq, PartialOrd, Ord)]
+pub enum Version {
+    One = 1,
+    /// With FINISHes.
+    Two = 2,
+}
+
+impl Version {
+    pub const ALL: [Version; 2] = [Version::One, Version::Two];
+
+    /// A version given from outside.
+    pub fn given(number: u64) -> Result<Version, Refusal> {
+        let is_given = |version: &Version| version.number() == number;
+        Version::ALL.into_iter().find(is_given).ok_or(Refusal::Settings)
+    }
+
+    pub fn number(self) -> u64 {
+        self as u64
+    }
+
+    pub fn byte(self) -> u8 {
+        self as u8
+    }
+}
+
 /// Settings that the rules allow.
 #[derive(Clone, Copy, Debug, PartialEq, Eq, PartialOrd, Ord)]
 pub struct Settings {
+    version: Version,
     n: u8,
     ta: u8,
     ts: u8,
@@ -36,7 +63,7 @@ impl Settings {
     pub const ROUND_LIMIT: Round = 32;
 
     /// n, ta, ts and n weights within the rules (PROTOCOL 1.1, 1.5, 1.6); W is the sum of the weights. A ta that is not
-    /// named is worked out from the others.
+    /// named is worked out from the others. The version is 1; a box has no other.
     pub fn new(n: u64, ta: u64, ts: u64, weights: &[u8]) -> Result<Settings, Refusal> {
         let n_fits = (1..=Self::MOST).contains(&n) && weights.len() as u64 == n;
         let weights_fit = weights.iter().all(|weight| (1..=Self::HEAVIEST).contains(weight));
@@ -49,7 +76,12 @@ impl Settings {
         }
         let mut padded = [0; Self::MOST as usize];
         padded[..weights.len()].copy_from_slice(weights);
-        Ok(Settings { n: n as u8, ta: ta as u8, ts: ts as u8, weights: padded, whole })
+        let (version, [n, ta, ts]) = (Version::One, [n, ta, ts].map(|number| number as u8));
+        Ok(Settings { version, n, ta, ts, weights: padded, whole })
+    }
+
+    pub fn with_version(self, version: Version) -> Settings {
+        Settings { version, ..self }
     }
 
     /// All weights 1.
@@ -69,6 +101,10 @@ impl Settings {
     /// n weights of 1, or as many as there can be.
     pub fn ones(n: u64) -> &'static [u8] {
         &[1; Self::MOST as usize][..n.min(Self::MOST) as usize]
+    }
+
+    pub fn version(&self) -> Version {
+        self.version
     }
 
     pub fn n(&self) -> u8 {
@@ -136,19 +172,23 @@ impl Settings {
         self.whole.saturating_sub(self.ta.into())
     }
 
-    /// Votes: ESTs of ta+1 to relay.
+    /// Votes: ESTs, or FINISHes, of ta+1 to relay.
     pub fn vote_relay(&self) -> Weight {
         Weight::from(self.ta) + 1
     }
 
-    /// Votes: ESTs of 2·ta+1 to accept.
+    /// Votes: ESTs of 2·ta+1 to accept, FINISHes of 2·ta+1 to decide.
     pub fn vote_accept(&self) -> Weight {
         2 * Weight::from(self.ta) + 1
     }
 
-    /// The most turns of a session (PROTOCOL 8.20).
+    /// The most turns of a session (PROTOCOL 8.20); a FINISH in each vote of version 2 is one more (02, N6).
     pub fn turn_limit(&self) -> u64 {
-        99 * u64::from(self.n) + 3
+        let in_an_instance = match self.version {
+            Version::One => 99,
+            Version::Two => 100,
+        };
+        in_an_instance * u64::from(self.n) + 3
     }
 
     /// The settings that an engine with the fault goes by. [`Fault::Heads`] can have a ts above n.

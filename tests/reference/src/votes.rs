@@ -1,4 +1,4 @@
-//! 01, rule 6: the votes.
+//! 01, rule 6: the votes, with the FINISHes of version 2 (02, N6).
 
 use std::collections::{BTreeMap, BTreeSet};
 
@@ -6,7 +6,7 @@ use crate::exits::Exit;
 use crate::fault::Fault;
 use crate::message::Message;
 use crate::session::{Outcome, Session};
-use crate::settings::{Number, Round, Settings, Weight};
+use crate::settings::{Number, Round, Settings, Version, Weight};
 
 /// The own part in one vote.
 #[derive(Clone, Debug, Default, PartialEq, Eq)]
@@ -17,12 +17,18 @@ pub struct Vote {
     aux_sent: bool,
     ests_sent: BTreeSet<(Round, bool)>,
     decision: Option<bool>,
+    finish_sent: bool,
 }
 
 impl Vote {
     /// The current round, if it is one in which the vote sends.
     fn open_round(&self) -> Option<Round> {
         (1..=Settings::ROUND_LIMIT).contains(&self.round).then_some(self.round)
+    }
+
+    /// After its own FINISH and a decision a vote does nothing more.
+    fn is_finished(&self) -> bool {
+        self.finish_sent && self.decision.is_some()
     }
 }
 
@@ -35,13 +41,38 @@ impl Session {
         self.settings.numbers().find_map(|instance| self.act_in_vote(instance))
     }
 
-    /// The order in a vote (PROTOCOL 5.2).
+    /// The order in a vote (PROTOCOL 5.2), in version 2 with FINISH before all else (02, N6).
     fn act_in_vote(&mut self, instance: Number) -> Option<Outcome> {
-        self.start(instance)
+        if self.vote(instance).is_finished() {
+            return None;
+        }
+        self.send_finish(instance)
+            .or_else(|| self.start(instance))
             .or_else(|| self.send_relay(instance))
             .or_else(|| self.send_aux(instance))
             .map(Outcome::Sent)
             .or_else(|| self.move_on(instance))
+    }
+
+    /// One FINISH in each vote, in any round and in none: the decision where one stands, else a value with FINISHes of
+    /// ta+1, 0 before 1.
+    fn send_finish(&mut self, instance: Number) -> Option<Message> {
+        if self.settings.version() == Version::One || self.vote(instance).finish_sent {
+            return None;
+        }
+        let relayed =
+            |value: &bool| self.finish_weight(instance, *value) >= self.settings.vote_relay();
+        let value = self.vote(instance).decision;
+        let value = value.or_else(|| [false, true].into_iter().find(relayed))?;
+        self.vote_mut(instance).finish_sent = true;
+        Some(Message::Finish { instance, value })
+    }
+
+    /// A FINISH was recorded: it decides an undecided vote where those of its value are of 2·ta+1 now.
+    pub(crate) fn decide_by_finishes(&mut self, instance: Number, value: bool) {
+        if self.finish_weight(instance, value) >= self.settings.vote_accept() {
+            self.vote_mut(instance).decision.get_or_insert(value);
+        }
     }
 
     /// With 1 if the broadcast has output, else with 0 once s ≥ W−ta.
@@ -151,6 +182,11 @@ impl Session {
         self.settings.weight(self.records.est_senders(instance, round, value))
     }
 
+    /// The weight of the senders whose FINISHes hold the value.
+    fn finish_weight(&self, instance: Number, value: bool) -> Weight {
+        self.settings.weight(self.records.finish_senders(instance, value))
+    }
+
     /// `None` where a boxed session still waits for it.
     fn coin(&self, instance: Number, round: Round) -> Option<bool> {
         let unrecorded = (self.fault == Fault::UnrecordedCoin).then_some(false);
@@ -164,7 +200,7 @@ impl Session {
     }
 
     /// The decisions there are, by instance.
-    pub(crate) fn decisions(&self) -> BTreeMap<Number, bool> {
+    pub fn decisions(&self) -> BTreeMap<Number, bool> {
         self.votes.iter().filter_map(|(&instance, vote)| Some((instance, vote.decision?))).collect()
     }
 

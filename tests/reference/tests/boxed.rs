@@ -3,9 +3,10 @@
 use pack_reference::coin_box::{BoxOpening, CoinBox, Reply};
 use pack_reference::journal::{restore, NotRestored, Restored, LINE_BYTES};
 use pack_reference::message::LONGEST;
-use pack_reference::{Fault, Message, Opening, Outcome, Refusal, Session};
+use pack_reference::{Fault, Message, Opening, Outcome, Refusal, Session, Version};
 
 const OPENING: Opening = Opening {
+    version: 1,
     n: 4,
     ta: 1,
     ts: 1,
@@ -28,7 +29,9 @@ fn turn(session: &mut Session) -> Outcome {
 
 fn deliver(session: &mut Session, senders: &[u8], message: &Message) {
     for &sender in senders {
-        session.deliver(u64::from(sender), &message.to_bytes(sender, OPENING.session)).unwrap();
+        session
+            .deliver(u64::from(sender), &message.to_bytes(Version::One, sender, OPENING.session))
+            .unwrap();
     }
 }
 
@@ -291,7 +294,7 @@ impl Host {
                             self.waiting.push((instance, round));
                         }
                     }
-                    sent.push(message.to_bytes(own, OPENING.session));
+                    sent.push(message.to_bytes(Version::One, own, OPENING.session));
                 }
                 Outcome::Idle => break,
                 Outcome::MovedOut | Outcome::InForce => {}

@@ -4,9 +4,10 @@ use pack_reference::compare::{restores, Answers};
 use pack_reference::engine::{Engine, Lockstep, Reference};
 use pack_reference::journal::{restore, Line, NotRestored, Restored, LINE_BYTES};
 use pack_reference::packing::{unpack_restore, RestoreAnswer};
-use pack_reference::{Fault, Message, Opening, Outcome, Refusal, Session};
+use pack_reference::{Fault, Message, Opening, Outcome, Refusal, Session, Version};
 
 const OPENING: Opening = Opening {
+    version: 1,
     n: 2,
     ta: 255,
     ts: 0,
@@ -43,7 +44,8 @@ fn lines_as_written() {
     let (mut session, length) = Session::open_with_line(&OPENING, Fault::None, line).unwrap();
     assert_eq!(&line[..length], OPENING_LINE.as_bytes());
     assert!(line[length..].iter().all(|&byte| byte == 0xa5));
-    let send = Message::Send { value: 0x0102_0304_0506_07ff }.to_bytes(1, OPENING.session);
+    let send =
+        Message::Send { value: 0x0102_0304_0506_07ff }.to_bytes(Version::One, 1, OPENING.session);
     let length = session.deliver_with_line(1, &send, line).unwrap();
     assert_eq!(&line[..length], b"D\t1\t0101010100010000ffffffff01020304050607ff\n");
     let line = &mut [0xa5; LINE_BYTES];
@@ -79,7 +81,7 @@ fn too_few_bytes_for_the_line_come_last() {
     let refused = Session::open_with_line(&bad, Fault::None, short);
     assert_eq!(refused.err(), Some(Refusal::Settings));
     let mut session = opened();
-    let send = Message::Send { value: 5 }.to_bytes(1, OPENING.session);
+    let send = Message::Send { value: 5 }.to_bytes(Version::One, 1, OPENING.session);
     assert_eq!(session.deliver_with_line(1, &send, short), Err(Refusal::Short));
     assert_eq!(session, opened());
     assert_eq!(session.deliver_with_line(2, &send, short), Err(Refusal::Sender));
@@ -98,7 +100,7 @@ fn closed_before_short() {
     let opening = Opening { n: 1, own: 1, coins: &[0], weights: &[1], ..OPENING };
     let mut session = Session::open(&opening).unwrap();
     while let Outcome::Sent(message) = session.turn(&mut [0; 140]).unwrap() {
-        session.deliver(1, &message.to_bytes(1, OPENING.session)).unwrap();
+        session.deliver(1, &message.to_bytes(Version::One, 1, OPENING.session)).unwrap();
     }
     assert_eq!(session.turn_with_line(&mut [], &mut []), Err(Refusal::Closed));
     assert_eq!(session.deliver_with_line(1, &[], &mut []), Err(Refusal::Closed));
@@ -110,7 +112,7 @@ fn a_journal_gives_back_state_and_message() {
     let given = restored(OPENING_LINE).unwrap();
     assert_eq!((given.session, given.message), (session.clone(), None));
     session.turn(&mut [0; 140]).unwrap();
-    let send = Message::Send { value: 0xabc }.to_bytes(2, OPENING.session);
+    let send = Message::Send { value: 0xabc }.to_bytes(Version::One, 2, OPENING.session);
     let journal = format!("{OPENING_LINE}T\nany \r\t thing");
     let mut lent = [0xa5; 141];
     let given = restore(journal.as_bytes(), &mut lent, Fault::None).unwrap();
@@ -176,8 +178,11 @@ fn opening_lines_of_the_wrong_form() {
     };
     let wrong = [
         (0, "o"),
-        (1, "2"),
+        (1, "0"),
+        (1, "3"),
         (1, "01"),
+        (1, "4294967297"),
+        (1, "18446744073709551617"),
         (1, ""),
         (2, "02"),
         (2, "3"),

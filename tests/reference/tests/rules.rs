@@ -4,7 +4,7 @@ use std::collections::BTreeMap;
 
 use pack_reference::exits::exit;
 use pack_reference::{
-    Exit, Fault, Message, Number, Opening, Outcome, PackSet, Refusal, Session, Settings,
+    Exit, Fault, Message, Number, Opening, Outcome, PackSet, Refusal, Session, Settings, Version,
 };
 
 const SESSION: u32 = 0x0102_0304;
@@ -51,7 +51,8 @@ fn faults_change_their_rows() {
 
 fn opening(n: u64, ta: u64, ts: u64, own: u64, coins: &[u32]) -> Opening<'_> {
     let weights = Settings::ones(n);
-    Opening { n, ta, ts, own, session: SESSION, input: 5, coins, weights, boxed: 0 }
+    let (version, session, input, boxed) = (1, SESSION, 5, 0);
+    Opening { version, n, ta, ts, own, session, input, coins, weights, boxed }
 }
 
 fn open(n: u64, ta: u64, ts: u64) -> Result<Session, Refusal> {
@@ -102,7 +103,7 @@ fn messages() -> Vec<Message> {
 fn messages_read_as_written() {
     let settings = Settings::unweighted(4, 1, 1).unwrap();
     for message in messages() {
-        let bytes = message.to_bytes(2, SESSION);
+        let bytes = message.to_bytes(Version::One, 2, SESSION);
         assert_eq!(Message::from_bytes(&bytes, 2, &settings, SESSION), Ok((2, message)));
     }
 }
@@ -111,16 +112,17 @@ fn messages_read_as_written() {
 fn message_layout() {
     let ready = Message::Ready { instance: 1, value: 0x0102_0304_0506_0708 };
     let bytes = [1, 3, 2, 1, 0, 1, 0, 0, 1, 2, 3, 4, 1, 2, 3, 4, 5, 6, 7, 8];
-    assert_eq!(ready.to_bytes(2, SESSION), bytes);
+    assert_eq!(ready.to_bytes(Version::One, 2, SESSION), bytes);
     let commit = Message::Commit { values: PackSet::from([9, 5]) };
     let bytes =
         [1, 6, 2, 0, 0, 2, 0, 0, 1, 2, 3, 4, 0, 0, 0, 0, 0, 0, 0, 5, 0, 0, 0, 0, 0, 0, 0, 9];
-    assert_eq!(commit.to_bytes(2, SESSION), bytes);
+    assert_eq!(commit.to_bytes(Version::One, 2, SESSION), bytes);
 }
 
 /// Delivers an EST of concentrator 2 with some bytes changed, over the link of `link`.
 fn delivered(changes: &[(usize, u8)], link: u64) -> Result<(), Refusal> {
-    let mut bytes = Message::Est { instance: 3, round: 1, value: true }.to_bytes(2, SESSION);
+    let mut bytes =
+        Message::Est { instance: 3, round: 1, value: true }.to_bytes(Version::One, 2, SESSION);
     for &(place, byte) in changes {
         bytes[place] = byte;
     }
@@ -208,12 +210,13 @@ fn counts_and_lengths() {
 fn each_place_is_held_once() {
     let mut session = open(4, 1, 1).unwrap();
     for message in messages() {
-        let bytes = message.to_bytes(2, SESSION);
+        let bytes = message.to_bytes(Version::One, 2, SESSION);
         assert_eq!(session.deliver(2, &bytes), Ok(()));
         assert_eq!(session.deliver(2, &bytes), Err(Refusal::Held));
     }
-    let deliver =
-        |session: &mut Session, message: Message| session.deliver(2, &message.to_bytes(2, SESSION));
+    let deliver = |session: &mut Session, message: Message| {
+        session.deliver(2, &message.to_bytes(Version::One, 2, SESSION))
+    };
     let held = Err(Refusal::Held);
     assert_eq!(deliver(&mut session, Message::Send { value: 1 }), held);
     assert_eq!(deliver(&mut session, Message::Echo { instance: 4, value: 1 }), held);
@@ -234,7 +237,7 @@ fn short_and_closed() {
     assert_eq!(session.report(&mut [0; 16], &mut [0; 15]), Err(Refusal::Short));
     let mut lent = [0xaa; 150];
     while let Outcome::Sent(message) = session.turn(&mut lent).unwrap() {
-        let bytes = message.to_bytes(1, SESSION);
+        let bytes = message.to_bytes(Version::One, 1, SESSION);
         assert_eq!(lent[..bytes.len()], bytes);
         assert!(lent[bytes.len()..].iter().all(|&byte| byte == 0xaa));
         session.deliver(1, &bytes).unwrap();

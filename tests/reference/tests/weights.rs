@@ -5,7 +5,7 @@ use std::collections::BTreeMap;
 use pack_reference::exits::exit;
 use pack_reference::message::LONGEST;
 use pack_reference::{
-    Exit, Fault, Message, Number, Opening, Outcome, PackSet, Refusal, Session, Settings,
+    Exit, Fault, Message, Number, Opening, Outcome, PackSet, Refusal, Session, Settings, Version,
 };
 
 const SESSION: u32 = 7;
@@ -14,7 +14,7 @@ const SESSION: u32 = 7;
 fn open(n: u64, ta: u64, ts: u64, weights: &[u8]) -> Result<Session, Refusal> {
     let coins = &vec![0; n as usize][..];
     let (own, session, input, boxed) = (n, SESSION, 9, 0);
-    Session::open(&Opening { n, ta, ts, own, session, input, coins, weights, boxed })
+    Session::open(&Opening { version: 1, n, ta, ts, own, session, input, coins, weights, boxed })
 }
 
 #[test]
@@ -133,7 +133,9 @@ fn turn(session: &mut Session) -> Outcome {
 /// Delivers the message from one sender after the other. Answers what the turn after each did.
 fn turns_after(session: &mut Session, message: &Message, senders: &[Number]) -> Vec<Outcome> {
     let deliver_and_turn = |&sender: &Number| {
-        session.deliver(u64::from(sender), &message.to_bytes(sender, SESSION)).unwrap();
+        session
+            .deliver(u64::from(sender), &message.to_bytes(Version::One, sender, SESSION))
+            .unwrap();
         turn(session)
     };
     senders.iter().map(deliver_and_turn).collect()

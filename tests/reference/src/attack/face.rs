@@ -55,7 +55,7 @@ impl Face {
         loop {
             match self.session.turn(&mut [0; LONGEST]) {
                 Ok(Outcome::Sent(message)) => {
-                    let bytes = message.to_bytes(self.liar, self.session.number());
+                    let bytes = self.session.bytes(&message);
                     self.waiting.note_sent(&bytes);
                     sent.push(bytes);
                 }

@@ -23,7 +23,8 @@ impl<E: Engine + BoxEngine> Feeder<'_, E> {
     fn send_lie(&mut self, lie: &Lie) {
         let plan = self.plan;
         for &liar in &plan.liars {
-            let message: Rc<[u8]> = lie.message.to_bytes(liar, plan.session).into();
+            let version = plan.settings.version();
+            let message: Rc<[u8]> = lie.message.to_bytes(version, liar, plan.session).into();
             let in_group = |number: &&Number| plan.groups[number] == lie.group;
             for &number in plan.inputs.keys().filter(in_group) {
                 for _ in 0..lie.times {

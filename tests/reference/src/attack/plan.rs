@@ -154,6 +154,7 @@ impl Plan {
     pub fn opening(&self, own: Number, input: u64) -> Opening<'_> {
         let named = u64::from(self.settings.ta());
         Opening {
+            version: self.settings.version().number(),
             n: u64::from(self.settings.n()),
             ta: if self.unnamed.contains(&own) { Settings::UNNAMED } else { named },
             ts: u64::from(self.settings.ts()),

@@ -20,7 +20,8 @@ impl<E: Engine + BoxEngine> Feeder<'_, E> {
         }
         let number = self.random.pick(&numbers);
         let link = u64::from(self.random.pick(&numbers));
-        let mut message = vec![1, 1, link as u8, link as u8, 0, 1, 0, 0];
+        let version = self.plan.settings.version().byte();
+        let mut message = vec![version, 1, link as u8, link as u8, 0, 1, 0, 0];
         message.extend(self.plan.session.to_be_bytes());
         message.extend([0; 8]);
         let choice = self.random.below(12);

@@ -31,8 +31,8 @@ fn main() -> ExitCode {
     };
     println!("seed {seed}");
     let (coins, weights) = (&[0], &[1]);
-    let (n, ta, ts, own, session, input, boxed) = (1, 0, 0, 1, 0, 0, 0);
-    check_word_counts(&Opening { n, ta, ts, own, session, input, coins, weights, boxed });
+    let (version, n, ta, ts, own, session, input, boxed) = (2, 1, 0, 0, 1, 0, 0, 0);
+    check_word_counts(&Opening { version, n, ta, ts, own, session, input, coins, weights, boxed });
     check_box_word_counts(&BoxOpening { n, ta, ts, coins, weights });
     let engine = Lockstep { first: Reference::default(), second: CEngine };
     let start = Instant::now();

@@ -10,12 +10,13 @@ use crate::packing::refusal;
 use crate::refusal::Refusal;
 use crate::report::SET_WORDS;
 use crate::session::Opening;
-use crate::settings::{Number, Round, Settings};
+use crate::settings::{Number, Round, Settings, Version};
 
 /// A state, and what is still to be delivered in its session.
 struct Caller<'a, E: Engine> {
     engine: &'a E,
     state: E::State,
+    version: Version,
     session: u32,
     left: Vec<(Number, Message)>,
     /// Coins still to be recorded, if it is boxed.
@@ -34,6 +35,7 @@ pub fn random_calls<E: Engine>(engine: &E, seed: u64, calls: u64) -> Answers {
     let mut caller = Caller {
         engine,
         state: engine.blank(),
+        version: Version::One,
         session: 0,
         left: Vec::new(),
         coins: Vec::new(),
@@ -82,17 +84,20 @@ impl<E: Engine> Caller<'_, E> {
         let mut coins: Vec<u32> = (0..words).map(|_| random.word() as u32 | ones).collect();
         let boxed = boxed_flag(random, &mut coins);
         damage_weights(random, &mut weights);
+        let version = random.pick(&Version::ALL);
+        let given = random_version(random, version);
         let session = random.pick(&[0, 7, u32::MAX]);
         let input = random.below(3);
         let [n, ta, ts, own] = numbers;
         let (coins, weights) = (&coins[..], &weights[..]);
-        let opening = Opening { n, ta, ts, own, session, input, coins, weights, boxed };
+        let opening =
+            Opening { version: given, n, ta, ts, own, session, input, coins, weights, boxed };
         let mut line = vec![0xa5; length(random, LINE_BYTES)];
         let answer = self.engine.open(&mut self.state, &opening, &mut line);
         if refusal(answer).is_none() {
             self.journal = line[..line_length(answer)].to_vec();
-            self.session = session;
-            self.left = messages(random, n as u8);
+            (self.version, self.session) = (version, session);
+            self.left = messages(random, n as u8, version);
             self.coins = if boxed == 0 { Vec::new() } else { all_coins(random, n) };
         }
         answer
@@ -101,7 +106,7 @@ impl<E: Engine> Caller<'_, E> {
     /// Mostly the message as it is; at times with a byte, the length or the link changed.
     fn deliver(&mut self, sender: Number, message: &Message) -> u64 {
         let random = &mut self.random;
-        let mut bytes = message.to_bytes(sender, self.session);
+        let mut bytes = message.to_bytes(self.version, sender, self.session);
         let mut link = u64::from(sender);
         let damage = random.below(60);
         match damage {
@@ -202,6 +207,14 @@ pub fn line_length(answer: u64) -> usize {
     (answer >> 16 & 0xffff) as usize
 }
 
+/// Mostly the version itself; at times a number that is none.
+pub fn random_version(random: &mut Random, version: Version) -> u64 {
+    match random.below(40) {
+        0 => random.pick(&[0, 3, 255, 256, 257, (1 << 32) + 1, (1 << 63) + 2, u64::MAX]),
+        _ => version.number(),
+    }
+}
+
 /// n, up to `most`, ta and ts that opening takes with these weights.
 pub fn good_settings(random: &mut Random, most: u64) -> ([u64; 3], Vec<u8>) {
     let n = 1 + random.below(most);
@@ -291,11 +304,13 @@ pub fn length(random: &mut Random, enough: usize) -> usize {
 pub const EDGES: [u64; 12] =
     [0, 1, 2, 15, 16, 17, 255, 256, 1 << 32, 1 << 63, (1 << 63) + 1, u64::MAX];
 
-/// A message for nearly every place, mostly with the value that the other senders give, in random order.
-pub fn messages(random: &mut Random, n: u8) -> Vec<(Number, Message)> {
+/// A message for nearly every place, mostly with the value that the other senders give, in random order; FINISHes of some
+/// votes, or of all, or of none. Version 1 refuses them.
+pub fn messages(random: &mut Random, n: u8, version: Version) -> Vec<(Number, Message)> {
     let rounds: Round = random.pick(&[1, 2, 4, if n > 5 { 4 } else { 32 }]);
     let packs = random.pick(&[1, 2, 2, 3, 16]);
     let noise = random.pick(&[2, 20, 1_000]);
+    let finished = random.pick(&if version == Version::Two { [1, 4, 1_000_000] } else { [50; 3] });
     let mut messages = Vec::new();
     for (sender, instance) in (1..=n).flat_map(|sender| (1..=n).map(move |other| (sender, other))) {
         let usual = u64::from(instance) % packs;
@@ -304,6 +319,10 @@ pub fn messages(random: &mut Random, n: u8) -> Vec<(Number, Message)> {
         messages.push((sender, Message::Ready { instance, value }));
         if sender == instance {
             messages.push((sender, Message::Send { value }));
+        }
+        if random.once_in(finished) {
+            let value = !random.once_in(noise);
+            messages.push((sender, Message::Finish { instance, value }));
         }
         for round in 1..=rounds {
             let value = !random.once_in(noise);

@@ -6,7 +6,7 @@ use crate::engine::Engine;
 use crate::journal::LINE_BYTES;
 use crate::message::{Message, PackSet, HEAD};
 use crate::session::Opening;
-use crate::settings::Number;
+use crate::settings::{Number, Version};
 
 const SESSION: u32 = 0x0102_0304;
 /// n, ta, ts, and the weight of each; the sender is the last concentrator.
@@ -25,14 +25,27 @@ where
     E::State: Clone,
 {
     let mut deliveries = Deliveries { engine, state: engine.blank(), answers: Answers::default() };
-    for (n, ta, ts, weight) in SETTINGS {
+    for (version, (n, ta, ts, weight)) in
+        Version::ALL.into_iter().flat_map(|version| SETTINGS.map(|settings| (version, settings)))
+    {
         let (coins, weights) = (&vec![0; n as usize][..], &vec![weight; n as usize][..]);
         let (own, session, input, boxed) = (1, SESSION, 5, 0);
-        let opening = Opening { n, ta, ts, own, session, input, coins, weights, boxed };
+        let opening = Opening {
+            version: version.number(),
+            n,
+            ta,
+            ts,
+            own,
+            session,
+            input,
+            coins,
+            weights,
+            boxed,
+        };
         for message in messages(n as Number) {
             let answer = engine.open(&mut deliveries.state, &opening, &mut [0; LINE_BYTES]);
             assert_eq!(answer & 0xff, 0, "good settings");
-            let bytes = message.to_bytes(n as Number, SESSION);
+            let bytes = message.to_bytes(version, n as Number, SESSION);
             deliveries.damage(n, &bytes);
             deliveries.deliver_here(n, &bytes);
             deliveries.damage(n, &bytes);
@@ -41,7 +54,7 @@ where
     deliveries.answers
 }
 
-/// Each kind, with the highest instance and round, and the shortest and the longest COMMIT.
+/// Each kind, FINISH in both versions, with the highest instance and round, and the shortest and the longest COMMIT.
 fn messages(n: Number) -> Vec<Message> {
     let (instance, round) = (n, 32);
     vec![
@@ -52,6 +65,7 @@ fn messages(n: Number) -> Vec<Message> {
         Message::Aux { instance, round: 1, value: false },
         Message::Commit { values: PackSet::from([7]) },
         Message::Commit { values: (1..=u64::from(n)).map(|k| k << 40).collect() },
+        Message::Finish { instance, value: true },
     ]
 }
 

@@ -1,6 +1,8 @@
 //! States with words that no engine wrote. The reference cannot hold them, so two engines over the words are compared.
 
-use super::calls::{boxed_flag, damage_weights, good_settings, good_weights, length, random_coin};
+use super::calls::{
+    boxed_flag, damage_weights, good_settings, good_weights, length, random_coin, random_version,
+};
 use super::Answers;
 use crate::attack::random::Random;
 use crate::c_engine::{words, Words, STATE_WORDS};
@@ -9,7 +11,7 @@ use crate::journal::LINE_BYTES;
 use crate::message::{Message, LONGEST};
 use crate::report::SET_WORDS;
 use crate::session::Opening;
-use crate::settings::Number;
+use crate::settings::{Number, Version};
 
 /// The word of the weights.
 const WEIGHTS: usize = 141;
@@ -69,8 +71,9 @@ impl<A: Engine<State = Words>, B: Engine<State = Words>> Pair<'_, A, B> {
         let boxed = boxed_flag(&mut self.random, &mut coins);
         let mut weights = good_weights(&mut self.random, n);
         damage_weights(&mut self.random, &mut weights);
+        let version = random_version(&mut self.random, Version::One);
         let (coins, weights, session, input) = (&coins[..], &weights[..], 7, 5);
-        let opening = &Opening { n, ta, ts, own, session, input, coins, weights, boxed };
+        let opening = &Opening { version, n, ta, ts, own, session, input, coins, weights, boxed };
         let mut line = vec![0xa5; length(&mut self.random, LINE_BYTES)];
         let mut line_copy = line.clone();
         let first = self.first.open(&mut self.state, opening, &mut line);
@@ -83,7 +86,7 @@ impl<A: Engine<State = Words>, B: Engine<State = Words>> Pair<'_, A, B> {
         let n = self.state[0].clamp(1, 16);
         let sender = 1 + self.random.below(n) as Number;
         let message = message(&mut self.random, n);
-        let mut bytes = message.to_bytes(sender, self.state[4] as u32);
+        let mut bytes = message.to_bytes(Version::One, sender, self.state[4] as u32);
         if self.random.once_in(16) {
             let place = self.random.below(bytes.len() as u64) as usize;
             bytes[place] = self.random.word() as u8;

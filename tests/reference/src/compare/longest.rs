@@ -47,11 +47,12 @@ fn longest_session<E: Engine>(
     // Ones, so that the last round decides 1.
     let coins = vec![if boxed == 0 { u32::MAX } else { 0 }; n as usize];
     let (coins, weights, own, input, session) = (&coins[..], settings.weights(), n, n, 7);
-    let opening = Opening { n, ta, ts, own, session, input, coins, weights, boxed };
+    let version = settings.version().number();
+    let opening = Opening { version, n, ta, ts, own, session, input, coins, weights, boxed };
     let line = &mut [0; LINE_BYTES];
     answers.note(engine.open(&mut state, &opening, line));
     for (sender, message) in all_messages(settings) {
-        let bytes = message.to_bytes(sender, 7);
+        let bytes = message.to_bytes(settings.version(), sender, 7);
         answers.note(engine.deliver(&mut state, u64::from(sender), &bytes, line));
     }
     // Boxed votes go one round further with each bit, out of the last one too.
@@ -63,7 +64,8 @@ fn longest_session<E: Engine>(
     }
     act(engine, &mut state, answers);
     for sender in settings.numbers() {
-        let bytes = Message::Commit { values: PackSet::from([n]) }.to_bytes(sender, 7);
+        let commit = Message::Commit { values: PackSet::from([n]) };
+        let bytes = commit.to_bytes(settings.version(), sender, 7);
         answers.note(engine.deliver(&mut state, u64::from(sender), &bytes, line));
     }
     act(engine, &mut state, answers);

@@ -7,6 +7,7 @@ use crate::journal::LINE_BYTES;
 use crate::message::LONGEST;
 use crate::packing::{refusal, unpack_turn, TurnAnswer};
 use crate::session::Opening;
+use crate::settings::Version;
 
 /// After one line.
 pub struct Recorded<S> {
@@ -19,6 +20,7 @@ pub struct Recorded<S> {
 
 pub struct Recording<'a, E: Engine> {
     engine: &'a E,
+    version: Version,
     pub n: u64,
     pub weights: Vec<u8>,
     pub boxed: bool,
@@ -34,11 +36,12 @@ where
     /// so many lines.
     pub fn new(engine: &'a E, random: &mut Random, most: u64, lines: usize) -> Self {
         let ([n, ta, ts], weights) = good_settings(random, most);
-        let boxed = random.once_in(2);
+        let (version, boxed) = (random.pick(&Version::ALL), random.once_in(2));
+        let (journal, lines_so_far) = (Vec::new(), Vec::new());
         let mut recording =
-            Recording { engine, n, weights, boxed, journal: Vec::new(), lines: Vec::new() };
+            Recording { engine, version, n, weights, boxed, journal, lines: lines_so_far };
         let session = random.pick(&[0, 7, u32::MAX]);
-        let left = &mut messages(random, n as u8);
+        let left = &mut messages(random, n as u8, version);
         let coins = &mut if boxed { all_coins(random, n) } else { Vec::new() };
         let turns_in = random.pick(&[2, 6]);
         let mut state = recording.open(random, [ta, ts], session);
@@ -52,7 +55,7 @@ where
                 let coin = if random.once_in(4) { coins.last().copied() } else { coins.pop() };
                 recording.record(&mut state, coin.expect("a coin"));
             } else if let Some((sender, message)) = left.pop() {
-                let bytes = message.to_bytes(sender, session);
+                let bytes = message.to_bytes(version, sender, session);
                 recording.deliver(&mut state, u64::from(sender), &bytes);
             } else {
                 recording.act(&mut state, lines);
@@ -67,9 +70,9 @@ where
         let coins: Vec<u32> = (0..self.n).map(|_| random.word() as u32 & word).collect();
         let boxed = u64::from(self.boxed);
         let (own, input) = (1 + random.below(self.n), random.pick(&[0, 5, u64::MAX]));
-        let (n, weights) = (self.n, &self.weights.clone()[..]);
+        let (version, n, weights) = (self.version.number(), self.n, &self.weights.clone()[..]);
         let coins = &coins[..];
-        let opening = Opening { n, ta, ts, own, session, input, coins, weights, boxed };
+        let opening = Opening { version, n, ta, ts, own, session, input, coins, weights, boxed };
         let mut state = self.engine.littered(random.word());
         let line = &mut [0xa5; LINE_BYTES];
         let answer = self.engine.open(&mut state, &opening, line);

@@ -7,9 +7,10 @@ use crate::journal::LINE_BYTES;
 use crate::message::{Message, PackSet, LONGEST};
 use crate::packing::refusal;
 use crate::session::Opening;
-use crate::settings::Number;
+use crate::settings::{Number, Version};
 
 const SESSION: u32 = 7;
+const VERSION: Version = Version::Two;
 
 /// Records every vote, round and bit on the edge, with bytes for the line just enough or not, in sessions that are not
 /// opened, printed, boxed, boxed with bits recorded, and closed. Each is made on a copy of the state.
@@ -53,8 +54,8 @@ where
 
 fn opened<E: Engine>(engine: &E, n: u64, boxed: u64) -> E::State {
     let (coins, weights) = (&vec![0; n as usize][..], &vec![1; n as usize][..]);
-    let (own, ta, ts, session, input) = (1, 0, 0, SESSION, 5);
-    let opening = Opening { n, ta, ts, own, session, input, coins, weights, boxed };
+    let (version, own, ta, ts, session, input) = (VERSION.number(), 1, 0, 0, SESSION, 5);
+    let opening = Opening { version, n, ta, ts, own, session, input, coins, weights, boxed };
     let mut state = engine.blank();
     let answer = engine.open(&mut state, &opening, &mut [0; LINE_BYTES]);
     assert!(refusal(answer).is_none(), "good settings");
@@ -69,7 +70,7 @@ where
     let (mut state, line) = (state.clone(), &mut [0; LINE_BYTES]);
     for sender in 1..=n {
         let commit = Message::Commit { values: PackSet::from([5]) };
-        let bytes = commit.to_bytes(sender as Number, SESSION);
+        let bytes = commit.to_bytes(VERSION, sender as Number, SESSION);
         engine.deliver(&mut state, sender, &bytes, line);
     }
     assert_eq!(engine.turn(&mut state, &mut [0; LONGEST], line), 3 << 8, "in force");

@@ -37,8 +37,8 @@ where
     let mut open = |ta| {
         let n = weights.len() as u64;
         let coins = &vec![7; weights.len()][..];
-        let (own, session, input, boxed) = (n, 7, 5, 0);
-        let opening = Opening { n, ta, ts, own, session, input, coins, weights, boxed };
+        let (version, own, session, input, boxed) = (1 + n % 2, n, 7, 5, 0);
+        let opening = Opening { version, n, ta, ts, own, session, input, coins, weights, boxed };
         let mut state = engine.blank();
         let answer = engine.open(&mut state, &opening, &mut [0; LINE_BYTES]);
         answers.note(answer);

@@ -74,7 +74,7 @@ impl Run {
         let session = self.honest.get_mut(&p).expect("an honest number");
         match session.turn(&mut [0; LONGEST]) {
             Ok(Outcome::Sent(message)) => {
-                self.sent.push((p, message.to_bytes(p, self.setup.session())));
+                self.sent.push((p, session.bytes(&message)));
                 true
             }
             Ok(Outcome::MovedOut | Outcome::InForce) => true,

@@ -5,7 +5,7 @@ use std::collections::BTreeMap;
 
 use super::{Bad, Field};
 use crate::session::{Opening, Session};
-use crate::settings::{Number, Settings};
+use crate::settings::{Number, Settings, Version};
 
 /// The most concentrators of a drill.
 const MOST: u8 = 4;
@@ -62,6 +62,7 @@ impl Setup {
         let coins: Vec<u32> = self.settings.numbers().map(coin).collect();
         let open = |(&own, &input): (&Number, &u64)| {
             let opening = Opening {
+                version: Version::One.number(),
                 n: u64::from(self.settings.n()),
                 ta: u64::from(self.settings.ta()),
                 ts: u64::from(self.settings.ts()),

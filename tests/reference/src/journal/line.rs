@@ -6,7 +6,6 @@ use crate::session::Opening;
 pub const LINE_BYTES: usize = 512;
 /// The line of a turn.
 pub const TURN_LINE: &[u8] = b"T\n";
-const VERSION: &[u8] = b"1";
 
 /// A line that was read back.
 #[derive(Clone, Debug, PartialEq, Eq)]
@@ -20,6 +19,7 @@ pub enum Line {
 /// What an `O` line holds. Its numbers are as wide as those of an [`Opening`].
 #[derive(Clone, Debug, PartialEq, Eq)]
 pub struct OpeningLine {
+    version: u64,
     n: u64,
     ta: u64,
     ts: u64,
@@ -33,14 +33,15 @@ pub struct OpeningLine {
 
 impl OpeningLine {
     pub fn opening(&self) -> Opening<'_> {
-        let OpeningLine { n, ta, ts, own, session, input, ref coins, ref weights, boxed } = *self;
-        Opening { n, ta, ts, own, session, input, coins, weights, boxed }
+        let OpeningLine { version, n, ta, ts, own, session, input, boxed, .. } = *self;
+        let (coins, weights) = (&self.coins, &self.weights);
+        Opening { version, n, ta, ts, own, session, input, coins, weights, boxed }
     }
 
-    /// The fields behind the version: n, ta, ts, own number, session, input, n coin words; then n weights and whether the
-    /// coins are boxed, or, in older lines, n weights, or nothing, which reads as all 1. Older ones are printed.
+    /// The fields behind the letter: version, n, ta, ts, own number, session, input, n coin words; then n weights and
+    /// whether the coins are boxed, or, in older lines, n weights, or nothing, which reads as all 1. Older ones are printed.
     fn read(fields: &[&[u8]]) -> Option<OpeningLine> {
-        let [n, ta, ts, own, session, input, lists @ ..] = fields else { return None };
+        let [version, n, ta, ts, own, session, input, lists @ ..] = fields else { return None };
         let n = decimal(n)?;
         let count = usize::try_from(n).ok()?;
         let (coins, rest) = lists.split_at_checked(count)?;
@@ -54,6 +55,7 @@ impl OpeningLine {
             _ => return None,
         };
         Some(OpeningLine {
+            version: decimal(version)?,
             n,
             ta: decimal(ta)?,
             ts: decimal(ts)?,
@@ -72,7 +74,7 @@ impl Line {
     pub fn read(line: &[u8]) -> Option<Line> {
         let fields: Vec<&[u8]> = line.split(|&byte| byte == b'\t').collect();
         match fields[..] {
-            [b"O", VERSION, ref rest @ ..] => OpeningLine::read(rest).map(Line::Opening),
+            [b"O", ref rest @ ..] => OpeningLine::read(rest).map(Line::Opening),
             [b"D", link, message] => {
                 Some(Line::Delivery { link: decimal(link)?, message: bytes(message)? })
             }
@@ -88,8 +90,8 @@ impl Line {
 
 /// The line of an opening.
 pub fn opening_line(opening: &Opening) -> Vec<u8> {
-    let Opening { n, ta, ts, own, session, input, coins, weights, boxed } = *opening;
-    let mut line = format!("O\t1\t{n}\t{ta}\t{ts}\t{own}\t{session}\t{input:016x}");
+    let Opening { version, n, ta, ts, own, session, input, coins, weights, boxed } = *opening;
+    let mut line = format!("O\t{version}\t{n}\t{ta}\t{ts}\t{own}\t{session}\t{input:016x}");
     coins.iter().for_each(|word| line += &format!("\t{word:08x}"));
     weights.iter().for_each(|weight| line += &format!("\t{weight}"));
     line += &format!("\t{boxed}\n");

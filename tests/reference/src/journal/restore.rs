@@ -64,7 +64,7 @@ fn apply(
         }
         (Line::Turn, Some(session)) => match session.turn(&mut [0; LONGEST]).ok()? {
             Outcome::Idle => None,
-            Outcome::Sent(message) => Some(Some(message.to_bytes(session.own(), session.number()))),
+            Outcome::Sent(message) => Some(Some(session.bytes(&message))),
             Outcome::MovedOut | Outcome::InForce => Some(None),
         },
         _ => None,
