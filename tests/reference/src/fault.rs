@@ -1,5 +1,5 @@
-//! 01, "Faults seen in code of this trade", two that weights bring and one of boxed coins (02, N11 and N12):
-//! built in on request, so that a test can show that it finds them.
+//! 01, "Faults seen in code of this trade", two that weights bring, one of boxed coins and three of FINISHes (02, N11, N12
+//! and N6): built in on request, so that a test can show that it finds them.
 
 /// A fault that a session is opened with. Everything but a test takes `None`.
 #[derive(Clone, Copy, Debug, Default, PartialEq, Eq)]
@@ -22,10 +22,16 @@ pub enum Fault {
     Heads,
     /// A move that does not wait for the recorded bit, and takes 0 for it.
     UnrecordedCoin,
+    /// An undecided vote finished on FINISHes of ta, which liars alone can send.
+    FinishOnTa,
+    /// Two FINISHes of one liar counted as two senders.
+    RepeatedFinish,
+    /// FINISHes of the other value counted for the one that is delivered.
+    MixedFinishes,
 }
 
 impl Fault {
-    pub const ALL: [Fault; 9] = [
+    pub const ALL: [Fault; 12] = [
         Fault::None,
         Fault::OpenVote,
         Fault::TaForTs,
@@ -35,6 +41,9 @@ impl Fault {
         Fault::HeadMajority,
         Fault::Heads,
         Fault::UnrecordedCoin,
+        Fault::FinishOnTa,
+        Fault::RepeatedFinish,
+        Fault::MixedFinishes,
     ];
 
     /// The name taken on a command line.
@@ -49,6 +58,9 @@ impl Fault {
             Fault::HeadMajority => "head-majority",
             Fault::Heads => "heads",
             Fault::UnrecordedCoin => "unrecorded-coin",
+            Fault::FinishOnTa => "finish-on-ta",
+            Fault::RepeatedFinish => "repeated-finish",
+            Fault::MixedFinishes => "mixed-finishes",
         }
     }
 

@@ -24,6 +24,8 @@ pub struct Records {
     finishes: BTreeMap<Number, BySender<bool>>,
     /// Only with [`Fault::RepeatedEcho`]: the ECHOs beyond a sender's first.
     repeated_echoes: BTreeMap<Number, Vec<(Number, u64)>>,
+    /// Only with [`Fault::RepeatedFinish`]: the FINISHes beyond a sender's first.
+    repeated_finishes: BTreeMap<Number, Vec<(Number, bool)>>,
 }
 
 impl Records {
@@ -53,7 +55,7 @@ impl Records {
             }
             Message::Commit { values } => hold(&mut self.commits, sender, values),
             Message::Finish { instance, value } => {
-                hold(self.finishes.entry(instance).or_default(), sender, value)
+                self.record_finish(sender, instance, value, fault)
             }
         }
     }
@@ -68,6 +70,21 @@ impl Records {
         let held = hold(self.echoes.entry(instance).or_default(), sender, value);
         if held.is_err() && fault == Fault::RepeatedEcho {
             self.repeated_echoes.entry(instance).or_default().push((sender, value));
+            return Ok(());
+        }
+        held
+    }
+
+    fn record_finish(
+        &mut self,
+        sender: Number,
+        instance: Number,
+        value: bool,
+        fault: Fault,
+    ) -> Result<(), Refusal> {
+        let held = hold(self.finishes.entry(instance).or_default(), sender, value);
+        if held.is_err() && fault == Fault::RepeatedFinish {
+            self.repeated_finishes.entry(instance).or_default().push((sender, value));
             return Ok(());
         }
         held
@@ -118,7 +135,9 @@ impl Records {
         value: bool,
     ) -> impl Iterator<Item = Number> + '_ {
         let held = self.finishes.get(&instance).into_iter().flatten();
-        held.filter(move |(_, &finished)| finished == value).map(|(&sender, _)| sender)
+        let repeats = self.repeated_finishes.get(&instance).into_iter().flatten();
+        let all = held.chain(repeats.map(|(sender, value)| (sender, value)));
+        all.filter(move |(_, &finished)| finished == value).map(|(&sender, _)| sender)
     }
 
     /// The set whose COMMITs weigh `enough`; of several, the lowest sender's.

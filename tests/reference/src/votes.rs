@@ -60,8 +60,11 @@ impl Session {
         if self.settings.version() == Version::One || self.vote(instance).finish_sent {
             return None;
         }
-        let relayed =
-            |value: &bool| self.finish_weight(instance, *value) >= self.settings.vote_relay();
+        let enough = match self.fault {
+            Fault::FinishOnTa => self.settings.ta().max(1).into(),
+            _ => self.settings.vote_relay(),
+        };
+        let relayed = |value: &bool| self.finish_weight(instance, *value) >= enough;
         let value = self.vote(instance).decision;
         let value = value.or_else(|| [false, true].into_iter().find(relayed))?;
         self.vote_mut(instance).finish_sent = true;
@@ -70,7 +73,11 @@ impl Session {
 
     /// A FINISH was recorded: it decides an undecided vote where those of its value are of 2·ta+1 now.
     pub(crate) fn decide_by_finishes(&mut self, instance: Number, value: bool) {
-        if self.finish_weight(instance, value) >= self.settings.vote_accept() {
+        let others = match self.fault {
+            Fault::MixedFinishes => self.finish_weight(instance, !value),
+            _ => 0,
+        };
+        if self.finish_weight(instance, value) + others >= self.settings.vote_accept() {
             self.vote_mut(instance).decision.get_or_insert(value);
         }
     }

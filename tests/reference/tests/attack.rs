@@ -1,11 +1,11 @@
 //! The attack holds against the sound engine and finds each fault.
 
-use pack_reference::attack::{attack, run_feeder, Conditions, Violation};
+use pack_reference::attack::{attack, run_feeder, versions, Conditions, Violation};
 use pack_reference::compare::random_calls;
 use pack_reference::engine::{Lockstep, Reference};
 use pack_reference::{Fault, Refusal};
 
-const SEED: u64 = 3;
+const SEED: u64 = 1;
 const FEEDERS: u64 = 300;
 
 #[test]
@@ -16,6 +16,16 @@ fn sound_engine_holds() {
     assert!(statistics.closed > 0);
     assert!(statistics.restores > 0 && statistics.lost_lines > 0, "{statistics}");
     assert!(statistics.boxed > 0 && statistics.recordings > 0, "{statistics}");
+    assert!(statistics.version_2 > 0 && statistics.finishes > 0, "{statistics}");
+}
+
+#[test]
+fn version_2_saves_turns() {
+    let [(_, one), (_, two)] = versions(&Reference::default(), SEED, 20).unwrap();
+    for (one, two) in [(one.honest, two.honest), (one.lying, two.lying)] {
+        assert_eq!((one.feeders, one.opened), (two.feeders, two.opened));
+        assert!(two.turns < one.turns && two.messages < one.messages, "{one}; {two}");
+    }
 }
 
 #[test]

@@ -33,7 +33,7 @@ pub enum Violation {
     NotNamed { at: Number, in_force: PackSet },
     /// All put in `pack`, and another set is in force.
     OtherPack { at: Number, in_force: PackSet, pack: u64 },
-    /// More than 99·n+3 turns that were not idle, or a count that is not their number.
+    /// More turns that were not idle than the version allows, or a count that is not their number.
     Turns { at: Number, taken: u64, reported: u64 },
     /// An answer that the rules rule out.
     Answer { at: Number, call: &'static str, answer: u64 },

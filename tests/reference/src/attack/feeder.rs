@@ -17,8 +17,10 @@ use crate::message::{PackSet, LONGEST};
 use crate::packing::{refusal, unpack_report, unpack_turn, TurnAnswer};
 use crate::refusal::Refusal;
 use crate::report::SET_WORDS;
-use crate::settings::Number;
+use crate::settings::{Number, Version, Weight};
 
+/// The kind of a FINISH, byte 1 of the message.
+pub(super) const FINISH: u8 = 7;
 /// Lent words hold this before a report.
 const UNWRITTEN: u64 = 0xa5a5_a5a5_a5a5_a5a5;
 
@@ -60,6 +62,8 @@ pub struct Feeder<'a, E: Engine + BoxEngine> {
     parcel_count: u64,
     now: u64,
     pub(super) claim: Claim,
+    /// The weight of the honest ones whose FINISHes of a vote a receiver accepted.
+    pub(super) finished: BTreeMap<(Number, Number), Weight>,
     /// Whose messages are lost on their way.
     pub(super) muted: Option<Number>,
     pub statistics: Statistics,
@@ -86,6 +90,7 @@ impl<'a, E: Engine + BoxEngine> Feeder<'a, E> {
             parcel_count: 0,
             now: 0,
             claim: Claim::new(plan.owes_agreement(), plan.owed_pack()),
+            finished: BTreeMap::new(),
             muted: None,
             statistics: Statistics::default(),
         }
@@ -94,6 +99,7 @@ impl<'a, E: Engine + BoxEngine> Feeder<'a, E> {
     /// Runs until nothing is on its way and all are idle, or the plan's limit of calls is reached.
     pub fn run(&mut self) -> Result<(), Violation> {
         self.statistics.settings.insert(self.plan.settings);
+        self.statistics.version_2 += u64::from(self.plan.settings.version() == Version::Two);
         self.open_box()?;
         self.send_script();
         (0..self.faces.len()).for_each(|face| self.act_as_face(face));
@@ -216,6 +222,7 @@ impl<'a, E: Engine + BoxEngine> Feeder<'a, E> {
         let line = Some(honest.journal.len());
         self.check(number)?;
         if length != 0 {
+            self.statistics.finishes += u64::from(message[1] == FINISH);
             self.send_to_all(&Sent { link: number, message, line });
         }
         Ok(matches!(read, TurnAnswer::Sent { .. } | TurnAnswer::MovedOut))
@@ -282,6 +289,7 @@ impl<'a, E: Engine + BoxEngine> Feeder<'a, E> {
         if let Some(written) = written {
             honest.journal.add(Noted::Delivery(sent.clone()), written);
             self.note_left(sent);
+            self.contradict(number, sent);
         }
         if self.random.once_in(40) {
             self.send(parcel.to, parcel.sent, 1);

@@ -96,6 +96,14 @@ impl Journal {
         }
     }
 
+    /// The messages that its turns sent.
+    pub fn sent(&self) -> impl Iterator<Item = &[u8]> {
+        self.lines.iter().filter_map(|(noted, _)| match noted {
+            Noted::Turn { answer: TurnAnswer::Sent { .. }, message } => Some(&message[..]),
+            _ => None,
+        })
+    }
+
     fn turns(&self) -> impl Iterator<Item = TurnAnswer> + '_ {
         self.lines.iter().filter_map(|(noted, _)| match noted {
             Noted::Turn { answer, .. } => Some(*answer),

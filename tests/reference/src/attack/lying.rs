@@ -3,11 +3,12 @@
 use std::rc::Rc;
 
 use super::face::Face;
-use super::feeder::{Feeder, Receiver};
+use super::feeder::{Feeder, Receiver, FINISH};
 use super::journal::Sent;
 use super::script::Lie;
 use crate::box_engine::BoxEngine;
 use crate::engine::Engine;
+use crate::message::Message;
 use crate::settings::{Number, Round};
 
 impl<E: Engine + BoxEngine> Feeder<'_, E> {
@@ -29,8 +30,32 @@ impl<E: Engine + BoxEngine> Feeder<'_, E> {
             for &number in plan.inputs.keys().filter(in_group) {
                 for _ in 0..lie.times {
                     let sent = Sent { link: liar, message: Rc::clone(&message), line: None };
-                    self.send(Receiver::Honest(number), sent, 0);
+                    self.send(Receiver::Honest(number), sent, lie.delay);
                 }
+            }
+        }
+    }
+
+    /// A receiver accepted an honest one's FINISH: where that is the one that makes ta+1, all liars send it FINISHes of the
+    /// other value.
+    pub(super) fn contradict(&mut self, number: Number, sent: &Sent) {
+        let plan = self.plan;
+        let settings = &plan.settings;
+        let [_, FINISH, _, vote, ..] = sent.message[..] else { return };
+        if !plan.script.contradicts || plan.liars.contains(&sent.link) {
+            return;
+        }
+        let weight = settings.weight([sent.link]);
+        let before = self.finished.entry((number, vote)).or_default();
+        let (least, enough) = (*before, settings.vote_relay());
+        *before += weight;
+        if least < enough && enough <= least + weight {
+            let value = sent.message.last() == Some(&0);
+            let message = Message::Finish { instance: vote, value };
+            for &liar in &plan.liars {
+                let bytes = message.to_bytes(settings.version(), liar, plan.session);
+                let lie = Sent { link: liar, message: bytes.into(), line: None };
+                self.send(Receiver::Honest(number), lie, 0);
             }
         }
     }

@@ -12,17 +12,19 @@ mod power;
 pub(crate) mod random;
 mod refused;
 mod script;
+mod versions;
 
 use std::collections::BTreeSet;
 use std::fmt;
 
 pub use claim::{Claim, Conditions, Shown, Violation};
 pub use plan::Plan;
+pub use versions::{versions, Tallies, Tally};
 
 use crate::box_engine::BoxEngine;
 use crate::compare::all_settings;
 use crate::engine::Engine;
-use crate::settings::{Number, Settings};
+use crate::settings::{Number, Settings, Version};
 use feeder::Feeder;
 use random::Random;
 
@@ -37,7 +39,7 @@ pub struct Statistics {
     pub closed: u64,
     /// The settings of the feeders.
     pub settings: BTreeSet<Settings>,
-    /// The most turns of an honest one that were not idle, in hundredths of 99·n+3.
+    /// The most turns of an honest one that were not idle, in hundredths of what its version allows.
     pub most_turns: u64,
     /// Restores after power was lost, and the lines that were lost.
     pub restores: u64,
@@ -45,6 +47,9 @@ pub struct Statistics {
     /// Boxed feeders, and the bits that honest ones recorded.
     pub boxed: u64,
     pub recordings: u64,
+    /// Feeders of version 2, and the FINISHes that honest ones sent.
+    pub version_2: u64,
+    pub finishes: u64,
     seen: BTreeSet<u8>,
     closed_here: BTreeSet<Number>,
 }
@@ -76,6 +81,8 @@ impl Statistics {
         self.lost_lines += other.lost_lines;
         self.boxed += other.boxed;
         self.recordings += other.recordings;
+        self.version_2 += other.version_2;
+        self.finishes += other.finishes;
     }
 }
 
@@ -85,7 +92,8 @@ impl fmt::Display for Statistics {
         write!(
             f,
             "{} feeders of {} settings, {} calls; exit 1 seen in {one}, exit 2 in {two}, exit 3 in {three}, closed in \
-             {}; at most {} % of the turns that 99n+3 allows; {} restores, {} lines lost; {} boxed, {} bits recorded",
+             {}; at most {} % of the turns allowed; {} restores, {} lines lost; {} boxed, {} bits recorded; {} of version 2, \
+             {} FINISHes",
             self.feeders,
             self.settings.len(),
             self.calls,
@@ -94,7 +102,9 @@ impl fmt::Display for Statistics {
             self.restores,
             self.lost_lines,
             self.boxed,
-            self.recordings
+            self.recordings,
+            self.version_2,
+            self.finishes
         )
     }
 }
@@ -127,8 +137,8 @@ pub fn run_feeder<E: Engine + BoxEngine>(
     (feeder.statistics, result)
 }
 
-/// Runs so many feeders and then more, until all settings with n up to 7 and weights of 1 had one; it ends early where
-/// demand 3 is broken.
+/// Runs so many feeders and then more, until all settings with n up to 7 and weights of 1 had one in both versions; it ends
+/// early where demand 3 is broken.
 pub fn attack<E: Engine + BoxEngine>(
     engine: &E,
     conditions: Conditions,
@@ -137,7 +147,8 @@ pub fn attack<E: Engine + BoxEngine>(
 ) -> (Statistics, Option<Finding>) {
     let mut random = Random::new(seed);
     let mut total = Statistics::default();
-    let mut left: BTreeSet<Settings> = all_settings(pick::MOST as u64).collect();
+    let both = |settings: Settings| Version::ALL.map(|version| settings.with_version(version));
+    let mut left: BTreeSet<Settings> = all_settings(pick::MOST as u64).flat_map(both).collect();
     while total.feeders < feeders || !left.is_empty() {
         let seed = random.word();
         if feeders <= total.feeders && !left.contains(&Plan::new(seed, conditions).settings) {

@@ -3,7 +3,7 @@
 use std::collections::{BTreeMap, BTreeSet};
 
 use super::claim::Conditions;
-use super::plan::{Aim, Faces, Group, Hold, Opened, Pace};
+use super::plan::{Aim, Faces, Group, Hold, Opened, Pace, Plan};
 use super::random::Random;
 use super::script::{Script, Watch};
 use crate::compare::all_settings;
@@ -241,6 +241,26 @@ pub fn script(
         }
     }
     script
+}
+
+/// Version 2: in most feeders, lies of FINISHes in some votes; in some, FINISHes that are held back, or one that learns of
+/// decisions before it can decide, and lies about these.
+pub fn finishes(random: &mut Random, plan: &mut Plan) {
+    if !random.once_in(4) {
+        for vote in some_numbers(random, &plan.settings) {
+            plan.script.add_finishes(random, vote);
+        }
+    }
+    if random.once_in(2) {
+        let numbers: Vec<Number> = plan.settings.numbers().collect();
+        plan.pace.holds.push(Hold { kinds: (7, 7), ..hold(random, &numbers) });
+    } else if random.once_in(2) {
+        let numbers: Vec<Number> = plan.settings.numbers().collect();
+        let to_one = Some(random.pick(&numbers));
+        let delay = UNTIL_DECIDED;
+        plan.pace.holds.push(Hold { kinds: (4, 5), to_one, delay, ..Hold::default() });
+        plan.script.contradicts = true;
+    }
 }
 
 /// One number, some, or all.

@@ -8,7 +8,7 @@ use super::random::Random;
 use super::script::Script;
 use crate::coin_box::BoxOpening;
 use crate::session::Opening;
-use crate::settings::{Number, Settings, Weight};
+use crate::settings::{Number, Settings, Version, Weight};
 
 /// What a plan is drawn up for.
 #[derive(Clone, Copy, Debug, PartialEq, Eq)]
@@ -120,7 +120,24 @@ pub struct Plan {
 }
 
 impl Plan {
+    /// Half of the plans are of version 2.
     pub fn new(seed: u64, conditions: Conditions) -> Plan {
+        let version = Random::new(seed.rotate_left(32)).pick(&Version::ALL);
+        Plan::of_version(seed, conditions, version)
+    }
+
+    /// The plan of one seed, in this version; both have the same settings, liars and lies, but for FINISHes.
+    pub fn of_version(seed: u64, conditions: Conditions, version: Version) -> Plan {
+        let mut plan = Plan::drawn(seed, conditions);
+        plan.settings = plan.settings.with_version(version);
+        if version == Version::Two {
+            let random = &mut Random::new(seed.rotate_left(16));
+            pick::finishes(random, &mut plan);
+        }
+        plan
+    }
+
+    fn drawn(seed: u64, conditions: Conditions) -> Plan {
         let random = &mut Random::new(seed);
         let aim = pick::aim(random);
         let settings = pick::settings(random, aim);

@@ -14,6 +14,8 @@ pub struct Lie {
     pub message: Message,
     pub group: Group,
     pub times: usize,
+    /// The steps until it is there.
+    pub delay: u64,
 }
 
 /// What liars do in a vote once a coin of it is no longer sealed.
@@ -31,6 +33,8 @@ pub enum Watch {
 pub struct Script {
     pub lies: Vec<Lie>,
     pub watches: BTreeMap<Number, Watch>,
+    /// Liars send a FINISH of the other value where one more of theirs would make up 2·ta+1, if values did not matter.
+    pub contradicts: bool,
 }
 
 const GROUPS: [Group; 2] = [Group::A, Group::B];
@@ -39,7 +43,7 @@ const ROUNDS: Round = 10;
 
 impl Script {
     fn add(&mut self, message: Message, group: Group, times: usize) {
-        self.lies.push(Lie { message, group, times });
+        self.lies.push(Lie { message, group, times, delay: 0 });
     }
 
     /// ECHOs and READYs of some broadcasts, often more than once, and COMMITs, for packs that are seldom put in.
@@ -92,9 +96,27 @@ impl Script {
         }
     }
 
+    /// FINISHes of one vote, ahead of all other lies and before any vote starts, or late: of one value, or of one for each
+    /// group, or of both to all. Only the first of a liar counts.
+    pub fn add_finishes(&mut self, random: &mut Random, instance: Number) {
+        let times = random.pick(&[1, 2, 7]);
+        let delay = random.pick(&[0, 0, 100, 1_000]);
+        let first = random.once_in(2);
+        let values = random.pick(&[[first; 2], [first, !first], [first, !first]]);
+        let lie = |value: bool, group| {
+            let message = Message::Finish { instance, value };
+            Lie { message, group, times, delay }
+        };
+        let mut lies: Vec<Lie> = GROUPS.into_iter().zip(values).map(|(g, v)| lie(v, g)).collect();
+        if random.once_in(3) {
+            lies.extend(GROUPS.into_iter().zip(values).map(|(g, v)| lie(!v, g)));
+        }
+        self.lies.splice(0..0, lies);
+    }
+
     /// Whether a message is of a vote that is led.
     pub fn leads(&self, message: &[u8]) -> bool {
-        (4..=5).contains(&message[1]) && self.watches.get(&message[3]) == Some(&Watch::Lead)
+        matches!(message[1], 4 | 5 | 7) && self.watches.get(&message[3]) == Some(&Watch::Lead)
     }
 
     /// The lies about a vote and round whose coin is seen now; `before` has those of lower rounds.
@@ -104,7 +126,7 @@ impl Script {
         coin: bool,
         before: &[bool],
     ) -> Vec<Lie> {
-        let lie = |message, group| Lie { message, group, times: 1 };
+        let lie = |message, group| Lie { message, group, times: 1, delay: 0 };
         let aux = |value, group| lie(Message::Aux { instance, round, value }, group);
         let est = |value, group| lie(Message::Est { instance, round, value }, group);
         match self.watches.get(&instance) {

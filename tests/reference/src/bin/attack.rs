@@ -1,9 +1,11 @@
 //! Attacks the reference engine, sound, with each fault, and sound with lost lines of the journals or with recorded bits
-//! that differ. Arguments: seed, number of feeders, and optionally one of these. It succeeds if the sound engine holds and everything else is found.
+//! that differ. Arguments: seed, number of feeders, and optionally one of these. It succeeds if the sound engine holds and
+//! everything else is found. With `versions` as the third argument it runs each feeder in both versions, and prints what the
+//! honest ones did in each.
 
 use std::process::ExitCode;
 
-use pack_reference::attack::{attack, Conditions};
+use pack_reference::attack::{attack, versions, Conditions};
 use pack_reference::engine::Reference;
 use pack_reference::Fault;
 
@@ -24,8 +26,15 @@ fn targets() -> Vec<Target> {
 
 fn main() -> ExitCode {
     let arguments: Vec<String> = std::env::args().skip(1).collect();
+    if let [seed, feeders, "versions"] =
+        arguments.iter().map(String::as_str).collect::<Vec<_>>()[..]
+    {
+        if let (Ok(seed), Ok(feeders)) = (seed.parse(), feeders.parse()) {
+            return print_versions(seed, feeders);
+        }
+    }
     let Some((seed, feeders, targets)) = read_arguments(&arguments) else {
-        eprintln!("usage: attack SEED FEEDERS [FAULT]");
+        eprintln!("usage: attack SEED FEEDERS [FAULT | versions]");
         targets().iter().for_each(|target| eprintln!("  fault {}", target.name));
         return ExitCode::from(2);
     };
@@ -34,6 +43,22 @@ fn main() -> ExitCode {
         ExitCode::SUCCESS
     } else {
         ExitCode::FAILURE
+    }
+}
+
+fn print_versions(seed: u64, feeders: u64) -> ExitCode {
+    match versions(&Reference::default(), seed, feeders) {
+        Ok(tallies) => {
+            for (version, tallies) in tallies {
+                println!("version {}, no liars: {}", version.number(), tallies.honest);
+                println!("version {}, liars: {}", version.number(), tallies.lying);
+            }
+            ExitCode::SUCCESS
+        }
+        Err(violation) => {
+            println!("violation: {violation}");
+            ExitCode::FAILURE
+        }
     }
 }
 
