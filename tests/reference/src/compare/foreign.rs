@@ -17,6 +17,8 @@ use crate::settings::{Number, Version};
 const WEIGHTS: usize = 141;
 /// The word that says whether coins are boxed.
 const BOXED: usize = 142;
+/// The word of the version.
+const VERSION: usize = 143;
 /// Calls on a state before the next one.
 const CALLS: u64 = 24;
 
@@ -71,7 +73,8 @@ impl<A: Engine<State = Words>, B: Engine<State = Words>> Pair<'_, A, B> {
         let boxed = boxed_flag(&mut self.random, &mut coins);
         let mut weights = good_weights(&mut self.random, n);
         damage_weights(&mut self.random, &mut weights);
-        let version = random_version(&mut self.random, Version::One);
+        let version = self.random.pick(&Version::ALL);
+        let version = random_version(&mut self.random, version);
         let (coins, weights, session, input) = (&coins[..], &weights[..], 7, 5);
         let opening = &Opening { version, n, ta, ts, own, session, input, coins, weights, boxed };
         let mut line = vec![0xa5; length(&mut self.random, LINE_BYTES)];
@@ -86,7 +89,11 @@ impl<A: Engine<State = Words>, B: Engine<State = Words>> Pair<'_, A, B> {
         let n = self.state[0].clamp(1, 16);
         let sender = 1 + self.random.below(n) as Number;
         let message = message(&mut self.random, n);
-        let mut bytes = message.to_bytes(Version::One, sender, self.state[4] as u32);
+        let version = match Version::given(self.state[VERSION]) {
+            Ok(version) if !self.random.once_in(24) => version,
+            _ => self.random.pick(&Version::ALL),
+        };
+        let mut bytes = message.to_bytes(version, sender, self.state[4] as u32);
         if self.random.once_in(16) {
             let place = self.random.below(bytes.len() as u64) as usize;
             bytes[place] = self.random.word() as u8;
@@ -146,12 +153,13 @@ fn message(random: &mut Random, n: u64) -> Message {
     let round = 1 + random.below(rounds) as u8;
     let value = random.below(3);
     let bit = random.once_in(2);
-    match random.below(6) {
+    match random.below(8) {
         0 => Message::Send { value },
         1 => Message::Echo { instance, value },
         2 => Message::Ready { instance, value },
         3 => Message::Est { instance, round, value: bit },
         4 => Message::Aux { instance, round, value: bit },
+        5 | 6 => Message::Finish { instance, value: bit },
         _ => Message::Commit { values: (0..=random.below(n.min(3))).collect() },
     }
 }
@@ -176,7 +184,8 @@ fn plant(random: &mut Random, state: &mut Words) {
     }
     plant_settings(random, state);
     let (n, wild) = (state[0], random.once_in(4));
-    let turns = [0, 1, 99 * (n & 31), 99 * (n & 31) + 3, 99 * (n & 31) + 4, u64::MAX];
+    let most = [99, 100].map(|turns| turns * (n & 31) + 3);
+    let turns = [0, 1, most[0] - 3, most[0], most[0] + 1, most[1], most[1] + 1, u64::MAX];
     state[6] = if random.once_in(4) { random.pick(&turns) } else { random.below(99) };
     state[7] = random.word() & !random.pick(&[1, 1, 1, 0]);
     // The regions of docs/ARCHITECTURE.md, "The words".
@@ -194,7 +203,9 @@ fn plant(random: &mut Random, state: &mut Words) {
         region.iter_mut().for_each(|word| *word = random.below(values));
     }
     plant_marks(random, state, 1024..1536);
-    plant_marks(random, state, 143..256);
+    for region in [144..145, 145..161, 161..256] {
+        plant_marks(random, state, region);
+    }
     plant_marks(random, state, 1536..2048);
 }
 
@@ -208,6 +219,11 @@ fn plant_settings(random: &mut Random, state: &mut Words) {
     state[BOXED] = random.pick(&[0, 0, 0, 1, 1, 1, 1, 1]);
     if random.once_in(24) {
         state[BOXED] = random.pick(&[2, 3, 255, 1 << 32, (1 << 32) + 1, 1 << 63, u64::MAX]);
+    }
+    state[VERSION] = random.pick(&Version::ALL).number();
+    if random.once_in(24) {
+        state[VERSION] =
+            random.pick(&[0, 3, 255, 257, 1 << 32, (1 << 32) + 1, (1 << 63) + 2, u64::MAX]);
     }
     // The session number is the low half.
     state[4] = if random.once_in(4) { random.word() } else { 7 };

@@ -146,7 +146,23 @@ fn edge_lines() -> Vec<String> {
             lines.push(format!("O\t{opening}\nK\t1\t1\t0\nK\t{line}\nT\n"));
         }
     }
+    lines.extend(lines_by_version(good));
     lines.extend(lines_by_count());
+    lines
+}
+
+/// Opening lines of every version, in the present form and in both older ones, with a SEND and a FINISH of each version.
+fn lines_by_version(good: [&str; 10]) -> Vec<String> {
+    let mut lines = Vec::new();
+    for version in edges(good[0]) {
+        for form in [&good[1..], &good[1..9], &good[1..8]] {
+            for head in ["0101", "0201", "0107", "0207"] {
+                let opening = form.join("\t");
+                let message = format!("{head}010100010000000000070000000000000001");
+                lines.push(format!("O\t{version}\t{opening}\nT\nD\t1\t{message}\nT\n"));
+            }
+        }
+    }
     lines
 }
 

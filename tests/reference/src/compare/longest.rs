@@ -1,4 +1,4 @@
-//! Sessions that take 99·n+3 turns, as many as there can be (PROTOCOL 8.20).
+//! Sessions that take as many turns as there can be: 99·n+3 in version 1 (PROTOCOL 8.20), 100·n+3 in version 2 (02, N6).
 
 use super::Answers;
 use crate::engine::{Coin, Engine};
@@ -7,7 +7,7 @@ use crate::message::{Message, PackSet, LONGEST};
 use crate::packing::unpack_report;
 use crate::report::SET_WORDS;
 use crate::session::Opening;
-use crate::settings::{Number, Round, Settings};
+use crate::settings::{Number, Round, Settings, Version};
 
 /// All settings with n up to `most` and weights of 1.
 pub fn all_settings(most: u64) -> impl Iterator<Item = Settings> {
@@ -20,13 +20,15 @@ fn weighted_settings(most: u64) -> impl Iterator<Item = Settings> {
     (1..=most).flat_map(move |n| Settings::all_with(&weights(n)).collect::<Vec<Settings>>())
 }
 
-/// Sessions of all settings with n up to `most`, with weights of 1 and with others. In each round of each vote all four
-/// things are due, up to the move out of round 32. Half of them are boxed. It panics unless each takes 99·n+3 turns; where
-/// one broadcast alone is enough for Exit 1, that turns the votes off.
+/// Sessions of all settings with n up to `most`, with weights of 1 and with others, in both versions. In each round of each
+/// vote all four things are due, up to the move out of round 32. Half of them are boxed. In version 2, each vote is finished
+/// after that, or before its start where ta allows FINISHes that do not decide. It panics unless each takes as many turns as
+/// there can be; where one broadcast alone is enough for Exit 1, that turns the votes off.
 pub fn longest_sessions<E: Engine>(engine: &E, most: u64) -> Answers {
     let mut answers = Answers::default();
-    let kinds = (0..2).cycle();
-    for (settings, boxed) in all_settings(most).chain(weighted_settings(most)).zip(kinds) {
+    let both = |settings: Settings| Version::ALL.map(|version| settings.with_version(version));
+    let all = all_settings(most).chain(weighted_settings(most)).flat_map(both);
+    for (settings, boxed) in all.zip([0, 1, 1, 0].into_iter().cycle()) {
         let taken = longest_session(engine, &settings, boxed, &mut answers);
         let exit_1 = settings.numbers().any(|i| settings.weight([i]) >= settings.quorum());
         let without_votes = 2 * u64::from(settings.n()) + 3;
@@ -51,7 +53,7 @@ fn longest_session<E: Engine>(
     let opening = Opening { version, n, ta, ts, own, session, input, coins, weights, boxed };
     let line = &mut [0; LINE_BYTES];
     answers.note(engine.open(&mut state, &opening, line));
-    for (sender, message) in all_messages(settings) {
+    for (sender, message) in all_messages(settings).into_iter().chain(early_finishes(settings)) {
         let bytes = message.to_bytes(settings.version(), sender, 7);
         answers.note(engine.deliver(&mut state, u64::from(sender), &bytes, line));
     }
@@ -104,6 +106,25 @@ fn all_messages(settings: &Settings) -> Vec<(Number, Message)> {
         }
     }
     messages
+}
+
+/// FINISHes of 1 in each vote, from senders of ta+1 at least and 2·ta at most; none where there are no such senders. Every
+/// other session is without them.
+fn early_finishes(settings: &Settings) -> Vec<(Number, Message)> {
+    let mut senders = Vec::new();
+    for sender in settings.numbers() {
+        if settings.weight(senders.iter().copied()) < settings.vote_relay() {
+            senders.push(sender);
+        }
+    }
+    let few = settings.weight(senders.iter().copied()) < settings.vote_accept();
+    if settings.version() == Version::One || !few || settings.ts() % 2 == 0 {
+        return Vec::new();
+    }
+    let finishes = |&sender: &Number| {
+        settings.numbers().map(move |instance| (sender, Message::Finish { instance, value: true }))
+    };
+    senders.iter().flat_map(finishes).collect()
 }
 
 /// Both values, but 1 alone in the last round, which then decides.
