@@ -29,10 +29,10 @@ pub mod message;
 pub mod packing;
 pub mod records;
 mod refusal;
-pub mod replay;
 mod report;
 mod session;
 mod settings;
+pub mod traces;
 mod votes;
 
 pub use exits::Exit;

@@ -12,6 +12,7 @@ mod power;
 pub(crate) mod random;
 mod refused;
 mod script;
+mod trace;
 mod versions;
 
 use std::collections::BTreeSet;
@@ -19,6 +20,7 @@ use std::fmt;
 
 pub use claim::{Claim, Conditions, Shown, Violation};
 pub use plan::Plan;
+pub use trace::feeder_trace;
 pub use versions::{versions, Tallies, Tally};
 
 use crate::box_engine::BoxEngine;

@@ -31,9 +31,9 @@ pub fn aim(random: &mut Random) -> Aim {
     }
 }
 
-/// Any valid settings with n up to 7 that suit the aim; half of the time all weights are 1.
-pub fn settings(random: &mut Random, aim: Aim) -> Settings {
-    let suits = |settings: &Settings| match aim {
+/// Whether feeders with these settings can have the aim.
+pub fn suits(settings: &Settings, aim: Aim) -> bool {
+    match aim {
         Aim::Agreement => true,
         Aim::EqualPacks => settings.ts() > 0,
         // With ta = 0 no vote can start with 0, and the first half has no liars.
@@ -51,7 +51,12 @@ pub fn settings(random: &mut Random, aim: Aim) -> Settings {
                 && settings.weight(light) <= settings.ts().into()
                 && starts
         }
-    };
+    }
+}
+
+/// Any valid settings with n up to 7 that suit the aim; half of the time all weights are 1.
+pub fn settings(random: &mut Random, aim: Aim) -> Settings {
+    let suits = |settings: &Settings| suits(settings, aim);
     loop {
         let all: Vec<Settings> = if random.once_in(2) {
             all_settings(MOST as u64).filter(suits).collect()

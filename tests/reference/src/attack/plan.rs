@@ -128,19 +128,34 @@ impl Plan {
 
     /// The plan of one seed, in this version; both have the same settings, liars and lies, but for FINISHes.
     pub fn of_version(seed: u64, conditions: Conditions, version: Version) -> Plan {
-        let mut plan = Plan::drawn(seed, conditions);
-        plan.settings = plan.settings.with_version(version);
-        if version == Version::Two {
-            let random = &mut Random::new(seed.rotate_left(16));
-            pick::finishes(random, &mut plan);
-        }
-        plan
-    }
-
-    fn drawn(seed: u64, conditions: Conditions) -> Plan {
         let random = &mut Random::new(seed);
         let aim = pick::aim(random);
         let settings = pick::settings(random, aim);
+        Plan::drawn(random, aim, settings, conditions).in_version(seed, version)
+    }
+
+    /// A plan with these settings and printed coins.
+    pub fn with_settings(seed: u64, settings: Settings) -> Plan {
+        let random = &mut Random::new(seed);
+        let mut aim = pick::aim(random);
+        while !pick::suits(&settings, aim) || aim == Aim::SplitCoin {
+            aim = pick::aim(random);
+        }
+        let version_1 = settings.with_version(Version::One);
+        let mut plan = Plan::drawn(random, aim, version_1, Conditions::Met);
+        plan.boxed = false;
+        plan.in_version(seed, settings.version())
+    }
+
+    fn in_version(mut self, seed: u64, version: Version) -> Plan {
+        self.settings = self.settings.with_version(version);
+        if version == Version::Two {
+            pick::finishes(&mut Random::new(seed.rotate_left(16)), &mut self);
+        }
+        self
+    }
+
+    fn drawn(random: &mut Random, aim: Aim, settings: Settings, conditions: Conditions) -> Plan {
         let liars = pick::liars(random, &settings, aim);
         let honest: Vec<Number> =
             settings.numbers().filter(|number| !liars.contains(number)).collect();
