@@ -21,9 +21,9 @@
  *
  * AGREEMENT rests on more than memory. The engine cannot see whether the following is kept, and takes calls that break it.
  * A concentrator whose host does not keep it counts among those that lie, with its weight:
- *   - It opens a session once, under its own number, with the settings and coins that all have: n, ta, ts, session, coins,
- *     weights, boxed. One that lost its state is restored from its journal. To open the session again is to speak with
- *     a second voice under one number.
+ *   - It opens a session once, under its own number, with the settings and coins that all have: version, n, ta, ts, session,
+ *     coins, weights, boxed. One that lost its state is restored from its journal. To open the session again is to speak
+ *     with a second voice under one number.
  *   - A session number is not used again while messages of the session that had it may still come.
  *   - Nothing but these calls writes its state.
  *   - The link vouches for its sender: what is delivered as from a concentrator is what a turn there sent in this session,
@@ -38,6 +38,18 @@
  *   - Where they weigh ts at most and all that keep it put in the same pack, no other set is named or comes into force.
  *   - Where they weigh ts at most, no set comes into force that the exits of one that keeps it had not named before.
  * Where they weigh more than ts nothing is promised of sets. Never promised is that a session closes, or when.
+ *
+ * THE VERSION of a session, 1 or 2, says how its votes end; byte 0 of every message names it. In version 1 a vote that is
+ * decided goes on through its rounds until the session closes, which fills the air after everybody has decided. In version 2
+ * it sends FINISH with its value, once, and nothing more. FINISHes of one value from concentrators of weight ta + 1 have an
+ * undecided vote send FINISH too, and go on; those of weight 2 * ta + 1 decide it as the last of them is delivered. All that
+ * is promised above is promised of both versions. What a planner has to know:
+ *   - All concentrators of a session open the same version. One that opened the other is refused by them, and refuses them,
+ *     with PACK_REFUSED_KIND.
+ *   - A session of version 2 can come to rest without closing where one of version 1 would close, with a single concentrator
+ *     down or lying silently: n = 4, ta = ts = 1, one of the other three decides a vote and says no more, its FINISH alone
+ *     moves nobody, and the two that are left are too few for an AUX quorum. tests/host/versions.c plays such a session.
+ *     No set is in force then, and what is to be done is for the host, as with every session that stays open.
  *
  * THE JOURNAL is for a concentrator that may lose its memory, or fall back to an older image of it. Every opening, delivery
  * and recording that is accepted, and every turn that is neither idle nor refused, writes one line of text into bytes that
@@ -61,7 +73,8 @@
  *   - Ask for the coin of round r of a vote when that vote is in round r. Asking earlier lets liars see coins sooner.
  *     The round of a vote is the highest round of the ESTs that the concentrator's own turns have sent for it: its start
  *     sends an EST of round 1, a move out of round r one of round r + 1, and a relay never one of a higher round. The
- *     vote of an EST is its instance.
+ *     vote of an EST is its instance. In version 2 a vote that is decided and has sent FINISH moves no more, but the others
+ *     may need its request for the round that it is in.
  *   - Ask again later where the answer is sealed.
  *   - Record the bit by pack_record before the next turn: the move out of that round waits for it. Its line is stored as the
  *     others are. After a restore, ask for the coins of the rounds whose lines were lost; the box tells the same bits.
@@ -117,7 +130,7 @@ extern "C" {
  * The version of this header. It rises by one with each change that a program written for it must know of: a name, a
  * number, a layout, what an answer means or what the caller owes. What is only added leaves it.
  */
-#define PACK_HEADER_VERSION 1
+#define PACK_HEADER_VERSION 2
 
 /* Has the compiler warn where an answer is not looked at. */
 #if defined(__cplusplus) && __cplusplus >= 201703L
@@ -174,13 +187,13 @@ enum pack_refusal {
     /* No refusal. */
     PACK_ACCEPTED = 0,
     /*
-     * A setting, weight or own number outside the rules, not exactly n coin words and n weights, coins that are neither
-     * printed nor boxed, or boxed ones with a coin word that is not 0.
+     * A version, setting, weight or own number outside the rules, not exactly n coin words and n weights, coins that are
+     * neither printed nor boxed, or boxed ones with a coin word that is not 0.
      */
     PACK_REFUSED_SETTINGS = 1,
     /* Under 12 bytes, or not 12 + 8 * count. */
     PACK_REFUSED_LENGTH = 2,
-    /* Version or kind unknown. */
+    /* A version that is not the session's, or a kind that its version does not have. */
     PACK_REFUSED_KIND = 3,
     /* Another session number. */
     PACK_REFUSED_SESSION = 4,
@@ -188,7 +201,7 @@ enum pack_refusal {
     PACK_REFUSED_SENDER = 5,
     /* Byte 3 to 7 against the layout. */
     PACK_REFUSED_FIELD = 6,
-    /* EST or AUX above 1, or COMMIT not rising. */
+    /* EST, AUX or FINISH above 1, or COMMIT not rising. */
     PACK_REFUSED_VALUE = 7,
     /*
      * A turn or restore lent under 140 bytes for the message, an opening, delivery, turn or recording lent under 512 bytes
@@ -241,27 +254,29 @@ enum pack_coins {
 };
 
 /*
- * Opens a session of n concentrators, 1 to 16, with ta <= ts and 2 * ts + ta < W, at the one numbered own, 1 to n.
+ * Opens a session of a version, PACK_VERSION_1 or PACK_VERSION_2, and of n concentrators, 1 to 16, with ta <= ts and
+ * 2 * ts + ta < W, at the one numbered own, 1 to n.
  * ta given as PACK_UNNAMED is the largest that these rules allow, the smaller of ts and W - 1 - 2 * ts; where 2 * ts >= W
  * they allow none, and the opening is refused.
  * input is the own pack number, any value. coins are n words: bit r - 1 of word i, counted from 1, is the coin of vote
  * i in round r. weights are n bytes, that of concentrator 1 first, each 1 to PACK_WEIGHT_MAX; where all are 1, W is n.
  * boxed is PACK_COINS_PRINTED or PACK_COINS_BOXED; with boxed coins all n words are 0, and the bits are recorded later.
- * n, ta, ts, session, coins, weights and boxed are the same at all concentrators of a session; it is the same ta whether it
- * was named or left unnamed.
+ * version, n, ta, ts, session, coins, weights and boxed are the same at all concentrators of a session; it is the same ta
+ * whether it was named or left unnamed.
  * The line of the journal stands at the front of the lent bytes; the others keep their value. It starts a new journal:
- * "O", the version of the line, 1, then n, ta as it was given, ts, own, session, input in 16 hexadecimal digits, the coin
- * words in 8 each, the weights and boxed, fields parted by tabs, ended by a line feed.
+ * "O", the version, n, ta as it was given, ts, own, session, input in 16 hexadecimal digits, the coin words in 8 each, the
+ * weights and boxed, fields parted by tabs, ended by a line feed.
  * Answer: bits 16 to 31 the length of the line in bytes, the others 0.
  * Refusals, in this order: PACK_REFUSED_NO_STATE (the word count only), PACK_REFUSED_SETTINGS, PACK_REFUSED_SHORT.
  */
 PACK_MUST_USE
-pack_answer pack_open(uint64_t *state, size_t words, uint64_t n, uint64_t ta, uint64_t ts, uint64_t own,
+pack_answer pack_open(uint64_t *state, size_t words, uint64_t version, uint64_t n, uint64_t ta, uint64_t ts, uint64_t own,
                       uint32_t session, uint64_t input, const uint32_t *coins, size_t coin_words,
                       const uint8_t *weights, size_t weight_count, uint64_t boxed, uint8_t *line, size_t line_bytes);
 
 /*
- * Records a message that came over the link of concentrator `link`.
+ * Records a message that came over the link of concentrator `link`. A FINISH may decide its vote, and with it what a report
+ * names.
  * Its line, at the front of the lent bytes, is "D", the link and the message in hexadecimal; the other bytes keep their
  * value.
  * Answer: bits 16 to 31 the length of the line in bytes, the others 0.
@@ -328,7 +343,8 @@ pack_answer pack_record(uint64_t *state, size_t words, uint64_t vote, uint64_t r
                         size_t line_bytes);
 
 /*
- * Opens a coin box: n, ta, ts and weights are those of the session, and coins are n words as a printed session has them.
+ * Opens a coin box for a session of either version: n, ta, ts and weights are those of the session, and coins are n words as
+ * a printed session has them.
  * Opening sets the whole buffer, whatever it held.
  * Answer: 0.
  * Refusals, in this order: PACK_REFUSED_NO_STATE (the word count only), PACK_REFUSED_SETTINGS.

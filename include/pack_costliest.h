@@ -1,8 +1,8 @@
 /*
- * The costliest session of n concentrators, for sizing batteries: the settings and calls with which one concentrator
- * takes 99 * n + 3 turns, and 5 where n is 1, all weights being 1 and the coins printed. No calls bring more turns, nor more
- * than 98 * n + 2 messages and 1968 * n + 32 bytes sent. These functions only hand the session out; they are not part of the
- * engine and stand in an archive of their own.
+ * The costliest session of n concentrators in version 1, for sizing batteries: the settings and calls with which one
+ * concentrator takes 99 * n + 3 turns, and 5 where n is 1, all weights being 1 and the coins printed. No calls bring more
+ * turns in such a session, nor more than 98 * n + 2 messages and 1968 * n + 32 bytes sent. These functions only hand the
+ * session out; they are not part of the engine and stand in an archive of their own.
  */
 #ifndef PACK_COSTLIEST_H
 #define PACK_COSTLIEST_H
@@ -31,7 +31,7 @@ enum pack_costliest_kind {
 
 /*
  * Number k of the opening, from 1 on: n, ta, ts, own number, session, input, then the n coin words; 0 past the end.
- * Its weights are all 1, and its coins are printed.
+ * Its version is PACK_VERSION_1, its weights are all 1, and its coins are printed.
  */
 PACK_MUST_USE
 uint64_t pack_costliest_setting(uint64_t n, uint64_t k);

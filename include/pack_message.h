@@ -10,8 +10,14 @@ extern "C" {
 
 /* The length of the longest message, and the bytes that a turn and a restore must be lent at least for one. */
 #define PACK_MESSAGE_BYTES 140
-/* The version of a message, its byte 0. */
-#define PACK_MESSAGE_VERSION 1
+
+/* The versions of a session, as opening takes them and byte 0 of the session's messages has them. */
+enum pack_version {
+    /* A decided vote goes on through its rounds. */
+    PACK_VERSION_1 = 1,
+    /* A decided vote sends FINISH, and then nothing. */
+    PACK_VERSION_2 = 2
+};
 
 /* The kinds of message, byte 1. */
 enum pack_kind {
@@ -26,12 +32,14 @@ enum pack_kind {
     /* An accepted value of a vote, in a round. */
     PACK_KIND_AUX = 5,
     /* The set to be put in force. */
-    PACK_KIND_COMMIT = 6
+    PACK_KIND_COMMIT = 6,
+    /* The value of a vote that is decided, or that enough FINISHes hold; in version 2 alone. */
+    PACK_KIND_FINISH = 7
 };
 
 /* Where the fields of a message stand. Its length is PACK_HEADER_BYTES + PACK_VALUE_BYTES * count. */
 enum pack_byte {
-    /* PACK_MESSAGE_VERSION. */
+    /* The session's version. */
     PACK_BYTE_VERSION = 0,
     /* The kind. */
     PACK_BYTE_KIND = 1,
@@ -62,7 +70,7 @@ static inline enum pack_kind pack_message_kind(const uint8_t *message) { return 
 /* Its sender. */
 static inline uint8_t pack_message_sender(const uint8_t *message) { return message[PACK_BYTE_SENDER]; }
 
-/* Its instance; of an EST or AUX the vote. */
+/* Its instance; of an EST, AUX or FINISH the vote. */
 static inline uint8_t pack_message_instance(const uint8_t *message) { return message[PACK_BYTE_INSTANCE]; }
 
 /* Its round. */
