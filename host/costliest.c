@@ -13,6 +13,7 @@
 #include "pack_agreement.h"
 #include "pack_costliest.h"
 
+/* The kinds of version 1. */
 enum { KINDS = PACK_KIND_COMMIT, OUTCOMES = PACK_OUTCOME_IN_FORCE - PACK_OUTCOME_IDLE + 1 };
 
 static const char *const kind_names[KINDS] = {"SEND", "ECHO", "READY", "EST", "AUX", "COMMIT"};
@@ -21,13 +22,13 @@ static const char *const usage =
     "usage: costliest N [FILE]\n"
     "\n"
     "Runs the costliest session of N concentrators, 1 to 16, at one of them and prints, fields parted by tabs: its\n"
-    "calls, its turns by what they did, and the messages and bytes that it sent by kind. All weights are 1, and the coins are\n"
-    "printed.\n"
+    "calls, its turns by what they did, and the messages and bytes that it sent by kind. The version is 1, all weights are\n"
+    "1, and the coins are printed.\n"
     "\n"
     "  FILE  takes the session: its opening and its calls, one to a line, fields parted by tabs, the answer last.\n"
-    "          O n ta ts own session input coins refusal    input and coins in hexadecimal, coins parted by commas\n"
-    "          D link message refusal                       the message in hexadecimal\n"
-    "          T bytes-lent refusal outcome message         outcome 1 sent, 2 moved out of round 32, 3 in force\n"
+    "          O version n ta ts own session input coins refusal  input and coins in hexadecimal, coins parted by commas\n"
+    "          D link message refusal                             the message in hexadecimal\n"
+    "          T bytes-lent refusal outcome message               outcome 1 sent, 2 moved out of round 32, 3 in force\n"
     "\n"
     "The status is 0, or 1 on an error.\n";
 
@@ -63,8 +64,8 @@ static void print_bytes(FILE *out, const uint8_t *bytes, size_t length)
 
 static void write_opening(FILE *out, const uint64_t *settings, const uint32_t *coins, uint64_t n, pack_answer answer)
 {
-    fprintf(out, "O\t%" PRIu64 "\t%" PRIu64 "\t%" PRIu64 "\t%" PRIu64 "\t%" PRIu64 "\t%016" PRIx64 "\t", settings[0],
-            settings[1], settings[2], settings[3], settings[4], settings[5]);
+    fprintf(out, "O\t%d\t%" PRIu64 "\t%" PRIu64 "\t%" PRIu64 "\t%" PRIu64 "\t%" PRIu64 "\t%016" PRIx64 "\t",
+            PACK_VERSION_1, settings[0], settings[1], settings[2], settings[3], settings[4], settings[5]);
     for (uint64_t i = 0; i < n; i++)
         fprintf(out, "%s%08" PRIx32, i == 0 ? "" : ",", coins[i]);
     fprintf(out, "\t%u\n", pack_refusal_of(answer));
@@ -85,8 +86,8 @@ static bool open_session(struct session *s)
     memset(s->state, 0xa5, sizeof s->state);
     uint8_t line[PACK_LINE_BYTES];
     pack_answer answer =
-        pack_open(s->state, PACK_STATE_WORDS, settings[0], settings[1], settings[2], settings[3], (uint32_t)settings[4],
-                  settings[5], coins, s->n, weights, s->n, PACK_COINS_PRINTED, line, sizeof line);
+        pack_open(s->state, PACK_STATE_WORDS, PACK_VERSION_1, settings[0], settings[1], settings[2], settings[3],
+                  (uint32_t)settings[4], settings[5], coins, s->n, weights, s->n, PACK_COINS_PRINTED, line, sizeof line);
     if (s->calls)
         write_opening(s->calls, settings, coins, s->n, answer);
     return pack_refusal_of(answer) == PACK_ACCEPTED || unexpected(0, "opening", answer);

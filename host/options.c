@@ -6,7 +6,7 @@
 #include <string.h>
 
 const char *const usage =
-    "usage: pack_host [-s SESSION] [-c COIN] [--weights LIST] [--boxed] [--journals DIRECTORY]\n"
+    "usage: pack_host [--version VERSION] [-s SESSION] [-c COIN] [--weights LIST] [--boxed] [--journals DIRECTORY]\n"
     "                 [--windows LIST --closing MINUTE [--lead MINUTES]] [N TA TS [INPUT ...]]\n"
     "\n"
     "Runs an agreement session of N concentrators, all honest, and prints a line for each, fields parted by tabs:\n"
@@ -15,6 +15,7 @@ const char *const usage =
     "\n"
     "  N TA TS               the settings (4 - 1); TA as \"-\" is 0, as 255 the largest that the rules allow\n"
     "  INPUT                 the pack number of each concentrator, N of them (5 for each)\n"
+    "  --version VERSION     the version of the session, 1 or 2 (1); in version 2 a decided vote winds up early\n"
     "  -s SESSION            the session number, 32 bits (1)\n"
     "  -c COIN               the coin word of every vote, 32 bits; bit r-1 is the coin of round r (0x55555555)\n"
     "  --weights LIST        the weight of each concentrator, 1 to 4, N of them parted by commas (1 for each)\n"
@@ -114,6 +115,9 @@ static bool read_windows(char *list, struct options *o)
     return true;
 }
 
+/* Whether there is such a version is the engine's to say. */
+static bool read_version(char *value, struct options *o) { return read_number(value, UINT64_MAX, &o->version); }
+
 static bool read_session(char *value, struct options *o) { return read_word(value, &o->session); }
 
 static bool read_coin(char *value, struct options *o) { return read_word(value, &o->coin); }
@@ -143,6 +147,7 @@ struct option {
 };
 
 static const struct option with_value[] = {
+    {"--version", "a number is missing", read_version},
     {"-s", "a number is missing", read_session},
     {"-c", "a number is missing", read_coin},
     {"--weights", "a number is missing", read_weights},
@@ -230,7 +235,7 @@ static bool check_calendar(const struct options *o)
 bool read_options(int argc, char **argv, struct options *o)
 {
     int at = 1;
-    *o = (struct options){.n = 4, .ta = 0, .ts = 1, .session = 1, .coin = 0x55555555};
+    *o = (struct options){.version = PACK_VERSION_1, .n = 4, .ta = 0, .ts = 1, .session = 1, .coin = 0x55555555};
     for (size_t i = 0; i < PACK_CONCENTRATORS; i++) {
         o->inputs[i] = 5;
         o->weights[i] = 1;

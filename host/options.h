@@ -9,7 +9,7 @@
 #include "pack_agreement.h"
 
 struct options {
-    uint64_t n, ta, ts;
+    uint64_t version, n, ta, ts;
     uint32_t session, coin;
     uint64_t inputs[PACK_CONCENTRATORS];
     uint8_t weights[PACK_CONCENTRATORS];

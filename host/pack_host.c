@@ -185,8 +185,8 @@ static bool open_one(struct session *x, uint64_t p, const uint32_t *coins)
     struct concentrator *c = &x->all[p - 1];
     uint8_t line[PACK_LINE_BYTES];
     enum pack_coins where = o->boxed ? PACK_COINS_BOXED : PACK_COINS_PRINTED;
-    pack_answer answer = pack_open(c->state, PACK_STATE_WORDS, o->n, o->ta, o->ts, p, o->session, o->inputs[p - 1],
-                                   coins, o->n, o->weights, o->n, where, line, sizeof line);
+    pack_answer answer = pack_open(c->state, PACK_STATE_WORDS, o->version, o->n, o->ta, o->ts, p, o->session,
+                                   o->inputs[p - 1], coins, o->n, o->weights, o->n, where, line, sizeof line);
     size_t length = pack_length_of(answer);
     if (pack_refusal_of(answer) != PACK_ACCEPTED)
         return refused("opening", p, answer);
