@@ -75,8 +75,8 @@ int main(void)
     static const uint32_t coins[1] = {1};
     static const uint8_t weights[1] = {1};
     uint64_t named[PACK_SET_WORDS], in_force[PACK_SET_WORDS];
-    pack_answer opening = pack_open(state, PACK_STATE_WORDS, 1, PACK_UNNAMED, 0, 1, 7, 5, coins, 1, weights, 1,
-                                    PACK_COINS_PRINTED, line, sizeof line);
+    pack_answer opening = pack_open(state, PACK_STATE_WORDS, PACK_VERSION_1, 1, PACK_UNNAMED, 0, 1, 7, 5, coins, 1,
+                                    weights, 1, PACK_COINS_PRINTED, line, sizeof line);
     if (pack_refusal_of(opening) != PACK_ACCEPTED)
         return refused(opening);
     while (go_on() == 0) {

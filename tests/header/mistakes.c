@@ -57,7 +57,7 @@ int main(void)
     pack_turn(state, PACK_STATE_WORDS, message, sizeof message, line, sizeof line);
     return pack_refusal_of(turn()) != PACK_ACCEPTED;
 #elif MISTAKE == 12 /* an opening that nobody looks at */
-    pack_open(state, PACK_STATE_WORDS, 1, 0, 0, 1, 7, 5, 0, 0, 0, 0, PACK_COINS_PRINTED, line, sizeof line);
+    pack_open(state, PACK_STATE_WORDS, PACK_VERSION_1, 1, 0, 0, 1, 7, 5, 0, 0, 0, 0, PACK_COINS_PRINTED, line, sizeof line);
     return pack_refusal_of(turn()) != PACK_ACCEPTED;
 #elif MISTAKE == 13 /* a refusal compared with an outcome: clang has no warning for it in C, and it is never so */
     return pack_refusal_of(turn()) == PACK_OUTCOME_SENT;

@@ -14,8 +14,8 @@ static const char opening_line[] =
 /* The refusal of an opening of one of four, in session 7 with input 5 and weights of 1. */
 static uint64_t open_four(size_t words, uint64_t ta, uint64_t ts, uint64_t own)
 {
-    return pack_open(words == 0 ? NULL : state, words, 4, ta, ts, own, 7, 5, coins, 4, weights, 4, PACK_COINS_PRINTED,
-                     line, sizeof line)
+    return pack_open(words == 0 ? NULL : state, words, PACK_VERSION_1, 4, ta, ts, own, 7, 5, coins, 4, weights, 4,
+                     PACK_COINS_PRINTED, line, sizeof line)
                .number &
            0xff;
 }
@@ -23,8 +23,8 @@ static uint64_t open_four(size_t words, uint64_t ta, uint64_t ts, uint64_t own)
 /* The same of concentrator 1 with other weights. */
 static uint64_t open_weighted(uint64_t ta, uint64_t ts, const uint8_t *list, size_t count)
 {
-    return pack_open(state, PACK_STATE_WORDS, 4, ta, ts, 1, 7, 5, coins, 4, list, count, PACK_COINS_PRINTED, line,
-                     sizeof line)
+    return pack_open(state, PACK_STATE_WORDS, PACK_VERSION_1, 4, ta, ts, 1, 7, 5, coins, 4, list, count,
+                     PACK_COINS_PRINTED, line, sizeof line)
                .number &
            0xff;
 }
@@ -42,12 +42,12 @@ static void test_opening(void)
     memcpy(old, state, sizeof old);
     expect(open_four(0, 1, 1, 1) == PACK_REFUSED_NO_STATE, "opening, no words");
     expect(open_four(PACK_STATE_WORDS - 1, 1, 1, 1) == PACK_REFUSED_NO_STATE, "opening, a word short");
-    expect(pack_open(state, PACK_STATE_WORDS, 4, 1, 1, 1, 7, 5, NULL, 0, weights, 4, 0, NULL, 0).number ==
+    expect(pack_open(state, PACK_STATE_WORDS, 1, 4, 1, 1, 1, 7, 5, NULL, 0, weights, 4, 0, NULL, 0).number ==
                PACK_REFUSED_SETTINGS,
            "opening, no coins before no line");
     expect(open_four(PACK_STATE_WORDS, 1, 1, 5) == PACK_REFUSED_SETTINGS, "opening, own above n");
     expect(open_four(PACK_STATE_WORDS, 1, UINT64_MAX, 1) == PACK_REFUSED_SETTINGS, "opening, huge ts");
-    expect(pack_open(state, PACK_STATE_WORDS, 4, 1, 1, 1, 7, 5, coins, 4, weights, 4, 0, line, 511).number ==
+    expect(pack_open(state, PACK_STATE_WORDS, 1, 4, 1, 1, 1, 7, 5, coins, 4, weights, 4, 0, line, 511).number ==
                PACK_REFUSED_SHORT,
            "opening, 511 bytes for the line");
     expect(memcmp(old, state, sizeof old) == 0, "a refused opening leaves the state");
@@ -59,7 +59,7 @@ static void test_opening_line(void)
     size_t length = sizeof opening_line - 1;
     memset(line, 0xa5, sizeof line);
     memcpy(old, line, sizeof old);
-    expect(pack_open(state, PACK_STATE_WORDS, 4, 1, 1, 1, 7, 5, coins, 4, weights, 4, 0, line, sizeof line).number ==
+    expect(pack_open(state, PACK_STATE_WORDS, 1, 4, 1, 1, 1, 7, 5, coins, 4, weights, 4, 0, line, sizeof line).number ==
                length << 16,
            "the answer of an opening");
     expect(memcmp(line, opening_line, length) == 0, "the line of an opening");
@@ -156,7 +156,7 @@ static void test_delivery(void)
     expect(pack_deliver(state, PACK_STATE_WORDS, 2, echo, 20, line, 511).number == PACK_REFUSED_SHORT,
            "delivery, 511 bytes for the line");
     expect(deliver_changed(0, 1, 2, 19) == PACK_REFUSED_LENGTH, "delivery, a byte short");
-    expect(deliver_changed(1, 7, 2, 20) == PACK_REFUSED_KIND, "delivery, kind 7");
+    expect(deliver_changed(1, 8, 2, 20) == PACK_REFUSED_KIND, "delivery, kind 8");
     expect(deliver_changed(11, 8, 2, 20) == PACK_REFUSED_SESSION, "delivery, session 8");
     expect(deliver_changed(0, 1, 258, 20) == PACK_REFUSED_SENDER, "delivery, link 258");
     expect(deliver_changed(3, 3, 2, 20) == PACK_REFUSED_FIELD, "delivery, another instance");
@@ -211,7 +211,9 @@ static void test_restore(void)
 /* The refusal of an opening of four with these coins. */
 static uint64_t open_with_coins(const uint32_t *words, uint64_t boxed)
 {
-    return pack_open(state, PACK_STATE_WORDS, 4, 1, 1, 1, 7, 5, words, 4, weights, 4, boxed, line, sizeof line).number &
+    return pack_open(state, PACK_STATE_WORDS, PACK_VERSION_1, 4, 1, 1, 1, 7, 5, words, 4, weights, 4, boxed, line,
+                     sizeof line)
+               .number &
            0xff;
 }
 
@@ -292,8 +294,8 @@ static void test_session(void)
     memset(named, 0xa5, sizeof named);
     memset(in_force, 0xa5, sizeof in_force);
     memset(untouched, 0xa5, sizeof untouched);
-    answer = pack_open(state, PACK_STATE_WORDS, 1, 0, 0, 1, 7, UINT64_MAX, coins, 1, weights, 1, PACK_COINS_PRINTED,
-                       line, sizeof line);
+    answer = pack_open(state, PACK_STATE_WORDS, PACK_VERSION_1, 1, 0, 0, 1, 7, UINT64_MAX, coins, 1, weights, 1,
+                       PACK_COINS_PRINTED, line, sizeof line);
     expect(pack_refusal_of(answer) == PACK_ACCEPTED, "opening alone");
     while (pack_refusal_of(answer = take_turn(bytes)) == PACK_ACCEPTED &&
            pack_outcome_of(answer) == PACK_OUTCOME_SENT) {

@@ -15,8 +15,8 @@ static enum pack_refusal open_with(uint64_t n, uint64_t ta, uint64_t ts, uint8_t
     static const uint32_t coins[PACK_CONCENTRATORS];
     uint8_t weights[PACK_CONCENTRATORS];
     memset(weights, weight, sizeof weights);
-    return pack_refusal_of(pack_open(state, PACK_STATE_WORDS, n, ta, ts, own, session, input, coins, n, weights, n,
-                                     PACK_COINS_PRINTED, line, sizeof line));
+    return pack_refusal_of(pack_open(state, PACK_STATE_WORDS, PACK_VERSION_1, n, ta, ts, own, session, input, coins, n,
+                                     weights, n, PACK_COINS_PRINTED, line, sizeof line));
 }
 
 /* 1.13: settings on the edge. */

@@ -89,8 +89,8 @@ static void open_session(unsigned p, uint64_t pack)
     static const uint8_t weights[N] = {1, 1, 1, 1};
     struct concentrator *c = &all[p];
     uint8_t line[PACK_LINE_BYTES];
-    pack_answer opening = pack_open(c->state, PACK_STATE_WORDS, N, TA, TS, p, SESSION, pack, coins, N, weights, N,
-                                    PACK_COINS_PRINTED, line, sizeof line);
+    pack_answer opening = pack_open(c->state, PACK_STATE_WORDS, PACK_VERSION_1, N, TA, TS, p, SESSION, pack, coins, N,
+                                    weights, N, PACK_COINS_PRINTED, line, sizeof line);
     if (!accepted(opening))
         exit(1);
     c->journal_bytes = 0;

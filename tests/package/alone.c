@@ -28,7 +28,9 @@ int main(void)
     static const uint32_t coins[1] = {1};
     static const uint8_t weights[1] = {1};
     uint64_t named[16], in_force[16];
-    if (pack_refusal_of(pack_open(state, PACK_STATE_WORDS, 1, 0, 0, 1, 7, 8, coins, 1, weights, 1, PACK_COINS_PRINTED, line, sizeof line)) != PACK_ACCEPTED)
+    pack_answer opening = pack_open(state, PACK_STATE_WORDS, PACK_VERSION_2, 1, 0, 0, 1, 7, 8, coins, 1, weights, 1,
+                                    PACK_COINS_PRINTED, line, sizeof line);
+    if (pack_refusal_of(opening) != PACK_ACCEPTED)
         return 1;
     if (!run())
         return 1;

@@ -16,8 +16,10 @@ public:
     {
         const std::array<std::uint32_t, 1> coins{{1}};
         const std::array<std::uint8_t, 1> weights{{1}};
-        return pack_refusal_of(pack_open(state_.data(), state_.size(), 1, 0, 0, 1, 7, pack, coins.data(), coins.size(),
-                                         weights.data(), weights.size(), PACK_COINS_PRINTED, line_.data(), line_.size())) == PACK_ACCEPTED;
+        const auto opening =
+            pack_open(state_.data(), state_.size(), PACK_VERSION_1, 1, 0, 0, 1, 7, pack, coins.data(), coins.size(),
+                      weights.data(), weights.size(), PACK_COINS_PRINTED, line_.data(), line_.size());
+        return pack_refusal_of(opening) == PACK_ACCEPTED;
     }
 
     // Takes turns until one sends nothing, and delivers what they send. Whether all was accepted.
