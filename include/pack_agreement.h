@@ -46,10 +46,10 @@
  * is promised above is promised of both versions. What a planner has to know:
  *   - All concentrators of a session open the same version. One that opened the other is refused by them, and refuses them,
  *     with PACK_REFUSED_KIND.
- *   - A session of version 2 can come to rest without closing where one of version 1 would close, with a single concentrator
- *     down or lying silently: n = 4, ta = ts = 1, one of the other three decides a vote and says no more, its FINISH alone
- *     moves nobody, and the two that are left are too few for an AUX quorum. tests/host/versions.c plays such a session.
- *     No set is in force then, and what is to be done is for the host, as with every session that stays open.
+ *   - A session of version 2 can come to rest without closing where one of version 1 would close, and one that lies or fails
+ *     is enough for it. With n = 4 and ta = ts = 1: what 4 says last reaches 1 alone, and 1 decides a vote with it, sends
+ *     FINISH and falls silent there; one FINISH moves nobody, and 2 and 3 alone are too few to end a round.
+ *     tests/host/stalled.c plays it. No set is in force then; the host does what it does with any session that stays open.
  *
  * THE JOURNAL is for a concentrator that may lose its memory, or fall back to an older image of it. Every opening, delivery
  * and recording that is accepted, and every turn that is neither idle nor refused, writes one line of text into bytes that
