@@ -9,7 +9,7 @@ function row(    e, d, t, w, text, k) {
         t = t sprintf(" %.0f |", (cost[e "_whole"] - cost[e "_deliveries"]) / of[2])
         w = w sprintf(" %.0f |", cost[e "_whole"])
     }
-    text = "| " n " | " (heaviest == 1 ? "1" : "1 to " heaviest) " | " kind " |" d t w
+    text = "| " version " | " n " | " (heaviest == 1 ? "1" : "1 to " heaviest) " | " kind " |" d t w
     printf "%s %.2f | %.3f |\n", text, cost["count_archive_whole"] / cost["count_masks_whole"], \
         cost["count_archive_whole"] / cost["count_reference_whole"]
 }

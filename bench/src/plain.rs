@@ -25,7 +25,7 @@ impl Engine for Archive {
     }
 
     fn open(&self, state: &mut Vec<u64>, opening: &Opening, line: &mut [u8]) -> u64 {
-        let Opening { n, ta, ts, own, session, input, coins, weights, boxed } = *opening;
+        let Opening { version, n, ta, ts, own, session, input, coins, weights, boxed } = *opening;
         let (words, count) = (state.as_mut_ptr(), state.len());
         let (coins, coin_words) = (coins.as_ptr(), coins.len());
         let (weights, weight_count) = (weights.as_ptr(), weights.len());
@@ -33,6 +33,7 @@ impl Engine for Archive {
             pack_open(
                 words,
                 count,
+                version,
                 n,
                 ta,
                 ts,

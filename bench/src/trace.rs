@@ -7,7 +7,7 @@ use pack_reference::engine::Engine;
 use pack_reference::journal::LINE_BYTES;
 use pack_reference::message::LONGEST;
 use pack_reference::packing::{unpack_turn, TurnAnswer};
-use pack_reference::{Message, Opening, PackSet};
+use pack_reference::{Message, Opening, PackSet, Version};
 
 use crate::plain::PlainMasks;
 
@@ -45,6 +45,7 @@ pub enum Call {
 
 /// The session of concentrator 1.
 pub struct Trace {
+    pub version: Version,
     pub n: u64,
     pub heaviest: u8,
     pub kind: Kind,
@@ -53,6 +54,9 @@ pub struct Trace {
     coins: Vec<u32>,
     weights: Vec<u8>,
     pub calls: Vec<Call>,
+    /// What the honest ones sent together, and their turns that were not idle.
+    pub feeder_sent: usize,
+    pub feeder_turns: usize,
 }
 
 /// A feeder whose concentrators turn until idle after each delivery; messages arrive in the order of sending.
@@ -66,14 +70,25 @@ struct Feeder {
 impl Trace {
     /// Weights of 1 to `heaviest`, in turn from the last concentrator on; ta and ts are as large as they allow with
     /// ta = ts.
-    pub fn new(n: u64, heaviest: u8, kind: Kind) -> Trace {
+    pub fn new(version: Version, n: u64, heaviest: u8, kind: Kind) -> Trace {
         let weights: Vec<u8> = (0..n as u8).rev().map(|back| 1 + back % heaviest).collect();
         let tolerated = (weights.iter().map(|&weight| u64::from(weight)).sum::<u64>() - 1) / 3;
         let liars_from = if kind == Kind::Liars { n - liars(&weights, tolerated) } else { n };
         // Different coins, with which no vote takes long.
         let coins = (1..=n as u32).map(|i| 0xb5a3_9d71_u32.rotate_left(i)).collect();
-        let calls = Vec::new();
-        let trace = Trace { n, heaviest, kind, tolerated, liars_from, coins, weights, calls };
+        let trace = Trace {
+            version,
+            n,
+            heaviest,
+            kind,
+            tolerated,
+            liars_from,
+            coins,
+            weights,
+            calls: Vec::new(),
+            feeder_sent: 0,
+            feeder_turns: 0,
+        };
         let states = vec![PlainMasks.blank(); liars_from as usize];
         let closed = vec![false; liars_from as usize];
         let mut feeder = Feeder { states, closed, on_their_way: VecDeque::new(), trace };
@@ -82,10 +97,10 @@ impl Trace {
     }
 
     pub fn opening(&self, own: u64) -> Opening<'_> {
-        let (n, ta, ts) = (self.n, self.tolerated, self.tolerated);
+        let (version, n, ta, ts) = (self.version.number(), self.n, self.tolerated, self.tolerated);
         let input = if self.kind == Kind::Equal { 5 } else { 100 + own };
         let (coins, weights) = (&self.coins[..], &self.weights[..]);
-        Opening { n, ta, ts, own, session: SESSION, input, coins, weights, boxed: 0 }
+        Opening { version, n, ta, ts, own, session: SESSION, input, coins, weights, boxed: 0 }
     }
 
     pub fn deliveries(&self) -> usize {
@@ -105,7 +120,7 @@ impl Feeder {
             assert_eq!(answer & 0xff, 0, "good settings");
         }
         for liar in self.trace.liars_from + 1..=self.trace.n {
-            let lies = lies(self.trace.n, liar);
+            let lies = lies(self.trace.version, self.trace.n, liar);
             self.on_their_way.extend(lies.into_iter().map(|message| (liar, message)));
         }
         (1..=self.trace.liars_from).for_each(|own| self.act(own));
@@ -140,13 +155,15 @@ impl Feeder {
             if own == 1 {
                 self.trace.calls.push(Call::Turn { answer, message: message.clone() });
             }
-            if length != 0 {
-                self.on_their_way.push_back((own, message));
-            }
-            self.closed[own as usize - 1] = read == TurnAnswer::InForce;
             if read == TurnAnswer::Idle {
                 return;
             }
+            self.trace.feeder_turns += 1;
+            if length != 0 {
+                self.trace.feeder_sent += 1;
+                self.on_their_way.push_back((own, message));
+            }
+            self.closed[own as usize - 1] = read == TurnAnswer::InForce;
         }
     }
 }
@@ -162,7 +179,7 @@ fn liars(weights: &[u8], tolerated: u64) -> u64 {
 }
 
 /// A message for every place of a liar.
-fn lies(n: u64, liar: u64) -> Vec<Vec<u8>> {
+fn lies(version: Version, n: u64, liar: u64) -> Vec<Vec<u8>> {
     let mut lies = vec![Message::Send { value: 7 }];
     for instance in 1..=n as u8 {
         let value = 200 + (liar + u64::from(instance)) % 3;
@@ -173,9 +190,12 @@ fn lies(n: u64, liar: u64) -> Vec<Vec<u8>> {
             lies.push(Message::Est { instance, round, value: true });
             lies.push(Message::Aux { instance, round, value: (liar + u64::from(round)) % 2 == 1 });
         }
+        if version == Version::Two {
+            lies.push(Message::Finish { instance, value: liar % 2 == 1 });
+        }
     }
     lies.push(Message::Commit { values: PackSet::from([liar, 300]) });
-    lies.iter().map(|message| message.to_bytes(liar as u8, SESSION)).collect()
+    lies.iter().map(|message| message.to_bytes(version, liar as u8, SESSION)).collect()
 }
 
 /// Makes the calls of a trace on a fresh state and compares every answer and message with the trace.

@@ -1,5 +1,6 @@
-//! Times sessions at one concentrator: the archive, the masks, the reference. With the arguments `count N HEAVIEST KIND` it
-//! runs each part once, in functions of their own, for a tool that counts instructions.
+//! Times sessions of both versions at one concentrator: the archive, the masks, the reference. With the arguments
+//! `count VERSION N HEAVIEST KIND` it runs each part once, in functions of their own, for a tool that counts instructions;
+//! with `saved` it prints what version 2 saves, and times nothing.
 
 use std::hint::black_box;
 use std::time::Instant;
@@ -7,6 +8,7 @@ use std::time::Instant;
 use pack_bench::plain::{Archive, PlainMasks};
 use pack_bench::trace::{check, replay, Kind, Part, Trace};
 use pack_reference::engine::{Engine, Reference};
+use pack_reference::Version;
 
 const SIZES: [u64; 4] = [4, 7, 10, 16];
 /// The largest weight of a feeder; with 1 all weigh the same.
@@ -20,20 +22,31 @@ const BATCH: f64 = 1_000_000.0;
 fn main() {
     let arguments: Vec<String> = std::env::args().skip(1).collect();
     match &arguments[..] {
-        [] => print_tables(),
-        [count, n, heaviest, kind] if count == "count" => count_one(n, heaviest, kind),
+        [] => {
+            let traces = traces();
+            print_times(&traces);
+            print_saved(&traces);
+        }
+        [saved] if saved == "saved" => print_saved(&traces()),
+        [count, version, n, heaviest, kind] if count == "count" => {
+            count_one(version, n, heaviest, kind);
+        }
         _ => {
-            eprintln!("usage: times [count N HEAVIEST KIND]");
+            eprintln!("usage: times [saved | count VERSION N HEAVIEST KIND]");
             std::process::exit(2);
         }
     }
 }
 
+/// Those of version 2 stand behind those of version 1.
 fn traces() -> Vec<Trace> {
-    let feeders = HEAVIEST.iter().flat_map(|&heaviest| SIZES.map(|n| (n, heaviest)));
-    let traces: Vec<Trace> = feeders
-        .flat_map(|(n, heaviest)| Kind::ALL.map(|kind| Trace::new(n, heaviest, kind)))
-        .collect();
+    let mut traces = Vec::new();
+    for version in Version::ALL {
+        let feeders = HEAVIEST.iter().flat_map(|&heaviest| SIZES.map(|n| (n, heaviest)));
+        traces.extend(feeders.flat_map(|(n, heaviest)| {
+            Kind::ALL.map(|kind| Trace::new(version, n, heaviest, kind))
+        }));
+    }
     for trace in &traces {
         check(&Archive, trace);
         check(&PlainMasks, trace);
@@ -106,19 +119,20 @@ fn time(trace: &Trace) -> [Medians; 3] {
     [archive.medians(trace), masks.medians(trace), reference.medians(trace)]
 }
 
-fn print_tables() {
+fn print_times(traces: &[Trace]) {
     println!("Medians of {BATCHES} batches. E the engine, M the masks, R the reference.\n");
     println!(
-        "| n | weights | feeder | deliveries | turns | ns/delivery E | M | R | ns/turn E | M | R | µs/session E | M | R | \
-         session E/M | E/R |"
+        "| version | n | weights | feeder | deliveries | turns | ns/delivery E | M | R | ns/turn E | M | R | \
+         µs/session E | M | R | session E/M | E/R |"
     );
-    println!("|{}", "---|".repeat(16));
+    println!("|{}", "---|".repeat(17));
     let mut opening = [0.0; 3];
-    for trace in traces() {
-        let medians = time(&trace);
+    for trace in traces {
+        let medians = time(trace);
         opening = medians.each_ref().map(|engine| engine.opening);
         print!(
-            "| {} | {} | {} | {} | {} |",
+            "| {} | {} | {} | {} | {} | {} |",
+            trace.version.number(),
             trace.n,
             weights_name(trace.heaviest),
             trace.kind.name(),
@@ -133,6 +147,26 @@ fn print_tables() {
     }
     let [archive, masks, reference] = opening;
     println!("\nOpening with n = 16: E {archive:.0} ns, M {masks:.0} ns, R {reference:.0} ns.");
+}
+
+/// The same feeders in both versions.
+fn print_saved(traces: &[Trace]) {
+    println!("\nWhat all honest ones of a feeder send, and their turns that are not idle, in version 1 and 2.\n");
+    println!("| n | weights | feeder | messages 1 | 2 | turns 1 | 2 |");
+    println!("|{}", "---|".repeat(7));
+    let (first, second) = traces.split_at(traces.len() / 2);
+    for (one, two) in first.iter().zip(second) {
+        println!(
+            "| {} | {} | {} | {} | {} | {} | {} |",
+            one.n,
+            weights_name(one.heaviest),
+            one.kind.name(),
+            one.feeder_sent,
+            two.feeder_sent,
+            one.feeder_turns,
+            two.feeder_turns
+        );
+    }
 }
 
 fn weights_name(heaviest: u8) -> String {
@@ -165,10 +199,12 @@ counted!(count_reference_opening, Reference::default(), Part::Opening);
 counted!(count_reference_deliveries, Reference::default(), Part::Deliveries);
 counted!(count_reference_whole, Reference::default(), Part::Whole);
 
-fn count_one(n: &str, heaviest: &str, kind: &str) {
-    let [n, heaviest] = [n, heaviest].map(|text| text.parse::<u8>().expect("a number"));
+fn count_one(version: &str, n: &str, heaviest: &str, kind: &str) {
+    let [version, n, heaviest] =
+        [version, n, heaviest].map(|text| text.parse::<u8>().expect("a number"));
+    let version = Version::given(version.into()).expect("a version");
     let kind = Kind::ALL.into_iter().find(|known| known.name() == kind).expect("a kind");
-    let trace = &Trace::new(u64::from(n), heaviest, kind);
+    let trace = &Trace::new(version, u64::from(n), heaviest, kind);
     black_box([count_archive_opening(trace), count_archive_deliveries(trace)]);
     black_box(count_archive_whole(trace));
     black_box([count_masks_opening(trace), count_masks_deliveries(trace)]);

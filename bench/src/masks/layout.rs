@@ -35,6 +35,11 @@ pub const WEIGHTS: usize = 141;
 /// 0 where coins are printed, 1 where they are boxed. A recorded 1 of round r is mark r of the coin word, as a printed one
 /// is; a recorded 0 is mark 32 + r.
 pub const BOXED: usize = 142;
+/// 1 or 2.
+pub const VERSION: usize = 143;
+pub const FINISH_SENT: usize = 144;
+/// Two groups of 16 marks: the senders of FINISH 0, and of FINISH 1.
+pub const FINISHES: usize = 144;
 
 /// Rows of 16 words, one for each sender or place.
 pub const ECHO_VALUES: usize = 239;

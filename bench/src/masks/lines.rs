@@ -50,10 +50,10 @@ fn digit(half: u8) -> u8 {
 
 /// Writes the line of an opening that is accepted, and answers its length.
 pub fn opening(bytes: &mut [u8; LINE_BYTES], opening: &Opening) -> u64 {
-    let Opening { n, ta, ts, own, session, input, coins, weights, boxed } = *opening;
+    let Opening { version, n, ta, ts, own, session, input, coins, weights, boxed } = *opening;
     let mut line = Line { bytes, length: 0 };
     line.byte(b'O');
-    for number in [1, n, ta, ts, own, u64::from(session)] {
+    for number in [version, n, ta, ts, own, u64::from(session)] {
         line.decimal(number);
     }
     line.hexadecimal(input, 16);

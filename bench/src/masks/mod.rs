@@ -15,7 +15,7 @@ use pack_reference::Opening;
 
 use exits::{commits_held, set_leader, set_of, Named, Outputs};
 use layout::*;
-use state::{leading, row, Session, Words};
+use state::{leading, row, version_known, Session, Words};
 
 pub use layout::STATE_WORDS;
 use lines::LINE_BYTES;
@@ -46,14 +46,14 @@ pub fn open(state: &mut [u64], opening: &Opening, line: &mut [u8]) -> u64 {
     let Ok(words) = <&mut Words>::try_from(state) else {
         return refusal::NO_STATE;
     };
-    let Opening { n, ta, ts, own, session, input, coins, weights, boxed } = *opening;
+    let Opening { version, n, ta, ts, own, session, input, coins, weights, boxed } = *opening;
     let Some(weights) = weights_word(n, weights) else {
         return refusal::SETTINGS;
     };
     let ta = if ta == UNNAMED { largest_ta(weights, ts) } else { ta };
     let valid = Session::new(n, ta, ts, weights).is_some() && (1..=n).contains(&own);
     let coins_fit = boxed == 0 || boxed == 1 && coins.iter().all(|&coin| coin == 0);
-    if !valid || coins.len() as u64 != n || !coins_fit {
+    if !valid || coins.len() as u64 != n || !coins_fit || !version_known(version) {
         return refusal::SETTINGS;
     }
     let Some(line) = line.first_chunk_mut::<LINE_BYTES>() else {
@@ -63,6 +63,7 @@ pub fn open(state: &mut [u64], opening: &Opening, line: &mut [u8]) -> u64 {
     words[..6].copy_from_slice(&[n, ta, ts, own, u64::from(session), input]);
     words[WEIGHTS] = weights;
     words[BOXED] = boxed;
+    words[VERSION] = version;
     for (word, &coin) in words[COINS + 1..].iter_mut().zip(coins) {
         *word = u64::from(coin);
     }
@@ -112,7 +113,7 @@ pub fn deliver(state: &mut [u64], link: u64, message: &[u8], line: &mut [u8]) ->
         return number;
     }
     let line = line.first_chunk_mut::<LINE_BYTES>();
-    let number = record(words, link as usize & 31, message, line.is_none());
+    let number = record(words, &session, link as usize & 31, message, line.is_none());
     match line {
         Some(line) if number == 0 => lines::delivery(line, link, message) << 16,
         _ => number,
@@ -121,7 +122,7 @@ pub fn deliver(state: &mut [u64], link: u64, message: &[u8], line: &mut [u8]) ->
 
 /// Records a message that fits the layout, unless its place is taken or the bytes for its line are `short`.
 #[inline]
-fn record(words: &mut Words, p: usize, message: &[u8], short: bool) -> u64 {
+fn record(words: &mut Words, session: &Session, p: usize, message: &[u8], short: bool) -> u64 {
     let (i, round) = (usize::from(message[3]) & 31, usize::from(message[4]));
     let value = wire::value(message, 0);
     let mark = 1 << (p - 1);
@@ -132,7 +133,8 @@ fn record(words: &mut Words, p: usize, message: &[u8], short: bool) -> u64 {
         wire::READY => (READY_MARKS + i, mark, mark, Some((READY_VALUES + 16 * i + p, value))),
         wire::EST => (vote, mark << (16 * value), mark << (16 * value), None),
         wire::AUX => (vote, mark << 32 | mark << 48, mark << (32 + 16 * value), None),
-        _ => return record_commit(words, p, message, short),
+        wire::COMMIT => return record_commit(words, p, message, short),
+        _ => return votes::record_finish(words, session, [p, i], value, short),
     };
     // One of the marks `held` is set, or else `mark` and the value's word are.
     if words[at & (STATE_WORDS - 1)] & held != 0 {

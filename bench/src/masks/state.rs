@@ -62,8 +62,11 @@ impl Session {
     pub fn of(words: &Words) -> Option<Session> {
         let session = Session::new(words[N], words[TA], words[TS], words[WEIGHTS])?;
         let n = session.n;
-        let mut outside = !(1..=n).contains(&words[OWN]) | (99 * n + 3 < words[TURNS]);
-        outside |= 1 < words[BOXED];
+        let version = words[VERSION];
+        // 99·n + 3 turns in version 1, 100·n + 3 in version 2.
+        let most = version.wrapping_add(98).wrapping_mul(n).wrapping_add(3);
+        let mut outside = !(1..=n).contains(&words[OWN]) | (most < words[TURNS]);
+        outside |= (1 < words[BOXED]) | !version_known(version);
         for i in 0..n as usize & 31 {
             outside |= 33 < words[ROUNDS + 1 + i];
             outside |= n < words[COMMIT_COUNTS + 1 + i];
@@ -85,6 +88,17 @@ impl Session {
     pub fn vote_quorum(&self) -> u32 {
         (self.whole - self.ta) as u32
     }
+
+    /// 2·ta + 1.
+    pub fn accept(&self) -> u32 {
+        2 * self.ta as u32 + 1
+    }
+}
+
+/// 1 or 2.
+#[inline]
+pub fn version_known(version: u64) -> bool {
+    version.wrapping_sub(1) <= 1
 }
 
 /// The row of 16 words of number i.

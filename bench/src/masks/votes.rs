@@ -1,8 +1,9 @@
-//! 01, rule 6 of the turn order.
+//! 01, rule 6 of the turn order, and 02, N6: FINISHes.
 
 use super::layout::*;
+use super::refusal;
 use super::state::{Session, Words};
-use super::wire::{self, AUX, EST};
+use super::wire::{self, AUX, EST, FINISH};
 
 /// A turn that moved out of round 32.
 const MOVED_OUT: u64 = 2 << 8;
@@ -19,18 +20,49 @@ fn groups(words: &Words, session: &Session, i: usize, r: usize) -> [u64; 4] {
 pub fn act(words: &mut Words, session: &Session, held: u64, lent: &mut [u8]) -> u64 {
     let ones = session.weights.weigh(words[DECIDED_ONE] & session.all);
     let zero_starts = session.vote_quorum() <= ones;
-    for i in 1..=session.n as usize & 31 {
-        let output = held >> (i - 1) & 1;
-        let answer = match words[ROUNDS + i] {
-            0 if output == 1 || zero_starts => enter(words, i, 1, output, lent),
-            0 => 0,
-            round => act_in_round(words, session, i, round as usize, lent),
-        };
+    let (unsent, done) = if words[VERSION] == 2 { winding_up(words) } else { (0, 0) };
+    let mut left = session.all & !done;
+    while left != 0 {
+        let i = left.trailing_zeros() as usize + 1;
+        let mark = left & left.wrapping_neg();
+        if unsent & mark != 0 {
+            if let Some(value) = finish_due(words, session, i) {
+                words[FINISH_SENT] |= mark;
+                return send_vote(words, FINISH, i, 0, value, lent);
+            }
+        }
+        let answer = act_in_vote(words, session, i, held, zero_starts, lent);
         if answer != 0 {
             return answer;
         }
+        left ^= mark;
     }
     0
+}
+
+/// In version 2: the votes whose FINISH is not sent, and those that do nothing more.
+#[inline]
+fn winding_up(words: &Words) -> (u64, u64) {
+    let sent = words[FINISH_SENT];
+    (!sent, sent & (words[DECIDED_ZERO] | words[DECIDED_ONE]))
+}
+
+/// Start, relay, AUX or move.
+#[inline]
+fn act_in_vote(
+    words: &mut Words,
+    session: &Session,
+    i: usize,
+    held: u64,
+    zero_starts: bool,
+    lent: &mut [u8],
+) -> u64 {
+    let output = held >> (i - 1) & 1;
+    match words[ROUNDS + i] {
+        0 if output == 1 || zero_starts => enter(words, i, 1, output, lent),
+        0 => 0,
+        round => act_in_round(words, session, i, round as usize, lent),
+    }
 }
 
 #[inline]
@@ -43,7 +75,7 @@ fn act_in_round(words: &mut Words, session: &Session, i: usize, r: usize, lent: 
         return 0;
     }
     let [est_0, est_1, aux_0, aux_1] = groups(words, session, i, r);
-    let accept = 2 * session.ta as u32 + 1;
+    let accept = session.accept();
     let weights = session.weights;
     let accepted = [est_0, est_1].map(|marks| marks != 0 && accept <= weights.weigh(marks));
     if words[AUX_SENT + i] >> (r - 1) & 1 == 0 {
@@ -113,4 +145,44 @@ fn enter(words: &mut Words, i: usize, r: usize, estimate: u64, lent: &mut [u8]) 
 
 fn send_vote(words: &Words, kind: u8, i: usize, r: usize, value: u64, lent: &mut [u8]) -> u64 {
     wire::send(words, [kind, i as u8, r as u8], &[value], lent)
+}
+
+/// The decided value, else one with FINISHes of ta + 1, 0 before 1.
+#[inline]
+fn finish_due(words: &Words, session: &Session, i: usize) -> Option<u64> {
+    let decided = [DECIDED_ONE, DECIDED_ZERO].map(|at| words[at] >> (i - 1) & 1 == 1);
+    match decided {
+        [true, _] => Some(1),
+        [_, true] => Some(0),
+        _ => (0..2).find(|&value| session.ta < u64::from(finishes(words, session, i, value))),
+    }
+}
+
+/// The weight of the FINISHes of a value that are held in vote i.
+#[inline]
+fn finishes(words: &Words, session: &Session, i: usize, value: u64) -> u32 {
+    session.weights.weigh(words[FINISHES + i] >> (16 * value) & session.all)
+}
+
+/// Records the FINISH of sender p in vote i, which decides an undecided vote where it completes 2·ta + 1.
+pub fn record_finish(
+    words: &mut Words,
+    session: &Session,
+    [p, i]: [usize; 2],
+    value: u64,
+    short: bool,
+) -> u64 {
+    if (words[FINISHES + i] | words[FINISHES + i] >> 16) >> (p - 1) & 1 == 1 {
+        return refusal::HELD;
+    }
+    if short {
+        return refusal::SHORT;
+    }
+    words[FINISHES + i] |= 1 << (16 * value + p as u64 - 1);
+    let mark = 1 << (i - 1);
+    let decided = (words[DECIDED_ZERO] | words[DECIDED_ONE]) & mark != 0;
+    if !decided && session.accept() <= finishes(words, session, i, value) {
+        words[if value == 0 { DECIDED_ZERO } else { DECIDED_ONE }] |= mark;
+    }
+    0
 }

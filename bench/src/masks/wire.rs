@@ -9,6 +9,7 @@ pub const READY: u8 = 3;
 pub const EST: u8 = 4;
 pub const AUX: u8 = 5;
 pub const COMMIT: u8 = 6;
+pub const FINISH: u8 = 7;
 
 pub const HEAD: usize = 12;
 pub const LONGEST: usize = 140;
@@ -27,7 +28,9 @@ pub fn check(words: &Words, session: &Session, link: u64, message: &[u8]) -> u64
     if message.len() < HEAD || message.len() != HEAD + 8 * usize::from(message[5]) {
         return refusal::LENGTH;
     }
-    if message[0] != 1 || !(SEND..=COMMIT).contains(&message[1]) {
+    // Version 1 ends with COMMIT, version 2 with FINISH.
+    let version = words[layout::VERSION] as u8;
+    if message[0] != version || !(SEND..=version + (COMMIT - 1)).contains(&message[1]) {
         return refusal::KIND;
     }
     let number = u32::from_be_bytes(message[8..12].try_into().expect("4 bytes"));
@@ -52,7 +55,7 @@ fn fields_right(n: u8, message: &[u8]) -> bool {
     let one_instance = (1..=n).contains(&instance) & (count == 1);
     let fits = match message[1] {
         SEND => one_instance & (round == 0) & (instance == message[2]),
-        ECHO | READY => one_instance & (round == 0),
+        ECHO | READY | FINISH => one_instance & (round == 0),
         EST | AUX => one_instance & (1..=ROUNDS).contains(&round),
         _ => (instance == 0) & (round == 0) & (1..=n).contains(&count),
     };
@@ -62,7 +65,7 @@ fn fields_right(n: u8, message: &[u8]) -> bool {
 #[inline]
 fn values_right(message: &[u8]) -> bool {
     match message[1] {
-        EST | AUX => value(message, 0) <= 1,
+        EST | AUX | FINISH => value(message, 0) <= 1,
         COMMIT => {
             let count = usize::from(message[5]);
             (1..count).all(|k| value(message, k - 1) < value(message, k))
@@ -76,7 +79,8 @@ fn values_right(message: &[u8]) -> bool {
 pub fn send(words: &Words, head: [u8; 3], values: &[u64], lent: &mut [u8]) -> u64 {
     let [kind, instance, round] = head;
     let (own, count) = (words[layout::OWN] as u8, values.len() as u8);
-    lent[..8].copy_from_slice(&[1, kind, own, instance, round, count, 0, 0]);
+    let version = words[layout::VERSION] as u8;
+    lent[..8].copy_from_slice(&[version, kind, own, instance, round, count, 0, 0]);
     lent[8..12].copy_from_slice(&(words[layout::SESSION] as u32).to_be_bytes());
     for (bytes, value) in lent[HEAD..].chunks_exact_mut(8).zip(values) {
         bytes.copy_from_slice(&value.to_be_bytes());
