@@ -113,7 +113,7 @@ pub fn deliver(state: &mut [u64], link: u64, message: &[u8], line: &mut [u8]) ->
         return number;
     }
     let line = line.first_chunk_mut::<LINE_BYTES>();
-    let number = record(words, &session, link as usize & 31, message, line.is_none());
+    let number = record(words, link as usize & 31, message, line.is_none());
     match line {
         Some(line) if number == 0 => lines::delivery(line, link, message) << 16,
         _ => number,
@@ -121,8 +121,8 @@ pub fn deliver(state: &mut [u64], link: u64, message: &[u8], line: &mut [u8]) ->
 }
 
 /// Records a message that fits the layout, unless its place is taken or the bytes for its line are `short`.
-#[inline]
-fn record(words: &mut Words, session: &Session, p: usize, message: &[u8], short: bool) -> u64 {
+#[inline(always)]
+fn record(words: &mut Words, p: usize, message: &[u8], short: bool) -> u64 {
     let (i, round) = (usize::from(message[3]) & 31, usize::from(message[4]));
     let value = wire::value(message, 0);
     let mark = 1 << (p - 1);
@@ -134,7 +134,7 @@ fn record(words: &mut Words, session: &Session, p: usize, message: &[u8], short:
         wire::EST => (vote, mark << (16 * value), mark << (16 * value), None),
         wire::AUX => (vote, mark << 32 | mark << 48, mark << (32 + 16 * value), None),
         wire::COMMIT => return record_commit(words, p, message, short),
-        _ => return votes::record_finish(words, session, [p, i], value, short),
+        _ => return votes::record_finish(words, p, i, value, short),
     };
     // One of the marks `held` is set, or else `mark` and the value's word are.
     if words[at & (STATE_WORDS - 1)] & held != 0 {

@@ -164,24 +164,23 @@ fn finishes(words: &Words, session: &Session, i: usize, value: u64) -> u32 {
     session.weights.weigh(words[FINISHES + i] >> (16 * value) & session.all)
 }
 
-/// Records the FINISH of sender p in vote i, which decides an undecided vote where it completes 2·ta + 1.
-pub fn record_finish(
-    words: &mut Words,
-    session: &Session,
-    [p, i]: [usize; 2],
-    value: u64,
-    short: bool,
-) -> u64 {
-    if (words[FINISHES + i] | words[FINISHES + i] >> 16) >> (p - 1) & 1 == 1 {
+/// Records the FINISH of sender p in vote i, which decides an undecided vote where it completes 2·ta + 1. It reads the
+/// settings anew, so that no other delivery has to keep them.
+#[inline(never)]
+pub fn record_finish(words: &mut Words, p: usize, i: usize, value: u64, short: bool) -> u64 {
+    let held = &mut words[FINISHES + i];
+    if (*held | *held >> 16) >> (p - 1) & 1 == 1 {
         return refusal::HELD;
     }
     if short {
         return refusal::SHORT;
     }
-    words[FINISHES + i] |= 1 << (16 * value + p as u64 - 1);
+    *held |= 1 << (16 * value + p as u64 - 1);
     let mark = 1 << (i - 1);
     let decided = (words[DECIDED_ZERO] | words[DECIDED_ONE]) & mark != 0;
-    if !decided && session.accept() <= finishes(words, session, i, value) {
+    let settings = Session::new(words[N], words[TA], words[TS], words[WEIGHTS]);
+    let completes = |session: Session| session.accept() <= finishes(words, &session, i, value);
+    if !decided && settings.is_some_and(completes) {
         words[if value == 0 { DECIDED_ZERO } else { DECIDED_ONE }] |= mark;
     }
     0

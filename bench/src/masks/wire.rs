@@ -49,7 +49,7 @@ pub fn check(words: &Words, session: &Session, link: u64, message: &[u8]) -> u64
     0
 }
 
-#[inline]
+#[inline(always)]
 fn fields_right(n: u8, message: &[u8]) -> bool {
     let (instance, round, count) = (message[3], message[4], message[5]);
     let one_instance = (1..=n).contains(&instance) & (count == 1);
@@ -62,7 +62,7 @@ fn fields_right(n: u8, message: &[u8]) -> bool {
     fits & (message[6] | message[7] == 0)
 }
 
-#[inline]
+#[inline(always)]
 fn values_right(message: &[u8]) -> bool {
     match message[1] {
         EST | AUX | FINISH => value(message, 0) <= 1,
