@@ -1,6 +1,6 @@
 /*
- * The stack that each call takes at most, in a feeder of 16: the call runs on a painted stack of its own, and the lowest
- * byte that lost its paint is sought. What an empty call takes in the same place is subtracted.
+ * The stack that each call takes at most, in a feeder of 16 of each version: the call runs on a painted stack of its own,
+ * and the lowest byte that lost its paint is sought. What an empty call takes in the same place is subtracted.
  */
 #define _XOPEN_SOURCE 700
 #include <stdbool.h>
@@ -54,6 +54,7 @@ static uint8_t weights[N];
 static enum call call;
 static uint64_t *state;
 static pack_answer answer;
+static enum pack_version version;
 static uint64_t own, named[PACK_SET_WORDS], in_force[PACK_SET_WORDS];
 static uint8_t bytes[PACK_MESSAGE_BYTES], line[PACK_LINE_BYTES];
 static const struct message *delivered;
@@ -73,8 +74,8 @@ static void run(void)
 {
     switch (call) {
     case CALL_OPEN:
-        answer = pack_open(state, PACK_STATE_WORDS, N, 5, 5, own, 7, own, coins, N, weights, N, PACK_COINS_PRINTED,
-                           line, sizeof line);
+        answer = pack_open(state, PACK_STATE_WORDS, version, N, 5, 5, own, 7, own, coins, N, weights, N,
+                           PACK_COINS_PRINTED, line, sizeof line);
         break;
     case CALL_DELIVER:
         answer = pack_deliver(state, PACK_STATE_WORDS, pack_message_sender(delivered->bytes), delivered->bytes,
@@ -158,8 +159,10 @@ static void act(unsigned p)
 }
 
 /* A session of all N, with turns after each eighth delivery. Whether the journal gives the first one's state back. */
-static bool measure_session(void)
+static bool measure_session(enum pack_version measured)
 {
+    version = measured;
+    sent_count = journal_bytes = 0;
     for (unsigned p = 0; p < N; p++) {
         state = states[p];
         own = p + 1;
@@ -193,7 +196,8 @@ static bool measure_box(void)
     measure(CALL_BOX_OPEN);
     good = good && pack_refusal_of(answer) == PACK_ACCEPTED;
     pack_answer opened =
-        pack_open(boxed, PACK_STATE_WORDS, N, 5, 5, 1, 7, 1, none, N, weights, N, PACK_COINS_BOXED, line, sizeof line);
+        pack_open(boxed, PACK_STATE_WORDS, PACK_VERSION_2, N, 5, 5, 1, 7, 1, none, N, weights, N, PACK_COINS_BOXED, line,
+                  sizeof line);
     good = good && pack_refusal_of(opened) == PACK_ACCEPTED;
     for (vote = 1; vote <= N; vote++)
         for (round_asked = 1; round_asked <= PACK_ROUNDS; round_asked++) {
@@ -266,7 +270,7 @@ int main(void)
         coins[p] = 0xb5a39d71u << p % 7;
         weights[p] = 1;
     }
-    if (!measure_session())
+    if (!measure_session(PACK_VERSION_1) || !measure_session(PACK_VERSION_2))
         return wrong("the journal does not give the state back");
     if (!measure_box())
         return wrong("a coin is not told, or not recorded");
