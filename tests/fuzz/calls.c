@@ -9,6 +9,7 @@
 #include "calendar.h"
 #include "conversions.h"
 #include "counters.h"
+#include "forged.h"
 #include "input.h"
 #include "kept.h"
 #include "lent.h"
@@ -18,6 +19,8 @@
 #define STATES 4
 #define SENT 4096
 #define STATE_BYTES (PACK_STATE_WORDS * sizeof(uint64_t))
+/* The word of a state that has its version. */
+#define VERSION_WORD 143
 
 struct message {
     uint8_t bytes[PACK_MESSAGE_BYTES];
@@ -86,8 +89,8 @@ static void open_state(const struct opening *opening, unsigned p, uint64_t own, 
     const uint8_t *weights = lend(&weights_lent, count);
     uint8_t *line = lend_line(choice);
     pack_answer answer =
-        pack_open(words_from(p, words), words, opening->n, opening->ta, opening->ts, own, opening->session,
-                  opening->input + p % 3 * (opening->input & 1), opening->coins, opening->coin_words,
+        pack_open(words_from(p, words), words, opening->version, opening->n, opening->ta, opening->ts, own,
+                  opening->session, opening->input + p % 3 * (opening->input & 1), opening->coins, opening->coin_words,
                   count == 0 ? NULL : weights, count, opening->boxed, line, line_lent.size);
     require(memcmp(before, opening->coins, sizeof before) == 0, "an opening changed the coins");
     require(lent_kept(&weights_lent, 0), "an opening changed the weights");
@@ -170,8 +173,9 @@ static void check_sent(unsigned p, const uint8_t *message, size_t length)
     enum pack_kind kind = pack_message_kind(message);
     require(length == PACK_HEADER_BYTES + PACK_VALUE_BYTES * count && count >= 1,
             "the length of a message that is sent");
-    require(message[PACK_BYTE_VERSION] == PACK_MESSAGE_VERSION, "the version of a message that is sent");
-    require(kind >= PACK_KIND_SEND && kind <= PACK_KIND_COMMIT, "the kind of a message that is sent");
+    enum pack_kind last = words[VERSION_WORD] == PACK_VERSION_2 ? PACK_KIND_FINISH : PACK_KIND_COMMIT;
+    require(message[PACK_BYTE_VERSION] == words[VERSION_WORD], "the version of a message that is sent");
+    require(kind >= PACK_KIND_SEND && kind <= last, "the kind of a message that is sent");
     require(pack_message_sender(message) == words[3], "the sender of a message that is sent");
     if (sent_count < SENT) {
         memcpy(sent[sent_count].bytes, message, length);
@@ -233,7 +237,7 @@ static void report(unsigned p, size_t named_words, size_t in_force_words, uint8_
     require(pack_exit_of(answer) <= 3 && (pack_exit_of(answer) == 0) == (named_count == 0), "a report's exit");
     require(rising(named, named_count), "the named set does not rise");
     require(irregular || rising(in_force, in_force_count), "the set in force does not rise");
-    require(pack_turns_of(answer) <= 99 * words_of(p)[0] + 3, "more turns than there can be");
+    require(pack_turns_of(answer) <= (98 + words_of(p)[VERSION_WORD]) * words_of(p)[0] + 3, "more turns than there can be");
 }
 
 /* All states turn until idle, and what they send goes to all of them, as long as messages are left. */
@@ -258,29 +262,11 @@ static void run_feeder(uint64_t order)
     }
 }
 
-/* A message with this head and these values, at most PACK_MESSAGE_BYTES. */
-static size_t build(struct input *in, uint8_t *message, uint8_t session)
-{
-    uint8_t drawn = take(in), place = take(in), kind = drawn & 7, sender = 1 + (place & 15);
-    uint8_t count = kind == PACK_KIND_COMMIT ? 1 + (drawn >> 3) % PACK_CONCENTRATORS : 1;
-    memset(message, 0, PACK_MESSAGE_BYTES);
-    message[PACK_BYTE_VERSION] = PACK_MESSAGE_VERSION;
-    message[PACK_BYTE_KIND] = kind;
-    message[PACK_BYTE_SENDER] = sender;
-    message[PACK_BYTE_INSTANCE] = kind == PACK_KIND_SEND ? sender : kind == PACK_KIND_COMMIT ? 0 : 1 + (place >> 4);
-    message[PACK_BYTE_ROUND] = kind == PACK_KIND_EST || kind == PACK_KIND_AUX ? 1 + (drawn >> 3) : 0;
-    message[PACK_BYTE_COUNT] = count;
-    message[PACK_BYTE_SESSION + 3] = session;
-    for (uint8_t k = 0; k < count; k++)
-        message[PACK_HEADER_BYTES + PACK_VALUE_BYTES * k + PACK_VALUE_BYTES - 1] = take(in);
-    return PACK_HEADER_BYTES + PACK_VALUE_BYTES * (size_t)count;
-}
-
 /* A forged message to one state, or to all; at times with a byte changed. */
-static void forge(struct input *in, uint8_t code, uint8_t session)
+static void forge(struct input *in, uint8_t code, const struct opening *opening)
 {
     uint8_t message[PACK_MESSAGE_BYTES], p = take(in);
-    size_t length = build(in, message, session);
+    size_t length = forge_message(in, message, opening);
     uint64_t link = pack_message_sender(message);
     if (code & 0x80)
         message[take(in) % length] = take(in);
@@ -315,12 +301,12 @@ static void deliver_raw(struct input *in)
     deliver(0, link, raw, length, take(in));
 }
 
-/* A word of a state: anywhere, or one of the numbers, marks and settings before word 143. */
+/* A word of a state: anywhere, or one of the numbers, marks and settings before word 161. */
 static void plant(struct input *in)
 {
     unsigned p = take(in) % STATES;
     size_t at = take(in);
-    if (at >= 143)
+    if (at >= 161)
         at = (at << 8 | take(in)) % PACK_STATE_WORDS;
     words_of(p)[at] = take(in) & 1 ? take_word(in) : take_number(in);
     kept[p].whole = false;
@@ -352,7 +338,7 @@ static void call(struct input *in, struct opening *opening)
     uint8_t code = take(in), choice;
     switch (code & 15) {
     case 0: run_feeder(code >> 4); break;
-    case 1: case 2: case 3: case 4: forge(in, code, (uint8_t)opening->session); break;
+    case 1: case 2: case 3: case 4: forge(in, code, opening); break;
     case 5: case 6: turn(code >> 4 & 3, PACK_MESSAGE_BYTES, 0); break;
     case 7: choice = take(in); turn(code >> 4 & 3, bytes[choice & 7], take(in)); break;
     case 8: report(code >> 4 & 3, PACK_SET_WORDS, PACK_SET_WORDS, 0); break;

@@ -23,7 +23,7 @@ static inline uint64_t take_number(struct input *in)
 {
     static const uint64_t edges[16] = {255, 256, 257, 33, 34, 99 * 4 + 3, 99 * 4 + 4, 1587, 1588, UINT32_MAX,
                                        (uint64_t)1 << 32, (uint64_t)1 << 63, ((uint64_t)1 << 63) + 1, UINT64_MAX - 1,
-                                       UINT64_MAX, 4660};
+                                       UINT64_MAX, 100 * 4 + 3};
     uint8_t byte = take(in);
     return byte < 0xf0 ? byte : edges[byte & 15];
 }

@@ -9,7 +9,7 @@
 #include "pack_agreement.h"
 
 struct opening {
-    uint64_t n, ta, ts, input;
+    uint64_t version, n, ta, ts, input;
     uint32_t session, coins[PACK_CONCENTRATORS + 1];
     size_t coin_words;
     uint8_t weights[PACK_CONCENTRATORS + 1];
@@ -47,6 +47,12 @@ static inline struct opening take_opening(struct input *in)
     opening.weight_count = opening.n <= PACK_CONCENTRATORS ? opening.n : PACK_CONCENTRATORS + 1;
     if (coins & 4)
         take_weights(in, &opening);
+    opening.version = PACK_VERSION_1;
+    if (coins & 32) {
+        /* Mostly one of the two. */
+        uint8_t version = take(in);
+        opening.version = version < 0xf0 ? PACK_VERSION_1 + (version & 1) : take_number(in);
+    }
     if (coins & 8) {
         /* Mostly boxed, with the words that go with it. */
         uint8_t boxed = take(in);
