@@ -285,8 +285,8 @@ static void test_box(void)
     expect(told.number == 1u << 8 && pack_told_of(told) && pack_bit_of(told) == 0, "a heavy one alone is told");
 }
 
-/* One concentrator alone: five turns, and the set {input} is in force. */
-static void test_session(void)
+/* One concentrator alone: five turns in either version, and the set {input} is in force. */
+static void test_session(enum pack_version version)
 {
     uint8_t bytes[PACK_MESSAGE_BYTES];
     pack_answer answer;
@@ -294,7 +294,7 @@ static void test_session(void)
     memset(named, 0xa5, sizeof named);
     memset(in_force, 0xa5, sizeof in_force);
     memset(untouched, 0xa5, sizeof untouched);
-    answer = pack_open(state, PACK_STATE_WORDS, PACK_VERSION_1, 1, 0, 0, 1, 7, UINT64_MAX, coins, 1, weights, 1,
+    answer = pack_open(state, PACK_STATE_WORDS, version, 1, 0, 0, 1, 7, UINT64_MAX, coins, 1, weights, 1,
                        PACK_COINS_PRINTED, line, sizeof line);
     expect(pack_refusal_of(answer) == PACK_ACCEPTED, "opening alone");
     while (pack_refusal_of(answer = take_turn(bytes)) == PACK_ACCEPTED &&
@@ -331,6 +331,7 @@ int main(void)
     test_restore();
     test_recording();
     test_box();
-    test_session();
+    test_session(PACK_VERSION_1);
+    test_session(PACK_VERSION_2);
     return failures == 0 ? 0 : 1;
 }

@@ -1,10 +1,10 @@
-/* The examples of docs/PROTOCOL.md, 1.13, 2.17 and 2.19, by calls. */
+/* The examples of docs/PROTOCOL.md, 1.13, 2.17 and 2.19, by calls, in both versions: byte 0 is the version. */
 #include <string.h>
 
 #include "expect.h"
 #include "pack_agreement.h"
 
-static uint64_t state[PACK_STATE_WORDS];
+static uint64_t state[PACK_STATE_WORDS], version;
 static uint8_t line[PACK_LINE_BYTES];
 static uint8_t message[PACK_MESSAGE_BYTES];
 
@@ -15,8 +15,8 @@ static enum pack_refusal open_with(uint64_t n, uint64_t ta, uint64_t ts, uint8_t
     static const uint32_t coins[PACK_CONCENTRATORS];
     uint8_t weights[PACK_CONCENTRATORS];
     memset(weights, weight, sizeof weights);
-    return pack_refusal_of(pack_open(state, PACK_STATE_WORDS, PACK_VERSION_1, n, ta, ts, own, session, input, coins, n,
-                                     weights, n, PACK_COINS_PRINTED, line, sizeof line));
+    return pack_refusal_of(pack_open(state, PACK_STATE_WORDS, version, n, ta, ts, own, session, input, coins, n, weights,
+                                     n, PACK_COINS_PRINTED, line, sizeof line));
 }
 
 /* 1.13: settings on the edge. */
@@ -41,11 +41,12 @@ static void test_settings(void)
     expect(memcmp(named, state, sizeof named) == 0, "1.13, an unnamed ta is 1");
 }
 
-/* A message of `length` bytes with these first bytes in session 9, all others 0, over a link. */
+/* A message of `length` bytes with these first bytes behind the version, in session 9, all others 0, over a link. */
 static enum pack_refusal deliver(const uint8_t *first, size_t length, uint64_t link)
 {
     uint8_t bytes[160] = {0};
     memcpy(bytes, first, 6);
+    bytes[0] = (uint8_t)version;
     bytes[11] = 9;
     return pack_refusal_of(pack_deliver(state, PACK_STATE_WORDS, link, bytes, length, line, sizeof line));
 }
@@ -66,7 +67,7 @@ static void test_messages(void)
 /* 2.19: the bytes of a SEND. */
 static void test_bytes(void)
 {
-    static const uint8_t sent[] = {1, 1, 3, 3, 0, 1, 0, 0, 0, 0, 0, 9, 0, 0, 0, 0, 0, 0, 1, 2};
+    const uint8_t sent[] = {(uint8_t)version, 1, 3, 3, 0, 1, 0, 0, 0, 0, 0, 9, 0, 0, 0, 0, 0, 0, 1, 2};
     expect(open_with(4, 1, 1, 1, 3, 9, 258) == PACK_ACCEPTED, "2.19, opening");
     pack_answer turn = pack_turn(state, PACK_STATE_WORDS, message, sizeof message, line, sizeof line);
     expect(pack_outcome_of(turn) == PACK_OUTCOME_SENT && pack_length_of(turn) == sizeof sent, "2.19, a message is sent");
@@ -75,8 +76,10 @@ static void test_bytes(void)
 
 int main(void)
 {
-    test_settings();
-    test_messages();
-    test_bytes();
+    for (version = PACK_VERSION_1; version <= PACK_VERSION_2; version++) {
+        test_settings();
+        test_messages();
+        test_bytes();
+    }
     return failures != 0;
 }

@@ -1,6 +1,6 @@
 /*
  * Two sets in force without a liar: 3 and 4 lose power and open their session again, with a newer pack. Then the same
- * with 3 and 4 restored from their journals, and one set. docs/HOST.md tells the story.
+ * with 3 and 4 restored from their journals, and one set. docs/HOST.md tells the story. Both versions end alike.
  */
 #include <inttypes.h>
 #include <stdbool.h>
@@ -10,7 +10,7 @@
 
 #include "pack_agreement.h"
 
-enum { N = 4, TA = 1, TS = 1, SESSION = 49, SENT = 99 * N + 3, JOURNAL = 1 << 16 };
+enum { N = 4, TA = 1, TS = 1, SESSION = 49, SENT = 100 * N + 3, JOURNAL = 1 << 16 };
 
 struct message {
     size_t length;
@@ -32,6 +32,7 @@ struct concentrator {
 /* Those from 1 to N. */
 static struct concentrator all[N + 1];
 static unsigned refusals;
+static enum pack_version version;
 
 /* Whether a call was accepted. A message that is held already may come again; nothing else is refused here. */
 static bool accepted(pack_answer answer)
@@ -89,8 +90,8 @@ static void open_session(unsigned p, uint64_t pack)
     static const uint8_t weights[N] = {1, 1, 1, 1};
     struct concentrator *c = &all[p];
     uint8_t line[PACK_LINE_BYTES];
-    pack_answer opening = pack_open(c->state, PACK_STATE_WORDS, PACK_VERSION_1, N, TA, TS, p, SESSION, pack, coins, N,
-                                    weights, N, PACK_COINS_PRINTED, line, sizeof line);
+    pack_answer opening = pack_open(c->state, PACK_STATE_WORDS, version, N, TA, TS, p, SESSION, pack, coins, N, weights,
+                                    N, PACK_COINS_PRINTED, line, sizeof line);
     if (!accepted(opening))
         exit(1);
     c->journal_bytes = 0;
@@ -183,19 +184,34 @@ static void play(bool journals)
     }
     all[2].radio = true;
     run_until_closed(0);
+}
+
+/* Plays it in both versions and prints how it ends. */
+static void play_both(bool journals)
+{
+    uint64_t other[N + 1];
+    version = PACK_VERSION_2;
+    play(journals);
     for (unsigned p = 1; p <= N; p++)
+        other[p] = in_force(p);
+    version = PACK_VERSION_1;
+    play(journals);
+    for (unsigned p = 1; p <= N; p++) {
         printf("concentrator %u: pack %" PRIu64 " in force\n", p, in_force(p));
+        if (other[p] != in_force(p))
+            printf("in version 2: pack %" PRIu64 "\n", other[p]);
+    }
 }
 
 int main(void)
 {
     puts("1, 3 and 4 have pack 5, 2 has pack 6. The radio of 2 is down; 1 closes; then 3 and 4 lose power.");
     puts("\n3 and 4 open the session again, with pack 6:");
-    play(false);
+    play_both(false);
     printf("Calls refused: %u. Two sets: 3 and 4 opened twice, and a second opening is a second voice.\n", refusals);
     puts("1 counted their COMMITs to 5, 2 counts those to 6. They count as two liars, and ta and ts are 1.");
     puts("\n3 and 4 are restored from their journals:");
-    play(true);
+    play_both(true);
     printf("Calls refused: %u, messages that came again. One set: 3 and 4 say what they said.\n", refusals);
     return 0;
 }
