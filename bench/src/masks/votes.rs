@@ -154,6 +154,8 @@ fn finish_due(words: &Words, session: &Session, i: usize) -> Option<u64> {
     match decided {
         [true, _] => Some(1),
         [_, true] => Some(0),
+        // Mostly none is held.
+        _ if words[FINISHES + i] == 0 => None,
         _ => (0..2).find(|&value| session.ta < u64::from(finishes(words, session, i, value))),
     }
 }
