@@ -220,17 +220,16 @@ fn a_decision_is_not_overwritten() {
     deliver(&mut session, &finish(2, false), &[1, 2, 3]);
     assert_eq!(session.decisions().get(&2), Some(&true));
     assert_eq!(sent(&mut session), [finish(2, true)]);
-    let mut session = opened();
-    deliver(&mut session, &finish(2, true), &[1, 2, 3]);
-    start_decided_by_finishes(&mut session);
 }
 
-/// Vote 2 is decided 1 by FINISHes and falls silent; ESTs and AUXs of 0 then change nothing.
-fn start_decided_by_finishes(session: &mut Session) {
-    assert_eq!(sent(session), [finish(2, true)]);
-    deliver(session, &est(2, 1, false), &[1, 2, 3]);
-    deliver(session, &aux(2, 1, false), &[1, 2, 3]);
-    assert_eq!(turn(session), Outcome::Idle);
+#[test]
+fn a_decision_by_finishes_stands() {
+    let mut session = opened();
+    deliver(&mut session, &finish(2, true), &[1, 2, 3]);
+    assert_eq!(sent(&mut session), [finish(2, true)]);
+    deliver(&mut session, &est(2, 1, false), &[1, 2, 3]);
+    deliver(&mut session, &aux(2, 1, false), &[1, 2, 3]);
+    assert_eq!(turn(&mut session), Outcome::Idle);
     assert_eq!(session.decisions().get(&2), Some(&true));
 }
 

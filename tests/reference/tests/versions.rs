@@ -1,5 +1,7 @@
 //! Document 02, N6: the version of a session, its messages and its lines.
 
+use pack_reference::compare::longest_sessions;
+use pack_reference::engine::Reference;
 use pack_reference::journal::{restore, NotRestored, LINE_BYTES};
 use pack_reference::message::LONGEST;
 use pack_reference::{Fault, Message, Number, Opening, Refusal, Session, Settings, Version};
@@ -121,6 +123,8 @@ fn the_most_turns() {
         assert_eq!(settings.turn_limit(), 99 * n + 3);
         assert_eq!(settings.with_version(Version::Two).turn_limit(), 100 * n + 3);
     }
+    // They can be had: it panics where a session takes fewer.
+    longest_sessions(&Reference::default(), 4);
 }
 
 #[test]
