@@ -2,7 +2,7 @@
 use mathlib.Core.List.{List, [], _∷_}
 use Rattle.acts.specs.declared.Act.the-variants as act
 use Rattle.wire.specs.declared.Message.the-variants.{Est, Finish}
-use Rattle.turn_table.specs.Planting.{Fact, two, three, from, did, inRound, isDecided, output5, Row, laterRow, finishRow}
+use Rattle.turn_table.specs.Planting.{two, three, from, did, inRound, isDecided, output5, Row, laterRow, finishRow}
 
 unfoldable pub finishRows : List Row
 finishRows =

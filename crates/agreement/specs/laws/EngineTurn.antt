@@ -18,7 +18,7 @@ use Rattle.acts.specs.declared.Act as acts
 use Rattle.acts.specs.declared.Act.the-variants as act
 use Rattle.acts.specs.declared.View.{View}
 use Rattle.wire.specs.declared.Message as wire
-use Rattle.session.specs.Session.{settingsOf, sessionWith, sessionOf}
+use Rattle.session.specs.Session.{sessionWith, sessionOf}
 use Rattle.session.specs.declared.Session.{Session}
 use Rattle.opening.specs.Arguments.{settingsBy}
 use Rattle.turn.specs.Due.{due}

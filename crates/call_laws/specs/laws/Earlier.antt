@@ -5,7 +5,6 @@ use mathlib.Core.List.{List, _∷_, _++_}
 use mathlib.Core.Logic.{_≢_}
 use mathlib.Core.Path.{_≡_, refl, sym, ap, ap₂, _∙_}
 use native.Mathlib.Omega.{arith}
-use native.Mathlib.Decide.{decLe, ℕ-discrete}
 use lib.ListN.{length, drop}
 use lib.Dec.{eqb, leb}
 use borrow.Author.Tests.{leb-true, eqb-false, eq-eqb}
@@ -16,8 +15,8 @@ use Rattle.settings.specs.laws.Versions.{first-plain}
 use Rattle.settings.specs.declared.Settings.{Settings}
 use Rattle.records.specs.Layout.{ownAt, boxedAt, turnsAt, versionAt, coinAt}
 use Rattle.records.specs.Records.{version}
-use Rattle.records.specs.Words.{word, put, storeOf}
-use Rattle.records.specs.laws.Words.{length-put, word-put-same, word-put-other, put-past-end}
+use Rattle.records.specs.Words.{word, storeOf}
+use Rattle.records.specs.laws.Words.{length-put, word-put-other, put-alike}
 use Rattle.records.specs.laws.Fill.{length-storeOf}
 use Rattle.broadcasts.specs.Leading.{present}
 use Rattle.broadcasts.specs.Broadcasts.{output}
@@ -231,15 +230,6 @@ module _ (s : List ℕ) (e : First s) where
       }
 
 -- ---- opening
-
--- lists of one length with the same word at a have it after a word is put into both
-put-alike : (s t : List ℕ) (k v a : ℕ) → length s ≡ length t → word s a ≡ word t a → word (put s k v) a ≡ word (put t k v) a
-put-alike s t k v a l e = at (ℕ-discrete a k) (decLe (length t) k)
-  where
-    at : Dec (a ≡ k) → Dec (length t ≤ k) → word (put s k v) a ≡ word (put t k v) a
-    at (no ne) d = word-put-other s k v a ne ∙ e ∙ sym (word-put-other t k v a ne)
-    at (yes q) (yes beyond) = ap (λ (x : List ℕ). word x a) (sym (put-past-end s k v (omega arith))) ∙ e ∙ ap (λ (x : List ℕ). word x a) (put-past-end t k v beyond)
-    at (yes q) (no inside) = rw q (word-put-same s k v (omega arith) ∙ sym (word-put-same t k v (omega arith)))
 
 store-alike : (f : ℕ → ℕ) (c : ℕ) (s t : List ℕ) (n a : ℕ) → length s ≡ length t → word s a ≡ word t a → word (storeOf f c s n) a ≡ word (storeOf f c t n) a
 unfolding storeOf

@@ -6,14 +6,14 @@ use mathlib.Core.List.{List, [], _∷_}
 use mathlib.Core.Logic.{_⊎_, inl, inr, _≢_}
 use mathlib.Core.Path.{_≡_, refl, sym, ap, _∙_}
 use native.Mathlib.Omega.{arith}
-use native.Mathlib.Decide.{decLt, decLe, ℕ-discrete}
+use native.Mathlib.Decide.{decLe}
 use lib.ListN.{length}
 use Rattle.settings.specs.Refusals.{COIN}
 use Rattle.settings.specs.Settings.{roundLimit}
 use Rattle.quorum.specs.Marks.{mark, withMark}
 use Rattle.records.specs.Layout.{nAt, taAt, tsAt, coinAt}
 use Rattle.records.specs.Words.{word, put, marked, setMark}
-use Rattle.records.specs.laws.Words.{length-put, word-put-same, word-put-other, put-past-end}
+use Rattle.records.specs.laws.Words.{length-put, put-alike}
 use Rattle.records.specs.Records.{coin}
 use Rattle.coin_box.specs.declared.Reply.{Reply}
 use Rattle.coin_box.specs.declared.Reply.the-variants.{Refused, Sealed, Bit}
@@ -26,15 +26,6 @@ use Rattle.coin_box.specs.laws.Box.{Asked, asked, coin-stays, unsealed-s
 record Alike (s t : List ℕ) : Type 0 where
   size : length s ≡ length t
   same : (k : ℕ) → (k < 8) ⊎ (24 ≤ k) → word s k ≡ word t k
-
-put-same : (s t : List ℕ) (a x k : ℕ) → length s ≡ length t → word s k ≡ word t k → word (put s a x) k ≡ word (put t a x) k
-put-same s t a x k size e = at (ℕ-discrete k a) (decLt a (length s))
-  where
-    at : Dec (k ≡ a) → Dec (a < length s) → word (put s a x) k ≡ word (put t a x) k
-    at (no ne) d = word-put-other s a x k ne ∙ e ∙ sym (word-put-other t a x k ne)
-    at (yes z) (yes l) = rw z (word-put-same s a x l ∙ sym (word-put-same t a x (omega (arith, size, l))))
-    at (yes z) (no l) =
-        ap (λ (u : List ℕ). word u k) (sym (put-past-end s a x (omega arith))) ∙ e ∙ ap (λ (u : List ℕ). word u k) (put-past-end t a x (omega (arith, size)))
 
 module _ (s t : List ℕ) (x : Alike s t) (p i r : ℕ) where
   alike-asks : asks s p i r ≡ asks t p i r
@@ -49,7 +40,7 @@ module _ (s t : List ℕ) (x : Alike s t) (p i r : ℕ) where
       let e : word s (requestsAt i r) ≡ word t (requestsAt i r) = x .same (requestsAt i r) (inr (omega arith)) in
       record {
         size = length-put s _ _ ∙ x .size ∙ sym (length-put t _ _);
-        same = λ j side. put-same s t k (withMark (word s k) p) j (x .size) (x .same j side) ∙ ap (λ (z : ℕ). word (put t k (withMark z p)) j) e;
+        same = λ j side. put-alike s t k (withMark (word s k) p) j (x .size) (x .same j side) ∙ ap (λ (z : ℕ). word (put t k (withMark z p)) j) e;
       }
 
   alike-next : Alike (requestWords s p i r) (requestWords t p i r)

@@ -5,13 +5,11 @@ use mathlib.Core.List.{List}
 use mathlib.Core.Logic.{_⊎_, inl, inr, _≢_}
 use mathlib.Core.Path.{_≡_, sym, ap, _∙_}
 use native.Mathlib.Omega.{arith}
-use native.Mathlib.Decide.{ℕ-discrete}
 use lib.ListN.{length}
 use Rattle.quorum.specs.Marks.{mark}
-use Rattle.quorum.specs.laws.Marks.{mark-came}
 use Rattle.records.specs.Layout.{sendMarksAt, sendValueAt, echoMarksAt, echoValueAt, readyMarksAt, readyValueAt, voteAt, estMark, auxMark, finishMarksAt, finishMark, commitCountAt, commitRowAt, decidedZeroAt, decidedOneAt}
 use Rattle.records.specs.Words.{word, put, marked, setMark}
-use Rattle.records.specs.laws.Words.{length-put, length-setMark, word-put-other, word-setMark-same, word-setMark-other}
+use Rattle.records.specs.laws.Words.{length-put, length-setMark, word-put-other, word-setMark-other, marked-came}
 use Rattle.records.specs.Words.{storeOf}
 use Rattle.records.specs.laws.Fill.{length-storeOf, store-other}
 use Rattle.wire.specs.Bytes.{valueAt}
@@ -73,26 +71,13 @@ no-marks a k (inr (inr x)) (inr (inl y)) e = omega arith
 no-marks a k (inr (inr x)) (inr (inr (inl y))) e = omega arith
 no-marks a k (inr (inr x)) (inr (inr (inr y))) e = omega arith
 
--- a mark that is set after one was set was set before, or is that one
-mark-set : (s : List ℕ) (w q a j : ℕ) → w < length s → marked (setMark s w q) a j ≡ true → (marked s a j ≡ true) ⊎ ((a ≡ w) × (j ≡ q))
-unfolding marked
-mark-set s w q a j l e = go (ℕ-discrete a w)
-  where
-    go : Dec (a ≡ w) → (mark (word s a) j ≡ true) ⊎ ((a ≡ w) × (j ≡ q))
-    go (no ne) = inl (ap (λ (x : ℕ). mark x j) (sym (word-setMark-other s w q a ne)) ∙ e)
-    go (yes y) = came (mark-came (word s w) q j (ap (λ (x : ℕ). mark x j) (sym (word-setMark-same s w q l)) ∙ ap (λ (x : ℕ). mark (word (setMark s w q) x) j) (sym y) ∙ e))
-      where
-        came : (mark (word s w) j ≡ true) ⊎ (j ≡ q) → (mark (word s a) j ≡ true) ⊎ ((a ≡ w) × (j ≡ q))
-        came (inl x) = inl (rw y x)
-        came (inr x) = inr (y, x)
-
 -- a store at a word that is not one of marks
 pub mark-put : (s : List ℕ) (k v a j : ℕ) → a ≢ k → marked (put s k v) a j ≡ marked s a j
 unfolding marked
 mark-put s k v a j ne = ap (λ (x : ℕ). mark x j) (word-put-other s k v a ne)
 
 value-then-mark : (s : List ℕ) (k v w q a j : ℕ) → w < length s → a ≢ k → marked (setMark (put s k v) w q) a j ≡ true → (marked s a j ≡ true) ⊎ ((a ≡ w) × (j ≡ q))
-value-then-mark s k v w q a j l ne e = of (mark-set (put s k v) w q a j (rw length-put l) e)
+value-then-mark s k v w q a j l ne e = of (marked-came (put s k v) w q a j (rw length-put l) e)
   where
     of : (marked (put s k v) a j ≡ true) ⊎ ((a ≡ w) × (j ≡ q)) → (marked s a j ≡ true) ⊎ ((a ≡ w) × (j ≡ q))
     of (inl x) = inl (sym (mark-put s k v a j ne) ∙ x)
@@ -114,8 +99,8 @@ mark-recorded s v p (Echo i x) a j l h t e =
     value-then-mark s (echoValueAt i p) x (echoMarksAt i) p a j (omega arith) (no-marks (echoValueAt i p) a (inr (inr (omega arith, omega arith))) t) e
 mark-recorded s v p (Ready i x) a j l h t e =
     value-then-mark s (readyValueAt i p) x (readyMarksAt i) p a j (omega arith) (no-marks (readyValueAt i p) a (inr (inr (omega arith, omega arith))) t) e
-mark-recorded s v p (Est i r b) a j l h t e = mark-set s (voteAt i r) (estMark b p) a j (omega arith) e
-mark-recorded s v p (Aux i r b) a j l h t e = mark-set s (voteAt i r) (auxMark b p) a j (omega arith) e
+mark-recorded s v p (Est i r b) a j l h t e = marked-came s (voteAt i r) (estMark b p) a j (omega arith) e
+mark-recorded s v p (Aux i r b) a j l h t e = marked-came s (voteAt i r) (auxMark b p) a j (omega arith) e
 mark-recorded s v p (Commit k) a j l h t e = inl (kept ∙ e)
   where
     count : a ≢ commitCountAt p
@@ -127,7 +112,7 @@ mark-recorded s v p (Commit k) a j l h t e = inl (kept ∙ e)
     kept : marked s a j ≡ marked (put (storeOf (valueAt v) (commitRowAt p) s k) (commitCountAt p) k) a j
     kept = ap (λ (x : ℕ). mark x j) (sym (word-put-other _ (commitCountAt p) k a count ∙ store-other (valueAt v) (commitRowAt p) s k a value))
 mark-recorded s v p (Finish i b) a j l h t e =
-    mark-set s (finishMarksAt i) (finishMark b p) a j (omega arith)
+    marked-came s (finishMarksAt i) (finishMark b p) a j (omega arith)
     (ap (λ (x : ℕ). mark x j) (sym (settled-word (settingsOf s) (withFinish s i b p) i b a (not-decision a t .0) (not-decision a t .1))) ∙ e)
 
 -- the words that recording a message of sender p may change; a FINISH may decide its vote

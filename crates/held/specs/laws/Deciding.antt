@@ -2,22 +2,20 @@
 use Prim.Native.Nat.{ℕ, _≤_, _<_}
 use mathlib.Core.Bool.{Bool, true, false, cond}
 use mathlib.Core.List.{List}
-use mathlib.Core.Logic.{_⊎_, inl, inr, _≢_}
+use mathlib.Core.Logic.{_⊎_, inl, inr}
 use mathlib.Core.Path.{_≡_, refl, sym, ap, _∙_}
 use native.Mathlib.Omega.{arith}
-use native.Mathlib.Decide.{ℕ-discrete}
 use lib.Dec.{eqb}
 use lib.ListN.{length}
 use borrow.Author.Tests.{eqb-true, eqb-false}
 use Rattle.quorum.specs.Marks.{mark}
-use Rattle.quorum.specs.laws.Marks.{mark-came}
 use Rattle.settings.specs.Settings.{weighed, accept}
 use Rattle.settings.specs.declared.Settings.{Settings}
 use Rattle.records.specs.Layout.{finishMarksAt, finishMark, decidedZeroAt, decidedOneAt}
 use Rattle.records.specs.Records.{finishHeld}
-use Rattle.records.specs.Words.{word, marked, setMark}
+use Rattle.records.specs.Words.{marked, setMark}
 use Rattle.records.specs.Writing.{withFinish}
-use Rattle.records.specs.laws.Words.{length-setMark, word-setMark-same, word-setMark-other}
+use Rattle.records.specs.laws.Words.{length-setMark, word-setMark-other, marked-came}
 use Rattle.votes.specs.Finishing.{finishCount}
 use Rattle.session.specs.Session.{settingsOf}
 use Rattle.wire.specs.declared.Message as wire-message
@@ -51,19 +49,6 @@ decided-value z c bit e = go z (eqb c 0) refl e
 low : (z : Bool) → (decidedZeroAt ≤ decidedAt z) × (decidedAt z ≤ decidedOneAt)
 low true = (omega arith, omega arith)
 low false = (omega arith, omega arith)
-
--- a mark that is set after one was set
-mark-set : (s : List ℕ) (k q a j : ℕ) → k < length s → marked (setMark s k q) a j ≡ true → (marked s a j ≡ true) ⊎ ((a ≡ k) × (j ≡ q))
-unfolding marked
-mark-set s k q a j l e = go (ℕ-discrete a k)
-  where
-    came : a ≡ k → (mark (word s k) j ≡ true) ⊎ (j ≡ q) → (mark (word s a) j ≡ true) ⊎ ((a ≡ k) × (j ≡ q))
-    came y (inl x) = inl (rw y x)
-    came y (inr x) = inr (y, x)
-
-    go : Dec (a ≡ k) → (mark (word s a) j ≡ true) ⊎ ((a ≡ k) × (j ≡ q))
-    go (no ne) = inl (ap (λ (x : ℕ). mark x j) (sym (word-setMark-other s k q a ne)) ∙ e)
-    go (yes y) = came y (mark-came (word s k) q j (ap (λ (x : ℕ). mark x j) (sym (word-setMark-same s k q l)) ∙ ap (λ (x : ℕ). mark (word (setMark s k q) x) j) (sym y) ∙ e))
 
 module _ (s v : List ℕ) (p : ℕ) (size : length s ≡ 2048) (i : ℕ) (z : Bool) where
   abbrev Came : wire-message.Message → Type 0
@@ -106,7 +91,7 @@ module _ (s v : List ℕ) (p : ℕ) (size : length s ≡ 2048) (i : ℕ) (z : Bo
 
       of : (finishSettled (settingsOf s) held j c ≡ held) ⊎ ((finishSettled (settingsOf s) held j c ≡ setMark held (cond (eqb c 0) decidedZeroAt decidedOneAt) j) × FinishDecided (settingsOf s) held j c) → Came (wire.Finish j c)
       of (inl same) = inl (before (ap (λ (t : List ℕ). marked t (decidedAt z) i) (sym same) ∙ e))
-      of (inr d) = now (d .1) (mark-set held (cond (eqb c 0) decidedZeroAt decidedOneAt) j (decidedAt z) i (within (eqb c 0)) (ap (λ (t : List ℕ). marked t (decidedAt z) i) (sym (d .0)) ∙ e))
+      of (inr d) = now (d .1) (marked-came held (cond (eqb c 0) decidedZeroAt decidedOneAt) j (decidedAt z) i (within (eqb c 0)) (ap (λ (t : List ℕ). marked t (decidedAt z) i) (sym (d .0)) ∙ e))
 
   -- a vote that is decided after a message was recorded was so before, or its FINISHes decide it
   pub decided-came : (m : wire-message.Message) → InLayout p m → marked (recorded s p m v) (decidedAt z) i ≡ true → Came m

@@ -2,7 +2,7 @@
 use Prim.Native.Nat.{ℕ, _+_, _-_, _≤_, _<_}
 use mathlib.Core.Bool.{true, false≢true}
 use mathlib.Core.List.{List}
-use mathlib.Core.Logic.{_≢_}
+use mathlib.Core.Logic.{_⊎_, inl, inr, _≢_}
 use mathlib.Core.Path.{_≡_, refl, sym, ap, _∙_}
 use native.Mathlib.Omega.{arith}
 use native.Mathlib.Decide.{decLe, ℕ-discrete}
@@ -10,7 +10,7 @@ use lib.Dec.{eqb}
 use lib.ListN.{length, getD, set, length-set, List·getD-eq-default}
 use lib.Seq.{set-out, getD-set-same, getD-set-other}
 use Rattle.quorum.specs.Marks.{mark, withMark}
-use Rattle.quorum.specs.laws.Marks.{mark-same, mark-kept, mark-zero}
+use Rattle.quorum.specs.laws.Marks.{mark-same, mark-kept, mark-came, mark-zero}
 use Rattle.records.specs.Words.{word, put, marked, equalAt, setMark}
 
 -- a word has a mark for each of n words from b on, and all these are there
@@ -82,3 +82,25 @@ marked-kept s j q k p h = at (ℕ-discrete k j) (decLe (length s) k)
     at (yes e) (no within) =
         let is : word (setMark s j q) k ≡ withMark (word s k) q = rw (← e) (word-setMark-same s k q (omega arith)) in
         ap (λ (w : ℕ). mark w p) is ∙ mark-kept (word s k) q p h
+
+-- a mark that is set after one was set was set before, or is that one
+pub marked-came : (s : List ℕ) (k p a j : ℕ) → k < length s → marked (setMark s k p) a j ≡ true → (marked s a j ≡ true) ⊎ ((a ≡ k) × (j ≡ p))
+unfolding marked
+marked-came s k p a j l e = go (ℕ-discrete a k)
+  where
+    came : a ≡ k → (mark (word s k) j ≡ true) ⊎ (j ≡ p) → (mark (word s a) j ≡ true) ⊎ ((a ≡ k) × (j ≡ p))
+    came y (inl x) = inl (rw y x)
+    came y (inr x) = inr (y, x)
+
+    go : Dec (a ≡ k) → (mark (word s a) j ≡ true) ⊎ ((a ≡ k) × (j ≡ p))
+    go (no ne) = inl (ap (λ (x : ℕ). mark x j) (sym (word-setMark-other s k p a ne)) ∙ e)
+    go (yes y) = came y (mark-came (word s k) p j (ap (λ (x : ℕ). mark x j) (sym (word-setMark-same s k p l)) ∙ ap (λ (x : ℕ). mark (word (setMark s k p) x) j) (sym y) ∙ e))
+
+-- words of one length that are the same at a stay so where the same is put into both
+pub put-alike : (s t : List ℕ) (k v a : ℕ) → length s ≡ length t → word s a ≡ word t a → word (put s k v) a ≡ word (put t k v) a
+put-alike s t k v a l e = at (ℕ-discrete a k) (decLe (length t) k)
+  where
+    at : Dec (a ≡ k) → Dec (length t ≤ k) → word (put s k v) a ≡ word (put t k v) a
+    at (no ne) d = word-put-other s k v a ne ∙ e ∙ sym (word-put-other t k v a ne)
+    at (yes q) (yes beyond) = ap (λ (x : List ℕ). word x a) (sym (put-past-end s k v (omega arith))) ∙ e ∙ ap (λ (x : List ℕ). word x a) (put-past-end t k v beyond)
+    at (yes q) (no inside) = rw q (word-put-same s k v (omega arith) ∙ sym (word-put-same t k v (omega arith)))

@@ -1,10 +1,10 @@
 -- The versions one by one, and the turn bound of each.
 use Prim.Native.Nat.{ℕ, _+_, _*_, _≤_}
 use mathlib.Core.Bool.{Bool, true, false, cond}
-use mathlib.Core.Path.{_≡_, refl, ap}
+use mathlib.Core.Path.{_≡_, refl}
 use native.Mathlib.Omega.{arith}
 use lib.Dec.{leb}
-use borrow.Author.Tests.{le-leb, lt-leb, eq-eqb, ne-eqb, leb-true}
+use borrow.Author.Tests.{le-leb, leb-true}
 use Rattle.quorum.specs.laws.Bools.{and-left, and-right}
 use Rattle.settings.specs.Rules.{Ruled}
 use Rattle.settings.specs.Versions.{FIRST-VERSION, FINISH-VERSION, versionKnown, finishing, turnBound}

@@ -1,8 +1,7 @@
 -- FINISHes that were sent, beside the potential: each act that is due raises the two together by one, so that the stored count is their sum.
-use Prim.Native.Nat.{ℕ, _+_, _≤_, _<_}
+use Prim.Native.Nat.{ℕ, _+_, _≤_}
 use mathlib.Core.Bool.{Bool, true, false, cond, false≢true}
 use mathlib.Core.List.{List}
-use mathlib.Core.Logic.{_⊎_, inl, inr}
 use mathlib.Core.Path.{_≡_, refl, sym, ap, _∙_}
 use native.Mathlib.Omega.{arith}
 use lib.ListN.{length}
@@ -10,7 +9,6 @@ use Rattle.settings.specs.Rules.{Ruled}
 use Rattle.settings.specs.Versions.{finishing}
 use Rattle.settings.specs.declared.Settings.{Settings}
 use Rattle.quorum.specs.Marks.{mark, withMark}
-use Rattle.quorum.specs.laws.Marks.{mark-came}
 use Rattle.quorum.specs.Total.{count}
 use Rattle.quorum.specs.laws.Total.{count-le, total-none}
 use Rattle.records.specs.Layout.{finishSentAt, roundAt, estSentAt, auxSentAt}

@@ -1,9 +1,9 @@
 -- The kinds of each version.
 use Prim.Native.Nat.{ℕ, _≤_}
 use mathlib.Core.Bool.{Bool, true, false, cond}
-use mathlib.Core.Path.{_≡_, refl, ap}
+use mathlib.Core.Path.{_≡_, refl}
 use native.Mathlib.Omega.{arith}
-use Rattle.settings.specs.Versions.{FIRST-VERSION, FINISH-VERSION, finishing}
+use Rattle.settings.specs.Versions.{FIRST-VERSION, finishing}
 use Rattle.wire.specs.Message.{COMMIT, FINISH, lastKind}
 
 -- version 1 has the kinds up to COMMIT, version 2 FINISH too

@@ -23,7 +23,6 @@ use Rattle.wire.specs.declared.Message.the-variants as message
 use Rattle.delivery.specs.Delivery as weighted
 use Rattle.unweighted.specs.Votes.{finishDecides}
 use Rattle.unweighted.specs.Session.{settingsOf}
-use Rattle.unweighted.specs.Settings.{Settings}
 use Rattle.unweighted.specs.Delivery.{finishSettled, recorded}
 use Rattle.delivery.specs.laws.Frame.{InLayout}
 use Rattle.records.specs.Writing.{withFinish, withDecision}
