@@ -7,7 +7,7 @@ use lib.Dec.{leb}
 use borrow.Author.Tests.{le-leb, leb-true}
 use Rattle.quorum.specs.laws.Bools.{and-left, and-right}
 use Rattle.settings.specs.Rules.{Ruled}
-use Rattle.settings.specs.Versions.{FIRST-VERSION, FINISH-VERSION, versionKnown, finishing, turnBound}
+use Rattle.settings.specs.Versions.{FIRST-VERSION, versionKnown, finishing, turnBound}
 use Rattle.settings.specs.declared.Settings.{Settings}
 
 pub record Known (version : ℕ) : Type 0 where
@@ -34,10 +34,6 @@ first-plain = refl
 pub first-bound : (g : Settings) → turnBound FIRST-VERSION g ≡ 99 * g .n + 3
 unfolding turnBound finishing
 first-bound g = refl
-
-pub finish-bound : (g : Settings) → turnBound FINISH-VERSION g ≡ 100 * g .n + 3
-unfolding turnBound finishing
-finish-bound g = refl
 
 -- both bounds as one: n more turns where there are FINISHes
 pub turn-bound-sum : (version : ℕ) (g : Settings) → turnBound version g ≡ 99 * g .n + cond (finishing version) (g .n) 0 + 3
