@@ -1,8 +1,9 @@
 /*
  * The same deliveries in both versions: in version 1 the session closes, in version 2 it comes to rest with no set in force.
- * Of four, with ta = ts = 1, concentrator 4 lies. It has 1 decide vote 4 in round 1 by an AUX that nobody else gets, and
- * then says no more. In version 2 neither does 1, but for its FINISH: 2 and 3 miss an AUX in round 2, and a FINISH to send
- * their own.
+ * Of four, with ta = ts = 1, concentrator 4 has 1 decide vote 4 in round 1 by an AUX that nobody else gets, and is not heard
+ * any more. In version 2 neither is 1, but for its FINISH: 2 and 3 miss an AUX in round 2, and a FINISH to send their own.
+ * 4 may lie, and need not: here it keeps the rules, and what reaches the others are messages that its turns sent; its radio
+ * loses all the rest.
  */
 #include <stdlib.h>
 #include <string.h>
@@ -10,7 +11,7 @@
 #include "expect.h"
 #include "pack_agreement.h"
 
-enum { N = 4, TA = 1, TS = 1, SESSION = 50, HONEST = 3, LIAR = 4, SENT = 100 * N + 3 };
+enum { N = 4, TA = 1, TS = 1, SESSION = 50, HEARD = 3, LOST = 4, SENT = 100 * N + 3 };
 
 struct message {
     size_t length;
@@ -26,8 +27,8 @@ struct concentrator {
     size_t sent_count;
 };
 
-/* Those from 1 to HONEST. */
-static struct concentrator all[HONEST + 1];
+/* Those from 1 to N; what 1 to HEARD send reaches everybody up there, what LOST sends hardly anybody. */
+static struct concentrator all[N + 1];
 static enum pack_version version;
 
 static void take_turns(unsigned p)
@@ -67,11 +68,23 @@ static void deliver(unsigned p, unsigned link, const uint8_t *bytes, size_t leng
     expect(pack_refusal_of(delivery) == PACK_ACCEPTED, "a delivery is accepted");
 }
 
-/* A message of the liar to p alone, in instance 4. */
-static void lie(unsigned p, enum pack_kind kind, uint8_t round, uint8_t value)
+/* Whether a turn of 4 sent these bytes. */
+static bool was_sent(const uint8_t *bytes, size_t length)
 {
-    const uint8_t bytes[20] = {version, kind, LIAR, 4, round, 1, 0, 0, 0, 0, 0, SESSION, [19] = value};
-    deliver(p, LIAR, bytes, sizeof bytes);
+    for (size_t k = 0; k < all[LOST].sent_count; k++) {
+        const struct message *m = &all[LOST].sent[k];
+        if (m->length == length && memcmp(m->bytes, bytes, length) == 0)
+            return true;
+    }
+    return false;
+}
+
+/* A message of 4, in instance 4, reaches p. */
+static void reach(unsigned p, enum pack_kind kind, uint8_t round, uint8_t value)
+{
+    const uint8_t bytes[20] = {version, kind, LOST, 4, round, 1, 0, 0, 0, 0, 0, SESSION, [19] = value};
+    expect(was_sent(bytes, sizeof bytes), "4 keeps the rules: it has sent what is heard of it");
+    deliver(p, LOST, bytes, sizeof bytes);
 }
 
 /* Which messages go on to whom. */
@@ -95,8 +108,8 @@ static void run(wanted_by *wanted)
 {
     for (bool heard = true; heard;) {
         heard = false;
-        for (unsigned p = 1; p <= HONEST; p++) {
-            for (unsigned sender = 1; sender <= HONEST; sender++)
+        for (unsigned p = 1; p <= N; p++) {
+            for (unsigned sender = 1; sender <= HEARD; sender++)
                 heard = hear(p, sender, wanted) || heard;
             take_turns(p);
         }
@@ -108,25 +121,26 @@ static bool in_vote_4(const uint8_t *bytes, enum pack_kind kind, uint8_t value)
     return pack_message_kind(bytes) == kind && pack_message_instance(bytes) == 4 && bytes[19] == value;
 }
 
-/* Vote 4 waits, and 3 has no output of broadcast 4: it starts that vote with 0. */
+/* Vote 4 waits, and 3 and 4 have no output of broadcast 4: they start that vote with 0. */
 static bool all_but_vote_4(unsigned p, unsigned sender, const uint8_t *bytes)
 {
     enum pack_kind kind = pack_message_kind(bytes);
     bool voting = kind == PACK_KIND_EST || kind == PACK_KIND_AUX || kind == PACK_KIND_FINISH;
-    bool late = kind == PACK_KIND_READY && p == 3 && sender != 3;
+    bool late = kind == PACK_KIND_READY && ((p == 3 && sender != 3) || p == LOST);
     return pack_message_instance(bytes) != 4 || !(voting || late);
 }
 
-/* 3 sends EST 1, too, but does not accept it yet; 1 and 2 do. */
+/* 3 sends EST 1, too, but does not accept it yet; 1, 2 and 4 do. */
 static bool est_1(unsigned p, unsigned sender, const uint8_t *bytes)
 {
     return in_vote_4(bytes, PACK_KIND_EST, 1) && (p != 3 || sender != 3);
 }
 
+/* From here on 4 hears nothing. */
 static bool est_0(unsigned p, unsigned sender, const uint8_t *bytes)
 {
-    (void)p, (void)sender;
-    return in_vote_4(bytes, PACK_KIND_EST, 0);
+    (void)sender;
+    return in_vote_4(bytes, PACK_KIND_EST, 0) && p != LOST;
 }
 
 /* 1 hears no AUX 0. */
@@ -137,24 +151,24 @@ static bool aux_1_to_1(unsigned p, unsigned sender, const uint8_t *bytes)
 
 static bool everything(unsigned p, unsigned sender, const uint8_t *bytes)
 {
-    (void)p, (void)sender, (void)bytes;
-    return true;
+    (void)sender, (void)bytes;
+    return p != LOST;
 }
 
 static void play(enum pack_version played)
 {
     memset(all, 0, sizeof all);
     version = played;
-    for (unsigned p = 1; p <= HONEST; p++)
+    for (unsigned p = 1; p <= N; p++)
         open_session(p);
-    for (unsigned p = 1; p <= HONEST; p++)
-        lie(p, PACK_KIND_SEND, 0, 8);
+    for (unsigned p = 1; p <= HEARD; p++)
+        reach(p, PACK_KIND_SEND, 0, 8);
     run(all_but_vote_4);
     run(est_1);
-    for (unsigned p = 1; p <= HONEST; p++)
-        lie(p, PACK_KIND_EST, 1, 0);
+    for (unsigned p = 1; p <= HEARD; p++)
+        reach(p, PACK_KIND_EST, 1, 0);
     run(est_0);
-    lie(1, PACK_KIND_AUX, 1, 1);
+    reach(1, PACK_KIND_AUX, 1, 1);
     run(aux_1_to_1);
     run(everything);
 }
@@ -172,13 +186,13 @@ int main(void)
 {
     size_t in_force;
     play(PACK_VERSION_1);
-    for (unsigned p = 1; p <= HONEST; p++)
+    for (unsigned p = 1; p <= HEARD; p++)
         expect(exit_at(p, &in_force) == 3 && in_force == 4 && all[p].closed, "version 1 closes on all four packs");
     play(PACK_VERSION_2);
     expect(exit_at(1, &in_force) == 3 && in_force == 0, "version 2, 1 has decided all votes and names a set");
-    for (unsigned p = 2; p <= HONEST; p++)
+    for (unsigned p = 2; p <= HEARD; p++)
         expect(exit_at(p, &in_force) == 0 && in_force == 0, "version 2, 2 and 3 name none");
-    for (unsigned p = 1; p <= HONEST; p++)
+    for (unsigned p = 1; p <= HEARD; p++)
         expect(!all[p].closed, "version 2 rests without closing");
     return failures != 0;
 }
