@@ -5,6 +5,7 @@ pub mod Agreement
 pub mod Honest
 pub mod Journals
 pub mod DemandThree
+pub mod HonestPack
 pub mod Plain
 pub mod EngineRestores
 pub mod laws

@@ -16,6 +16,7 @@ pub mod Chains
 pub mod Recordings
 pub mod Lists
 pub mod Demand
+pub mod HonestPack
 pub mod EngineSeen
 pub mod EngineLent
 pub mod EngineReading

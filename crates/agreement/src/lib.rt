@@ -1,12 +1,23 @@
-// Agreement (PROTOCOL 16.3 to 16.10). The functions do nothing: their contracts state what is proved in specs/.
+// Agreement (PROTOCOL 16.3 to 16.10), and what sets hold (16.18, 16.19). The functions do nothing: their contracts state what is proved in specs/.
 ghost use Rattle.agreement.specs.Agreement.{Agree, Named, Valid};
 ghost use Rattle.agreement.specs.DemandThree.{EngineAgrees};
+ghost use Rattle.agreement.specs.HonestPack.{EngineHonestPack, EngineOutputFirst};
 ghost use Rattle.agreement.specs.EngineRestores.{RestoreGives};
 ghost use Rattle.agreement.specs.Plain.{PrintedMeets, PlainMeets};
 
 // Agreement of the engine, all of it: specs/DemandThree.antt states it of whole lists of calls.
 pub fn demand_three()
     ensures { λ _. ⌜ EngineAgrees ⌝ }
+{}
+
+// Each set that is named or in force holds the input of an honest one: specs/HonestPack.antt states it and what follows of whole lists of calls.
+pub fn honest_pack()
+    ensures { λ _. ⌜ EngineHonestPack ⌝ }
+{}
+
+// No vote is decided 1 whose broadcast had no output at an honest one before.
+pub fn output_first()
+    ensures { λ _. ⌜ EngineOutputFirst ⌝ }
 {}
 
 // Every cut of an honest one's journal, after its first line, gives the state after its last complete line, and that line's message.

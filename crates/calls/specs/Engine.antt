@@ -1,5 +1,6 @@
 -- The engine as a machine of six calls, by the definitions that the contracts of the code cite.
 use Prim.Native.Nat.{ℕ, _<_, _^_}
+use mathlib.Core.Bool.{true}
 use mathlib.Core.List.{List}
 use mathlib.Core.Logic.{_≢_}
 use mathlib.Core.Path.{_≡_}
@@ -8,6 +9,10 @@ use lib.ListN.{length, take, getD}
 use Rattle.settings.specs.declared.Settings.{Settings}
 use Rattle.quorum.specs.Marks.{mark}
 use Rattle.records.specs.Words.{word}
+use Rattle.records.specs.Records.{decidedOne}
+use Rattle.broadcasts.specs.Broadcasts.{output}
+use Rattle.broadcasts.specs.declared.Output.the-variants.{Value}
+use Rattle.session.specs.Session.{settingsOf}
 use Rattle.wire.specs.Message.{lengthOf}
 use Rattle.opening.specs.Given.{item}
 use Rattle.opening.specs.Arguments.{Arguments, settingsBy}
@@ -136,4 +141,6 @@ engine =
       LentSets = List ℕ × List ℕ;
       Names = ReportNames;
       InForce = ReportEnforces;
+      Outputs = λ w i v. output (settingsOf w) w i ≡ Value v;
+      DecidedOne = λ w i. decidedOne w i ≡ true;
     }

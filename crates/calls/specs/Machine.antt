@@ -1,5 +1,5 @@
 -- One model of calls: what a machine takes, answers and leaves, a list of its calls at all concentrators, and the words that they leave at each.
--- The count of turns (PROTOCOL 16.11) and agreement (16.8 to 16.10) are claims about such lists.
+-- The count of turns (PROTOCOL 16.11), agreement (16.8 to 16.10) and what sets hold (16.18, 16.19) are claims about such lists.
 use Prim.Native.Nat.{ℕ}
 use mathlib.Core.Bool.{Bool, cond}
 use mathlib.Core.List.{List, [], _∷_}
@@ -55,6 +55,9 @@ pub record Machine : Type 1 where
   -- the set that a report, lent 16 words for each set, gives as named, and the one as in force (PROTOCOL 9.25)
   pub Names : Words → List ℕ → Type 0
   pub InForce : Words → List ℕ → Type 0
+  -- broadcast i has output v (PROTOCOL 4.3), and vote i is decided 1 (5.9, 5.17): no call answers these, they stand in the words
+  pub Outputs : Words → ℕ → ℕ → Type 0
+  pub DecidedOne : Words → ℕ → Type 0
 
 -- the calls of all six kinds (PROTOCOL 16.4): the first number is the concentrator's, that of a delivery's link follows. A restore finds any
 -- words in the buffer, since power may have been lost.

@@ -1,12 +1,13 @@
--- Agreement over lawful histories, proved: what exits name stays named, a set in force was named before, and two named sets are the same.
+-- Agreement over lawful histories, proved: what exits name stays named, a set in force was named before, two named sets are the same, and each
+-- has what an honest one sent.
 use Prim.Native.Nat.{ℕ}
-use mathlib.Core.List.{List, [], _∷_}
+use mathlib.Core.List.{List, [], _∷_, List·Memᴰ}
 use mathlib.Core.Logic.{inl, inr}
-use mathlib.Core.Path.{_≡_, sym, _∙_}
+use mathlib.Core.Path.{_≡_, sym, subst, _∙_}
 use native.Mathlib.Omega.{arith}
 use Rattle.exits.specs.Standing.{Standing}
 use Rattle.exits.specs.laws.Agree.{Compatible, exits-agree}
-use Rattle.exits.specs.laws.Fair.{named-only}
+use Rattle.exits.specs.laws.Fair.{named-only, named-fair}
 use Rattle.agreement.specs.Evidence.{World, Sound, Honest}
 use Rattle.agreement.specs.laws.Evidence.{Some, backed-map, one-of}
 use Rattle.agreement.specs.History.{Act, send, commit, History, Single, Did, Event, zero, one, Stands, Naming, Guard, Lawful}
@@ -15,6 +16,14 @@ use Rattle.agreement.specs.laws.Votes.{decided-keep, decided-agree}
 use Rattle.agreement.specs.Moments.{Within, now, after}
 use Rattle.agreement.specs.laws.Moments.{before-within, before-now, before-after}
 use Rattle.agreement.specs.Agreement.{InForce, Shown, NamedBefore, Agree, Named, Valid, by-exits, in-force}
+
+-- X has what an honest one sent
+pub record HonestSent (W : World) (h : History) (X : List ℕ) : Type 0 where
+  pub who : ℕ
+  pub honest : Honest W who
+  pub value : ℕ
+  pub sent : Did h who (send value)
+  pub member : List·Memᴰ value X
 
 module _ (W : World) (G : ℕ → Act → Type 0) where
   naming-keep : (e : Event) (h : History) (X : List ℕ) (p : ℕ) → Naming W h X p → Naming W (e ∷ h) X p
@@ -65,6 +74,24 @@ module _ (W : World) (G : ℕ → Act → Type 0) where
     shown-naming h law X (in-force x) =
         let b = force-named h law X x in
         record { who = b .who; has = naming-later X (b .who) (before-within (b .before)) (b .naming) }
+
+    -- every set that is shown has what an honest one sent
+    pub honest-sent : (h : History) → Lawful W G h → (X : List ℕ) → Shown W h X → HonestSent W h X
+    honest-sent h law X x = of (shown-naming h law X x)
+      where
+        of : Some (Naming W h X) → HonestSent W h X
+        of o =
+            let s = o .has .standing in
+            let f = named-fair (W .settings) (so .ruled) (W .honest) (omega arith) s (o .has .names .exit) in
+            let y = f .fair in
+            let good : Honest W (y .at) = record { low = y .low; high = y .high; fair = y .fair } in
+            record {
+              who = y .at;
+              honest = good;
+              value = f .value;
+              sent = output-sent W G L so h law (y .at) (f .value) good (o .has .stands .outs (y .at) (f .value) (y .low) (y .high) (y .output));
+              member = subst (List·Memᴰ (f .value)) (o .has .names .set) (f .member);
+            }
 
     -- where all honest ones sent v, no other set than the one holding v alone is shown
     pub validity : (h : History) → Lawful W G h → (v : ℕ) → ((i u : ℕ) → Honest W i → Did h i (send u) → u ≡ v) → (X : List ℕ) → Shown W h X → X ≡ v ∷ []

@@ -9,7 +9,7 @@ use native.Mathlib.Omega.{arith}
 use Rattle.agreement.specs.Evidence.{World, whole, liars, Sound, Backed}
 use Rattle.agreement.specs.laws.Evidence.{sound, one-of}
 use Rattle.agreement.specs.History.{Act, send, commit, History, Did}
-use Rattle.agreement.specs.Moments.{Within, now, after}
+use Rattle.agreement.specs.Moments.{Within, now}
 use Rattle.agreement.specs.laws.Moments.{within-tail, before-now, before-after, within-trans}
 use Rattle.agreement.specs.laws.Runs as Runs
 use Rattle.held.specs.laws.Held.{Message, COMMIT}
@@ -22,7 +22,7 @@ use Rattle.agreement.specs.Journals.{journal}
 use Rattle.agreement.specs.DemandThree.{Shows, Opened, Conditions, PutIn, Earlier, OneSet, NamedFirst, OnlyInput, DemandThree}
 use Rattle.agreement.specs.laws.Machine.{Reading, Active, Laws}
 use Rattle.agreement.specs.laws.Coins.{Coined, coinsOf, agreeing-coined}
-use Rattle.agreement.specs.laws.Openings.{did, tell, status, history, opened-known, known-opened, TurnDid, did-turn}
+use Rattle.agreement.specs.laws.Openings.{did, tell, status, history, opened-known, known-opened, TurnDid, did-turn, ActedAt, acted-at}
 use Rattle.agreement.specs.laws.Chains.{Noted, history-within, Left, Live, Good, belongs, keeps, known-live}
 use Rattle.agreement.specs.laws.Lists.{all-good, left-single}
 
@@ -41,15 +41,15 @@ module _ (M : Machine) (R : Reading M) (H : ℕ → Bool) (κ : ℕ → ℕ → 
   abbrev told : List (Call M) → History
   told cs = history M R start cs
 
-  good : (cs : List (Call M)) → Here cs → Good M R H κ start S calls cs
+  pub good : (cs : List (Call M)) → Here cs → Good M R H κ start S calls cs
   good cs k = all-good M R H κ laws start S calls coined calls now conditions cs k
 
   -- an opened one
-  record Open (cs : List (Call M)) (p : ℕ) : Type 0 where
-    by-opening : M .Opening
-    live : Live M R H κ start S calls by-opening (told cs) p (words M start cs p) (journal M start cs p)
+  pub record Open (cs : List (Call M)) (p : ℕ) : Type 0 where
+    pub by-opening : M .Opening
+    pub live : Live M R H κ start S calls by-opening (told cs) p (words M start cs p) (journal M start cs p)
 
-  open-at : (cs : List (Call M)) → Here cs → (p : ℕ) → Opened M start cs p → Open cs p
+  pub open-at : (cs : List (Call M)) → Here cs → (p : ℕ) → Opened M start cs p → Open cs p
   open-at cs k p o =
       let x = opened-known M R start cs p o in
       record { by-opening = x .by-opening; live = known-live M R H κ start S calls cs (good cs k) p (x .by-opening) (x .known) }
@@ -63,10 +63,10 @@ module _ (M : Machine) (R : Reading M) (H : ℕ → Bool) (κ : ℕ → ℕ → 
     abbrev acts : Act → Type 0
     acts = Noted M R start (journal M start cs p)
 
-    owned : R .Belongs (x .by-opening) w
+    pub owned : R .Belongs (x .by-opening) w
     owned = belongs (x .live)
 
-    inv : Inv W (R .seen) Gone (told cs) acts p w
+    pub inv : Inv W (R .seen) Gone (told cs) acts p w
     inv = keeps (x .live)
 
     outs : OutputsHeld W (R .seen) w
@@ -79,15 +79,15 @@ module _ (M : Machine) (R : Reading M) (H : ℕ → Bool) (κ : ℕ → ℕ → 
     committed : {k slack : ℕ} (X : List ℕ) → HeldFrom W (R .seen) w k slack (COMMIT X) → Backed W k slack (λ m. Did (told cs) m (commit X))
     committed X b = backing W (R .seen) Gone (told cs) acts p w inv outs (COMMIT X) b
 
-    show : (X : List ℕ) → Shows M w X → Shown W (told cs) X
+    pub show : (X : List ℕ) → Shows M w X → Shown W (told cs) X
     show X (inl n) = shows-named W (R .seen) Gone (told cs) acts p w inv outs X (rw (x .live .session) at (laws .names-exits (x .by-opening) w owned X n))
     show X (inr f) = shows-force W (R .seen) Gone (told cs) acts p w inv outs X (force-held X f)
 
-    sound-at : (L : ℕ) → L ≤ W .settings .ts → liars W ≤ L → Sound W L
+    pub sound-at : (L : ℕ) → L ≤ W .settings .ts → liars W ≤ L → Sound W L
     sound-at L b f = sound W L (x .live .ruled) b f
 
   -- a turn that did a
-  active : (cs : List (Call M)) → Here cs → (p : ℕ) (a : Act) (d : TurnDid M R start (words M start cs p) (status M R start cs p) a) → Active M R H κ (d .by-opening) (words M start cs p) (d .lent) a
+  pub active : (cs : List (Call M)) → Here cs → (p : ℕ) (a : Act) (d : TurnDid M R start (words M start cs p) (status M R start cs p) a) → Active M R H κ (d .by-opening) (words M start cs p) (d .lent) a
   active cs k p a d =
       let live = known-live M R H κ start S calls cs (good cs k) p (d .by-opening) (d .known) in
       rw (d .acts) at (laws .turn-told (d .by-opening) (words M start cs p) (owned cs p (record { by-opening = d .by-opening; live = live })) (inv cs p (record { by-opening = d .by-opening; live = live }) .coins) (d .lent))
@@ -146,36 +146,38 @@ module _ (M : Machine) (R : Reading M) (H : ℕ → Bool) (κ : ℕ → ℕ → 
         let c = one-of W so (omega arith) (committed cs p x X (force-held cs p x X f)) in
         commit-earlier cs k (c .who) (c .has)
 
-  -- ---- equal inputs
+  -- ---- what was sent was put in
 
-  sent-input : (v : ℕ) (cs : List (Call M)) → Here cs → PutIn M start v cs → (p u : ℕ) → Did (told cs) p (send u) → u ≡ v
-  unfolding history
-  sent-input v [] k i p u d = absurd d
-  sent-input v (c ∷ cs) k i p u d = at (did M R c (words M start cs (place M c)) (status M R start cs (place M c))) refl d (sent-input v cs later (λ q o ds s. i q o ds (after c s)) p u)
+  -- u is the input with which p is opened
+  pub record SentBy (cs : List (Call M)) (p u : ℕ) : Type 0 where
+    pub opened : Opened M start cs p
+    pub input : u ≡ M .input (opened .given)
+
+  pub sent-by : (cs : List (Call M)) → Here cs → (p u : ℕ) → Did (told cs) p (send u) → SentBy cs p u
+  sent-by cs k p u d = of (acted-at M R start cs p (send u) d)
     where
-      later : Here cs
-      later = within-tail c k
-
-      given : TurnDid M R start (words M start cs (place M c)) (status M R start cs (place M c)) (send u) → u ≡ v
-      given d =
-          let o = known-opened M R start cs (place M c) (d .by-opening) (d .known) in
+      of : ActedAt M R start cs p (send u) → SentBy cs p u
+      of t =
+          let here : Here (t .past) = within-trans (within-tail (t .call) (t .within)) k in
+          let o = known-opened M R start (t .past) p (t .turn .by-opening) (t .turn .known) in
           let y = o .is-opened in
-          active cs later (place M c) (send u) d .input u refl
-          ∙ ap (M .input) (sym (o .same))
-          ∙ i (place M c) (y .given) (y .past) (after c (y .within)) (y .numbered) (y .accepted)
+          record {
+            opened = record { given = y .given; past = y .past; within = within-trans (y .within) (within-tail (t .call) (t .within)); numbered = y .numbered; accepted = y .accepted };
+            input = active (t .past) here p (send u) (t .turn) .input u refl ∙ ap (M .input) (sym (o .same));
+          }
 
-      at : (x : Option Act) → did M R c (words M start cs (place M c)) (status M R start cs (place M c)) ≡ x → Did (tell M R (place M c) x (told cs)) p (send u) → (Did (told cs) p (send u) → u ≡ v) → u ≡ v
-      at none e d rest = rest d
-      at (some a) e (inl z) rest =
-          let same : a ≡ send u = cc in
-          given (did-turn M R start c (words M start cs (place M c)) (status M R start cs (place M c)) (send u) (e ∙ ap some same))
-      at (some a) e (inr d) rest = rest d
+  -- where all put in v, v was sent
+  sent-input : (v : ℕ) (cs : List (Call M)) → Here cs → PutIn M start v cs → (p u : ℕ) → Did (told cs) p (send u) → u ≡ v
+  sent-input v cs k i p u d =
+      let s = sent-by cs k p u d in
+      let o = s .opened in
+      s .input ∙ i p (o .given) (o .past) (o .within) (o .numbered) (o .accepted)
 
 -- ---- the claims
 
 module _ (M : Machine) (R : Reading M) (laws : (H : ℕ → Bool) (κ : ℕ → ℕ → Bool) → Laws M R H κ) where
   -- the coins of a list that meets the conditions
-  coins : (S : M .Session) (H : ℕ → Bool) (start : ℕ → M .Words) (cs : List (Call M)) → Conditions M start S H cs → Coined M start S (coinsOf M R start S cs) cs
+  pub coins : (S : M .Session) (H : ℕ → Bool) (start : ℕ → M .Words) (cs : List (Call M)) → Conditions M start S H cs → Coined M start S (coinsOf M R start S cs) cs
   coins S H start cs k = agreeing-coined M R start (λ w x e. laws H (M .coin S) .record-binary w x e) S cs (k .coins)
 
   one-set : OneSet M

@@ -1,10 +1,13 @@
--- The engine keeps the laws, so agreement holds of it.
+-- The engine keeps the laws, so agreement holds of it, and its sets have honest packs.
 use Prim.Native.Nat.{ℕ}
 use mathlib.Core.Bool.{Bool}
 use Rattle.calls.specs.Engine.{engine}
+use Rattle.agreement.specs.History.{one}
 use Rattle.agreement.specs.DemandThree.{EngineAgrees}
+use Rattle.agreement.specs.HonestPack.{EngineHonestPack, EngineOutputFirst}
 use Rattle.agreement.specs.laws.Machine.{Laws}
 use Rattle.agreement.specs.laws.Demand.{demand-three}
+use Rattle.agreement.specs.laws.HonestPack.{honest-pack, output-first}
 use Rattle.agreement.specs.laws.EngineReading.{engineReading}
 use Rattle.agreement.specs.laws.EngineOpening.{open-ruled, open-belongs, open-blank, open-coins, open-refused}
 use Rattle.agreement.specs.laws.EngineDelivery.{deliver-refused, deliver-accepted, says-one}
@@ -37,7 +40,15 @@ engine-laws H κ =
       names-exits = λ o w x. names-exits o H κ w (x .words);
       exits-names = λ o w x. exits-names o H κ w (x .words);
       force-held = λ o w x. force-held o H κ w (x .words);
+      shown-outputs = λ o w x i v e. e;
+      one-decided = λ o w x i e. one e;
     }
 
 pub engine-agrees : EngineAgrees
 engine-agrees = demand-three engine engineReading engine-laws
+
+pub engine-honest-pack : EngineHonestPack
+engine-honest-pack = honest-pack engine engineReading engine-laws
+
+pub engine-output-first : EngineOutputFirst
+engine-output-first = output-first engine engineReading engine-laws

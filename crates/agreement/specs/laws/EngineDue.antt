@@ -19,7 +19,10 @@ use Rattle.acts.specs.declared.Act as acts
 use Rattle.acts.specs.declared.Act.the-variants as act
 use Rattle.acts.specs.declared.View.{View}
 use Rattle.acts.specs.declared.View.the-variants.{Only, Both}
-use Rattle.broadcasts.specs.Leading.{holders}
+use Rattle.broadcasts.specs.Leading.{present, holders}
+use Rattle.broadcasts.specs.Broadcasts.{output}
+use Rattle.broadcasts.specs.declared.Output.{Output}
+use Rattle.broadcasts.specs.declared.Output.the-variants.{Value, Nothing}
 use Rattle.broadcasts.specs.laws.Broadcasts.{ready-rests, output-holders}
 use Rattle.votes.specs.Votes.{estCount, accepted, carries, carriers, auxCount}
 use Rattle.votes.specs.Finishing.{finishCount}
@@ -43,6 +46,11 @@ some-held : (a b x y : Bool) → (a && x) || (b && y) ≡ true → (x ≡ true) 
 some-held a b true y e = inl refl
 some-held a b false true e = inr refl
 some-held a b false false e = absurd (true≢false (sym e ∙ rw (and-false a, and-false b)))
+
+-- a broadcast that has output has a value
+present-value : (x : Output) → present x ≡ true → (v : ℕ) × (x ≡ Value v)
+present-value (Value v) e = (v, refl)
+present-value Nothing e = absurd (true≢false (sym e))
 
 -- an act that shows is due
 abbrev pub ShownDue : World → List ℕ → Option Act → Type 0
@@ -188,7 +196,7 @@ module _ (s : List ℕ) (ruled : Ruled (settingsOf s)) (size : length s ≡ 2048
   shown-due (act.Echo i v) x =
       (λ e. true≢false (sym e ∙ x .unsent), record { instance = numbered (x .among); there = x .held; same = sym (x .same) })
   shown-due (act.Ready i v) x = ready-due i v (numbered (x .among)) (ready-rests g s i v (x .rests))
-  shown-due (act.Start i b) x = tt
+  shown-due (act.Start i b) x = λ e. present-value (output g s i) (x .1 .one e)
   shown-due (act.Relay i r b) x = relay-due i r b (voting (x .0) (x .1 .low) (x .1 .high) (x .1 .bit)) (x .1 .held)
   shown-due (act.Aux i r b) x = λ e. true≢false (sym (e .1) ∙ x .1 .unsent)
   shown-due (act.Move i r v) x = move-due i r v (x .0) (x .1)

@@ -1,5 +1,6 @@
--- The laws that a machine must keep so that the claims of specs/DemandThree.antt hold of it. A machine comes with a reading of its words:
--- what they show, what a turn does, which words belong to a session, and what bytes say. The laws ask of words that belong to a session:
+-- The laws that a machine must keep so that the claims of specs/DemandThree.antt and specs/HonestPack.antt hold of it. A machine comes with a
+-- reading of its words: what they show, what a turn does, which words belong to a session, and what bytes say. The laws ask of words that belong
+-- to a session:
 --   opening    accepted: the settings are within the rules, the words belong to the session and show nothing held or decided.
 --   delivery   refused: the words stay. Accepted: the bytes say one message, and the words hold at most that one more; what is newly decided
 --              has FINISHes from the accept threshold.
@@ -11,6 +12,7 @@
 --   coins      right after an opening the words show the printed coins, and in a boxed session none; deliveries and turns add none. What a turn
 --              does is told for all coins κ that agree with those shown: so a move reads no coin that is not shown.
 --   report     an output has its READYs; the set named is the exits'; a set in force has its COMMITs.
+--   standing   an output that the words show is one, and what is decided 1 shows.
 use Prim.Native.Nat.{ℕ, _≤_}
 use mathlib.Core.Bool.{Bool, true, false}
 use mathlib.Core.List.{List, [], _++_}
@@ -20,7 +22,8 @@ use mathlib.Core.Path.{_≡_}
 use Rattle.settings.specs.Rules.{Ruled}
 use Rattle.votes.specs.Votes.{coinValue}
 use Rattle.agreement.specs.Evidence.{World, whole}
-use Rattle.agreement.specs.History.{Act, send, Names}
+use Rattle.broadcasts.specs.declared.Output.the-variants.{Value}
+use Rattle.agreement.specs.History.{Act, send, Decision, Names}
 use Rattle.held.specs.laws.Held.{Message, COMMIT}
 use Rattle.agreement.specs.laws.Runs.{message, Seen, HeldFrom, OutputsHeld, Due, Kept, Delivered, Acted, Blank, CoinsAre, CoinsStay}
 use Rattle.calls.specs.Machine.{Machine, Call}
@@ -116,3 +119,6 @@ module _ (M : Machine) (R : Reading M) (H : ℕ → Bool) (κ : ℕ → ℕ → 
     pub names-exits : (o : M .Opening) (w : M .Words) → R .Belongs o w → (X : List ℕ) → M .Names w X → Names (at o .settings) (R .seen .standing w) X
     pub exits-names : (o : M .Opening) (w : M .Words) → R .Belongs o w → (l : M .Lent) (a : Act) → R .act w l ≡ some a → (X : List ℕ) → Names (at o .settings) (R .seen .standing w) X → M .Names w X
     pub force-held : (o : M .Opening) (w : M .Words) → R .Belongs o w → (X : List ℕ) → M .InForce w X → HeldFrom (at o) (R .seen) w (whole (at o)) (at o .settings .ts) (COMMIT X)
+    -- outputs and decisions
+    pub shown-outputs : (o : M .Opening) (w : M .Words) → R .Belongs o w → (i v : ℕ) → R .seen .standing w .out i ≡ Value v → M .Outputs w i v
+    pub one-decided : (o : M .Opening) (w : M .Words) → R .Belongs o w → (i : ℕ) → M .DecidedOne w i → Decision (R .seen .standing w) i 1

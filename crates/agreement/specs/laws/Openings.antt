@@ -2,12 +2,13 @@
 use Prim.Native.Nat.{ℕ}
 use mathlib.Core.Bool.{Bool, true, false, _&&_, cond}
 use mathlib.Core.List.{List, [], _∷_}
+use mathlib.Core.Logic.{inl, inr}
 use mathlib.Core.Option.{Option, none, some}
-use mathlib.Core.Path.{_≡_, refl, sym, _∙_}
+use mathlib.Core.Path.{_≡_, refl, sym, ap, _∙_}
 use native.Mathlib.Omega.{arith}
 use lib.Dec.{eqb}
 use borrow.Author.Tests.{eq-eqb, eqb-true}
-use Rattle.agreement.specs.History.{Act, History, by}
+use Rattle.agreement.specs.History.{Act, History, by, Did}
 use Rattle.agreement.specs.Moments.{Within, now, after}
 use Rattle.calls.specs.Machine.{Machine, Call, opening, delivery, turn, report, restore, recording, place, words}
 use Rattle.agreement.specs.DemandThree.{Opened}
@@ -146,3 +147,27 @@ module _ (M : Machine) (R : Reading M) (start : ℕ → M .Words) where
   did-turn (report p r) w st a e = absurd (none-some a e)
   did-turn (restore p v r) w st a e = absurd (none-some a e)
   did-turn (recording p x) w st a e = absurd (none-some a e)
+
+  -- the turn that did a
+  pub record ActedAt (cs : List (Call M)) (p : ℕ) (a : Act) : Type 0 where
+    pub call : Call M
+    pub past : List (Call M)
+    pub within : Within (call ∷ past) cs
+    pub here : place M call ≡ p
+    pub turn : TurnDid (words M start past p) (status past p) a
+
+  pub acted-at : (cs : List (Call M)) (p : ℕ) (a : Act) → Did (history cs) p a → ActedAt cs p a
+  unfolding history
+  acted-at [] p a d = absurd d
+  acted-at (c ∷ cs) p a d = at (did M R c (words M start cs (place M c)) (status cs (place M c))) refl d (λ e. later (acted-at cs p a e))
+    where
+      later : ActedAt cs p a → ActedAt (c ∷ cs) p a
+      later x = record { call = x .call; past = x .past; within = after c (x .within); here = x .here; turn = x .turn }
+
+      at : (x : Option Act) → did M R c (words M start cs (place M c)) (status cs (place M c)) ≡ x → Did (tell M R (place M c) x (history cs)) p a → (Did (history cs) p a → ActedAt (c ∷ cs) p a) → ActedAt (c ∷ cs) p a
+      at none e d rest = rest d
+      at (some b) e (inl z) rest =
+          let same : b ≡ a = cc in
+          let here : place M c ≡ p = cc in
+          record { call = c; past = cs; within = now; here = here; turn = rw here at (did-turn c (words M start cs (place M c)) (status cs (place M c)) a (e ∙ ap some same)) }
+      at (some b) e (inr d) rest = rest d

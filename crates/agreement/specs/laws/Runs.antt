@@ -126,7 +126,7 @@ module _ (W : World) {St : Type 0} (S : Seen St) where
   Due s (send v) = Unit {0}
   Due s (echo i v) = (S .echoed s i → ⊥) × S .holds s i (SEND v)
   Due s (ready i v) = HeldFrom s (whole W) (W .settings .ts) (ECHO i v) ⊎ HeldFrom s (W .settings .ts + 1) 0 (READY i v)
-  Due s (start i b) = Unit {0}
+  Due s (start i b) = b ≡ 1 → (v : ℕ) × (S .standing s .out i ≡ Value v)
   Due s (relay i r b) = HeldFrom s (W .settings .ta + 1) 0 (EST i r b)
   Due s (aux i r b) = S .auxed s i r → ⊥
   Due s (move i r v) = MoveDue s i r v

@@ -1,7 +1,8 @@
 -- Votes over lawful histories, with up to ta liars: all decisions of a vote, in whatever rounds and at whichever honest concentrators, are
--- one value. The lock: once a move decides b in a round, every move of that round and of each later one takes b with it. FINISHes, and what
--- they decide, go back to a deciding move.
-use Prim.Native.Nat.{ℕ, suc, _≤_}
+-- one value, and some honest one started with it. The lock: once a move decides b in a round, every move of that round and of each later one
+-- takes b with it. FINISHes, and what they decide, go back to a deciding move.
+use Prim.Native.Nat.{ℕ, zero, suc, _≤_}
+use mathlib.Core.Bool.{Bool, true, false}
 use mathlib.Core.List.{_∷_}
 use mathlib.Core.Logic.{inl, inr}
 use mathlib.Core.Path.{_≡_, refl, sym, subst, _∙_}
@@ -12,7 +13,7 @@ use Rattle.acts.specs.declared.View.the-variants.{Only, Both}
 use Rattle.votes.specs.Votes.{estimate, coinValue}
 use Rattle.agreement.specs.Evidence.{World, Sound}
 use Rattle.agreement.specs.laws.Evidence.{Some, backed-map, one-of, two-of}
-use Rattle.agreement.specs.History.{Act, relay, move, finish, History, Did, Event, Single, Occurs, Own, started, moved, Est, own, relayed, Accepted, Moving, Deciding, Decided, by-move, by-finish, Guard, Lawful}
+use Rattle.agreement.specs.History.{Act, start, relay, move, finish, History, Did, Event, Single, Occurs, Own, started, moved, Est, own, relayed, Accepted, Moving, Deciding, Decided, by-move, by-finish, Guard, Lawful}
 use Rattle.agreement.specs.laws.History.{by-history}
 
 -- what is in a history stays
@@ -39,6 +40,12 @@ module _ (W : World) (e : Event) (h : History) where
   pub decided-keep : (p i b : ℕ) → Decided W h p i b → Decided W (e ∷ h) p i b
   decided-keep p i b (by-move x) = by-move (deciding-keep i b p x)
   decided-keep p i b (by-finish x) = by-finish (backed-map W (λ m hm d. inr d) x)
+
+-- the estimate of a move is a value that it sees
+estimate-seen : (c : Bool) (v : View) (b : ℕ) → estimate c v ≡ b → Occurs b v
+estimate-seen c (Only x) b e = sym e
+estimate-seen true Both b e = inr (sym e)
+estimate-seen false Both b e = inl (sym e)
 
 module _ (W : World) (G : ℕ → Act → Type 0) (so : Sound W (W .settings .ta)) where
   -- ---- where an EST comes from
@@ -137,3 +144,30 @@ module _ (W : World) (G : ℕ → Act → Type 0) (so : Sound W (W .settings .ta
         go : Some (Deciding W h i b) → Some (Deciding W h i c) → b ≡ c
         go u v =
             elim (decLe (u .has .round) (v .has .round)) [ yes le ↦ sym (later-agrees b c (u .who) (v .who) (u .has) (v .has) le) | no l ↦ later-agrees c b (v .who) (u .who) (v .has) (u .has) (omega arith) ]
+
+  -- ---- a decided value was started with
+
+  module _ (h : History) (law : Lawful W G h) (i b : ℕ) where
+    abbrev Started : Type 0
+    Started = Some (λ m. Did h m (start i b))
+
+    -- an own EST goes back, round by round, to a start: a move sees what it takes with it, and what it sees was some honest one's own there
+    own-started : (r m : ℕ) → Own W h i r b m → Started
+    own-started zero m (started x d) = absurd (omega arith)
+    own-started zero m (moved q v x e d) = absurd (omega arith)
+    own-started (suc r) m (started x d) = record { who = m; has = d }
+    own-started (suc r) m (moved q v x e d) = back (λ k y. own-started r k y)
+      where
+        same : q ≡ r
+        same = omega arith
+
+        back : ((k : ℕ) → Own W h i r b k → Started) → Started
+        back rest =
+            let o = accepted-own h law i q b (move-moving i q v h law m d .accepted b (estimate-seen (W .coin i q) v b e)) in
+            rest (o .who) (subst (λ (n : ℕ). Own W h i n b (o .who)) same (o .has))
+
+    pub decided-started : (p : ℕ) → Decided W h p i b → Started
+    decided-started p x =
+        let d = decided-deciding h law p i b x in
+        let o = accepted-own h law i (d .has .round) b (move-moving i (d .has .round) (Only b) h law (d .who) (d .has .move) .accepted b refl) in
+        own-started (d .has .round) (o .who) (o .has)
