@@ -60,9 +60,31 @@ pub fn exit(
         return Exit::Two(value);
     }
     if all_decided && in_s().count() == decided_one().count() {
-        return Exit::Three(in_s().map(|(_, &value)| value).collect());
+        let s = in_s().map(|(_, &value)| value).collect();
+        return if fault == Fault::OutsideS {
+            exit_outside(s, outputs, decisions)
+        } else {
+            Exit::Three(s)
+        };
     }
     Exit::None
+}
+
+/// Exit 3 with [`Fault::OutsideS`], where it would name `s`.
+fn exit_outside(
+    s: PackSet,
+    outputs: &BTreeMap<Number, u64>,
+    decisions: &BTreeMap<Number, bool>,
+) -> Exit {
+    if outputs.len() < decisions.len() {
+        return Exit::None;
+    }
+    let outside: PackSet = outputs
+        .iter()
+        .filter(|(instance, _)| !decisions[*instance])
+        .map(|(_, &value)| value)
+        .collect();
+    Exit::Three(if outside.is_empty() { s } else { outside })
 }
 
 /// The least that is more than s/2.

@@ -1,5 +1,5 @@
-//! 01, "Faults seen in code of this trade", two that weights bring, one of boxed coins and three of FINISHes (02, N11, N12
-//! and N6): built in on request, so that a test can show that it finds them.
+//! 01, "Faults seen in code of this trade", two that weights bring, one of boxed coins, three of FINISHes (02, N11, N12 and
+//! N6), and two against what sets hold (N9): built in on request, so that a test can show that it finds them.
 
 /// A fault that a session is opened with. Everything but a test takes `None`.
 #[derive(Clone, Copy, Debug, Default, PartialEq, Eq)]
@@ -28,10 +28,14 @@ pub enum Fault {
     RepeatedFinish,
     /// FINISHes of the other value counted for the one that is delivered.
     MixedFinishes,
+    /// A vote started with 1 before its broadcast has output, once its SEND is held.
+    EarlyStart,
+    /// Exit 3 takes the broadcasts that are not in S, where there are any, once all n have output.
+    OutsideS,
 }
 
 impl Fault {
-    pub const ALL: [Fault; 12] = [
+    pub const ALL: [Fault; 14] = [
         Fault::None,
         Fault::OpenVote,
         Fault::TaForTs,
@@ -44,6 +48,8 @@ impl Fault {
         Fault::FinishOnTa,
         Fault::RepeatedFinish,
         Fault::MixedFinishes,
+        Fault::EarlyStart,
+        Fault::OutsideS,
     ];
 
     /// The name taken on a command line.
@@ -61,6 +67,8 @@ impl Fault {
             Fault::FinishOnTa => "finish-on-ta",
             Fault::RepeatedFinish => "repeated-finish",
             Fault::MixedFinishes => "mixed-finishes",
+            Fault::EarlyStart => "early-start",
+            Fault::OutsideS => "outside-s",
         }
     }
 

@@ -12,6 +12,8 @@ pub mod c_calendar;
 pub mod c_delivery_lists;
 #[cfg(feature = "c-engine")]
 pub mod c_engine;
+#[cfg(feature = "c-engine")]
+mod c_standing;
 pub mod calendar;
 pub mod calendar_engine;
 pub mod coin_box;
@@ -32,6 +34,7 @@ mod refusal;
 mod report;
 mod session;
 mod settings;
+pub mod standing_engine;
 pub mod traces;
 mod votes;
 

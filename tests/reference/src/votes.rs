@@ -87,12 +87,16 @@ impl Session {
         if self.vote(instance).round != 0 {
             return None;
         }
-        let value = self.output(instance).is_some();
+        let value = self.output(instance).is_some() || self.starts_early(instance);
         if value || self.decided_one() >= self.settings.vote_quorum() {
             Some(self.enter(instance, 1, value))
         } else {
             None
         }
+    }
+
+    fn starts_early(&self, instance: Number) -> bool {
+        self.fault == Fault::EarlyStart && self.records.send(instance).is_some()
     }
 
     /// Enters a round and sends its EST.

@@ -17,6 +17,7 @@ fn sound_engine_holds() {
     assert!(statistics.restores > 0 && statistics.lost_lines > 0, "{statistics}");
     assert!(statistics.boxed > 0 && statistics.recordings > 0, "{statistics}");
     assert!(statistics.version_2 > 0 && statistics.finishes > 0, "{statistics}");
+    assert!(statistics.over_ta > 0, "{statistics}");
 }
 
 #[test]
@@ -51,6 +52,16 @@ fn each_fault_is_found_and_repeats() {
         let (_, again) = run_feeder(&engine, Conditions::Met, finding.seed);
         assert_eq!(again, Err(finding.violation));
     }
+}
+
+/// It is the claims of 02, N9 that find these.
+#[test]
+fn faults_in_what_sets_hold_are_found_by_it() {
+    let found = |fault| attack(&Reference { fault }, Conditions::Met, SEED, FEEDERS).1.unwrap();
+    let early = found(Fault::EarlyStart).violation;
+    assert!(matches!(early, Violation::NoOutput { .. }), "{early}");
+    let outside = found(Fault::OutsideS).violation;
+    assert!(matches!(outside, Violation::NoHonestPack { .. }), "{outside}");
 }
 
 /// All but those of calendar and delivery lists, which no call on a state gives.

@@ -1,10 +1,11 @@
-//! Demand 3 as a check after every call at an honest concentrator.
+//! Demand 3 and the two claims of 02, N9 as a check after every call at an honest concentrator.
 
 use std::collections::BTreeSet;
 use std::fmt;
 
 use crate::message::PackSet;
 use crate::settings::Number;
+use crate::standing_engine::Standing;
 
 /// What demand 3 asks of the list of calls, and whether a feeder keeps to it.
 #[derive(Clone, Copy, Debug, PartialEq, Eq)]
@@ -16,15 +17,27 @@ pub enum Conditions {
     OtherBits,
 }
 
-/// What a report shows at an opened honest concentrator.
+/// What a report shows at an opened honest concentrator, and the outputs and decisions in its state.
 #[derive(Clone, Debug, PartialEq, Eq)]
 pub struct Shown {
     pub exit: u8,
     pub named: Option<PackSet>,
     pub in_force: Option<PackSet>,
+    pub standing: Standing,
 }
 
-/// How demand 3, or the bound on turns, was broken.
+/// What is owed, by what the liars weigh.
+#[derive(Clone, Copy, Debug, PartialEq, Eq)]
+pub struct Owed {
+    /// Where they weigh ta at most: all sets are one, and a vote is decided 1 only after an output (PROTOCOL 16.8, 16.19).
+    pub up_to_ta: bool,
+    /// Where they weigh ts at most: what is in force was named, and every set has an honest pack (PROTOCOL 16.9, 16.18).
+    pub up_to_ts: bool,
+    /// Where, besides, every honest one that is opened puts in this pack: no other is in force (PROTOCOL 16.10).
+    pub pack: Option<u64>,
+}
+
+/// How a claim, or the bound on turns, was broken.
 #[derive(Clone, Debug, PartialEq, Eq)]
 pub enum Violation {
     /// Two different sets are named or in force.
@@ -33,6 +46,10 @@ pub enum Violation {
     NotNamed { at: Number, in_force: PackSet },
     /// All put in `pack`, and another set is in force.
     OtherPack { at: Number, in_force: PackSet, pack: u64 },
+    /// A set is named or in force, and no honest one that is opened put in a pack of it.
+    NoHonestPack { at: Number, set: PackSet },
+    /// A vote is decided 1, and its broadcast had no output at an honest one after an earlier call.
+    NoOutput { at: Number, vote: Number },
     /// More turns that were not idle than the version allows, or a count that is not their number.
     Turns { at: Number, taken: u64, reported: u64 },
     /// An answer that the rules rule out.
@@ -51,6 +68,12 @@ impl fmt::Display for Violation {
             Violation::OtherPack { at, in_force, pack } => {
                 write!(f, "{in_force:?} in force at {at}, and all put in {pack}")
             }
+            Violation::NoHonestPack { at, set } => {
+                write!(f, "{set:?} at {at}, and no honest one put in a pack of it")
+            }
+            Violation::NoOutput { at, vote } => {
+                write!(f, "vote {vote} decided 1 at {at}, and its broadcast had no output before")
+            }
             Violation::Turns { at, taken, reported } => {
                 write!(f, "{taken} turns at {at}, {reported} reported")
             }
@@ -61,22 +84,24 @@ impl fmt::Display for Violation {
     }
 }
 
-/// Demand 3 over the list of calls made so far.
+/// The claims over the list of calls made so far.
 #[derive(Clone, Debug)]
 pub struct Claim {
-    /// The first half is owed: the liars weigh at most ta.
-    agreement: bool,
-    /// The second half is owed: every honest one that is opened put in this pack.
-    pack: Option<u64>,
+    owed: Owed,
     /// The set named or in force so far.
     agreed: Option<PackSet>,
     /// The sets that exits named after the calls so far.
     named: BTreeSet<PackSet>,
+    /// The packs that the honest ones put in that are opened so far.
+    inputs: BTreeSet<u64>,
+    /// The broadcasts that had output at an honest one after the calls so far.
+    outputs: BTreeSet<Number>,
 }
 
 impl Claim {
-    pub fn new(agreement: bool, pack: Option<u64>) -> Claim {
-        Claim { agreement, pack, agreed: None, named: BTreeSet::new() }
+    pub fn new(owed: Owed) -> Claim {
+        let (named, inputs, outputs) = (BTreeSet::new(), BTreeSet::new(), BTreeSet::new());
+        Claim { owed, agreed: None, named, inputs, outputs }
     }
 
     /// A set was named or in force.
@@ -84,12 +109,22 @@ impl Claim {
         self.agreed.is_some()
     }
 
-    /// Checks what a report would show at `at` after a call.
+    /// An honest one is opened with this pack.
+    pub fn put_in(&mut self, pack: u64) {
+        self.inputs.insert(pack);
+    }
+
+    /// Checks what shows at `at` after a call.
     pub fn check(&mut self, at: Number, shown: &Shown) -> Result<(), Violation> {
-        if self.agreement {
-            self.check_agreement(at, shown)?;
+        if self.owed.up_to_ta {
+            self.check_one_set(at, shown)?;
+            self.check_outputs(at, shown)?;
         }
-        if let (Some(pack), Some(in_force)) = (self.pack, &shown.in_force) {
+        if self.owed.up_to_ts {
+            self.check_named(at, shown)?;
+            self.check_honest_packs(at, shown)?;
+        }
+        if let (Some(pack), Some(in_force)) = (self.owed.pack, &shown.in_force) {
             if *in_force != PackSet::from([pack]) {
                 return Err(Violation::OtherPack { at, in_force: in_force.clone(), pack });
             }
@@ -99,21 +134,41 @@ impl Claim {
                 self.named.insert(named.clone());
             }
         }
+        self.outputs.extend(&shown.standing.outputs);
         Ok(())
     }
 
-    fn check_agreement(&mut self, at: Number, shown: &Shown) -> Result<(), Violation> {
+    fn check_one_set(&mut self, at: Number, shown: &Shown) -> Result<(), Violation> {
         for now in shown.named.iter().chain(&shown.in_force) {
             let earlier = self.agreed.get_or_insert_with(|| now.clone());
             if earlier != now {
                 return Err(Violation::TwoSets { at, earlier: earlier.clone(), now: now.clone() });
             }
         }
+        Ok(())
+    }
+
+    /// What this call brought about is no output before it.
+    fn check_outputs(&self, at: Number, shown: &Shown) -> Result<(), Violation> {
+        match shown.standing.decided_one.difference(&self.outputs).next() {
+            Some(&vote) => Err(Violation::NoOutput { at, vote }),
+            None => Ok(()),
+        }
+    }
+
+    fn check_named(&self, at: Number, shown: &Shown) -> Result<(), Violation> {
         match &shown.in_force {
             Some(in_force) if !self.named.contains(in_force) => {
                 Err(Violation::NotNamed { at, in_force: in_force.clone() })
             }
             _ => Ok(()),
+        }
+    }
+
+    fn check_honest_packs(&self, at: Number, shown: &Shown) -> Result<(), Violation> {
+        match shown.named.iter().chain(&shown.in_force).find(|set| set.is_disjoint(&self.inputs)) {
+            Some(set) => Err(Violation::NoHonestPack { at, set: set.clone() }),
+            None => Ok(()),
         }
     }
 }

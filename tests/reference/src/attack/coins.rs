@@ -8,10 +8,11 @@ use super::journal::Noted;
 use super::plan::Group;
 use crate::box_engine::BoxEngine;
 use crate::coin_box::Reply;
-use crate::engine::{Coin, Engine};
+use crate::engine::Coin;
 use crate::journal::LINE_BYTES;
 use crate::packing::unpack_request;
 use crate::settings::{Number, Round};
+use crate::standing_engine::StandingEngine;
 
 /// The kind of an EST, byte 1 of the message.
 const EST: u8 = 4;
@@ -58,7 +59,7 @@ impl Seen {
     }
 }
 
-impl<E: Engine + BoxEngine> Feeder<'_, E> {
+impl<E: BoxEngine + StandingEngine> Feeder<'_, E> {
     pub(super) fn open_box(&mut self) -> Result<(), Violation> {
         if !self.plan.boxed {
             return Ok(());

@@ -11,13 +11,13 @@ use super::plan::{Opened, Plan};
 use super::random::Random;
 use super::Statistics;
 use crate::box_engine::BoxEngine;
-use crate::engine::Engine;
 use crate::journal::{LINE_BYTES, TURN_LINE};
 use crate::message::{PackSet, LONGEST};
 use crate::packing::{refusal, unpack_report, unpack_turn, TurnAnswer};
 use crate::refusal::Refusal;
 use crate::report::SET_WORDS;
 use crate::settings::{Number, Version, Weight};
+use crate::standing_engine::StandingEngine;
 
 /// The kind of a FINISH, byte 1 of the message.
 pub(super) const FINISH: u8 = 7;
@@ -47,7 +47,7 @@ pub(super) struct Parcel {
     pub sent: Sent,
 }
 
-pub struct Feeder<'a, E: Engine + BoxEngine> {
+pub struct Feeder<'a, E: BoxEngine + StandingEngine> {
     pub(super) engine: &'a E,
     pub(super) plan: &'a Plan,
     pub(super) conditions: Conditions,
@@ -69,7 +69,7 @@ pub struct Feeder<'a, E: Engine + BoxEngine> {
     pub statistics: Statistics,
 }
 
-impl<'a, E: Engine + BoxEngine> Feeder<'a, E> {
+impl<'a, E: BoxEngine + StandingEngine> Feeder<'a, E> {
     pub fn new(engine: &'a E, plan: &'a Plan, conditions: Conditions, seed: u64) -> Self {
         let blank = |&number: &Number| {
             let (opened, closed, taken) = (false, false, 0);
@@ -89,7 +89,7 @@ impl<'a, E: Engine + BoxEngine> Feeder<'a, E> {
             parcels: BTreeMap::new(),
             parcel_count: 0,
             now: 0,
-            claim: Claim::new(plan.owes_agreement(), plan.owed_pack()),
+            claim: Claim::new(plan.owed()),
             finished: BTreeMap::new(),
             muted: None,
             statistics: Statistics::default(),
@@ -100,6 +100,7 @@ impl<'a, E: Engine + BoxEngine> Feeder<'a, E> {
     pub fn run(&mut self) -> Result<(), Violation> {
         self.statistics.settings.insert(self.plan.settings);
         self.statistics.version_2 += u64::from(self.plan.settings.version() == Version::Two);
+        self.statistics.over_ta += u64::from(!self.plan.owed().up_to_ta);
         self.open_box()?;
         self.send_script();
         (0..self.faces.len()).for_each(|face| self.act_as_face(face));
@@ -152,6 +153,7 @@ impl<'a, E: Engine + BoxEngine> Feeder<'a, E> {
         let wrong = Violation::Answer { at: number, call: "opening", answer };
         honest.journal.add(Noted::Opening, written.ok_or(wrong)?);
         honest.opened = true;
+        self.claim.put_in(opening.input);
         self.check(number)?;
         self.act(number).map(drop)
     }
@@ -304,7 +306,7 @@ impl<'a, E: Engine + BoxEngine> Feeder<'a, E> {
         }
     }
 
-    /// Checks demand 3 and the count of turns after a call.
+    /// Checks the claims and the count of turns after a call.
     pub(super) fn check(&mut self, number: Number) -> Result<(), Violation> {
         self.statistics.calls += 1;
         let honest = &self.honest[&number];
@@ -319,6 +321,7 @@ impl<'a, E: Engine + BoxEngine> Feeder<'a, E> {
             exit: report.exit,
             named: written(&named, report.named).ok_or(wrong.clone())?,
             in_force: written(&in_force, report.in_force).ok_or(wrong.clone())?,
+            standing: self.engine.standing(&honest.state),
         };
         let exit_fits = report.exit <= 3 && (report.exit == 0) == shown.named.is_none();
         if !exit_fits || honest.closed != shown.in_force.is_some() {

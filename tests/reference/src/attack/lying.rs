@@ -7,11 +7,11 @@ use super::feeder::{Feeder, Receiver, FINISH};
 use super::journal::Sent;
 use super::script::Lie;
 use crate::box_engine::BoxEngine;
-use crate::engine::Engine;
 use crate::message::Message;
 use crate::settings::{Number, Round};
+use crate::standing_engine::StandingEngine;
 
-impl<E: Engine + BoxEngine> Feeder<'_, E> {
+impl<E: BoxEngine + StandingEngine> Feeder<'_, E> {
     /// What all liars send ahead of everything else.
     pub(super) fn send_script(&mut self) {
         let plan = self.plan;

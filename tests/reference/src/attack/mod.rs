@@ -1,4 +1,4 @@
-//! Whole feeders under attack: every call is followed by a check of demand 3.
+//! Whole feeders under attack: every call is followed by a check of demand 3 and of what 02, N9 claims.
 
 mod claim;
 mod coins;
@@ -18,15 +18,15 @@ mod versions;
 use std::collections::BTreeSet;
 use std::fmt;
 
-pub use claim::{Claim, Conditions, Shown, Violation};
+pub use claim::{Claim, Conditions, Owed, Shown, Violation};
 pub use plan::Plan;
 pub use trace::feeder_trace;
 pub use versions::{versions, Tallies, Tally};
 
 use crate::box_engine::BoxEngine;
 use crate::compare::all_settings;
-use crate::engine::Engine;
 use crate::settings::{Number, Settings, Version};
+use crate::standing_engine::StandingEngine;
 use feeder::Feeder;
 use random::Random;
 
@@ -52,6 +52,8 @@ pub struct Statistics {
     /// Feeders of version 2, and the FINISHes that honest ones sent.
     pub version_2: u64,
     pub finishes: u64,
+    /// Feeders whose liars weigh more than ta.
+    pub over_ta: u64,
     seen: BTreeSet<u8>,
     closed_here: BTreeSet<Number>,
 }
@@ -85,6 +87,7 @@ impl Statistics {
         self.recordings += other.recordings;
         self.version_2 += other.version_2;
         self.finishes += other.finishes;
+        self.over_ta += other.over_ta;
     }
 }
 
@@ -95,7 +98,7 @@ impl fmt::Display for Statistics {
             f,
             "{} feeders of {} settings, {} calls; exit 1 seen in {one}, exit 2 in {two}, exit 3 in {three}, closed in \
              {}; at most {} % of the turns allowed; {} restores, {} lines lost; {} boxed, {} bits recorded; {} of version 2, \
-             {} FINISHes",
+             {} FINISHes; {} with liars over ta",
             self.feeders,
             self.settings.len(),
             self.calls,
@@ -106,12 +109,13 @@ impl fmt::Display for Statistics {
             self.boxed,
             self.recordings,
             self.version_2,
-            self.finishes
+            self.finishes,
+            self.over_ta
         )
     }
 }
 
-/// A feeder in which demand 3 was broken.
+/// A feeder in which a claim was broken.
 #[derive(Clone, Debug)]
 pub struct Finding {
     /// From 1.
@@ -128,7 +132,7 @@ impl fmt::Display for Finding {
 }
 
 /// Runs the feeder of one seed.
-pub fn run_feeder<E: Engine + BoxEngine>(
+pub fn run_feeder<E: BoxEngine + StandingEngine>(
     engine: &E,
     conditions: Conditions,
     seed: u64,
@@ -140,8 +144,8 @@ pub fn run_feeder<E: Engine + BoxEngine>(
 }
 
 /// Runs so many feeders and then more, until all settings with n up to 7 and weights of 1 had one in both versions; it ends
-/// early where demand 3 is broken.
-pub fn attack<E: Engine + BoxEngine>(
+/// early where a claim is broken.
+pub fn attack<E: BoxEngine + StandingEngine>(
     engine: &E,
     conditions: Conditions,
     seed: u64,

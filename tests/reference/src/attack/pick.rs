@@ -31,11 +31,23 @@ pub fn aim(random: &mut Random) -> Aim {
     }
 }
 
+/// The aims about what sets hold, in one of eight plans; none where conditions are not met.
+pub fn aim_at_packs(random: &mut Random, conditions: Conditions) -> Option<Aim> {
+    match random.below(16) {
+        _ if conditions != Conditions::Met => None,
+        0 => Some(Aim::MoreLiars),
+        1 => Some(Aim::LatePack),
+        _ => None,
+    }
+}
+
 /// Whether feeders with these settings can have the aim.
 pub fn suits(settings: &Settings, aim: Aim) -> bool {
     match aim {
         Aim::Agreement => true,
         Aim::EqualPacks => settings.ts() > 0,
+        Aim::MoreLiars => settings.ts() > settings.ta(),
+        Aim::LatePack => settings.numbers().any(|number| is_in_ta(settings, number)),
         // With ta = 0 no vote can start with 0, and the first half has no liars.
         Aim::BlockedBroadcast | Aim::SplitVote | Aim::SplitStart => settings.ta() > 0,
         // Two light enough: the target, and one that starts its vote with 0.
@@ -99,7 +111,10 @@ pub fn unnamed(random: &mut Random, settings: &Settings) -> BTreeSet<Number> {
 
 /// Mostly of as much weight as there may be.
 pub fn liars(random: &mut Random, settings: &Settings, aim: Aim) -> BTreeSet<Number> {
-    let most = u64::from(if aim == Aim::EqualPacks { settings.ts() } else { settings.ta() });
+    let most = u64::from(match aim {
+        Aim::EqualPacks | Aim::MoreLiars => settings.ts(),
+        _ => settings.ta(),
+    });
     let less = if random.once_in(4) { random.below(most + 1) } else { 0 };
     of_weight(random, settings, settings.numbers().collect(), most - less)
 }
@@ -121,12 +136,13 @@ pub fn inputs(
     let kinds = match aim {
         Aim::Agreement => random.pick(&[1, 2, 2, 2, 3, MOST]),
         Aim::EqualPacks => 1,
+        Aim::MoreLiars => random.pick(&[2, 3, MOST]),
         Aim::BlockedBroadcast => 2,
         Aim::HeavyAgainstLight => {
             let pack = |number: Number| packs[usize::from(is_light(settings, number))];
             return honest.iter().map(|&number| (number, pack(number))).collect();
         }
-        Aim::SplitVote | Aim::SplitStart | Aim::SplitCoin => MOST,
+        Aim::LatePack | Aim::SplitVote | Aim::SplitStart | Aim::SplitCoin => MOST,
     };
     let in_turn = kinds == MOST || random.once_in(2);
     let shuffled = random.some(honest.to_vec(), honest.len());
@@ -195,6 +211,8 @@ pub fn faces(random: &mut Random, packs: &[u64], aim: Aim) -> Faces {
     let any = random.pick(packs);
     match random.below(5) {
         _ if aim == Aim::SplitCoin => Faces::One(any),
+        // Nobody else puts it in.
+        _ if aim == Aim::LatePack => Faces::One(packs[MOST - 1]),
         0 => Faces::None,
         1 => Faces::One(known),
         2 => Faces::One(any),
@@ -230,7 +248,8 @@ pub fn script(
             script.watches.insert(target, Watch::Lead);
             return script;
         }
-        Aim::EqualPacks => 2,
+        Aim::LatePack => return script,
+        Aim::EqualPacks | Aim::MoreLiars => 2,
         Aim::Agreement | Aim::BlockedBroadcast | Aim::HeavyAgainstLight => 5,
     };
     if random.once_in(flood_in) {
@@ -276,8 +295,14 @@ fn some_numbers(random: &mut Random, settings: &Settings) -> Vec<Number> {
 }
 
 /// The instance that an aim is about.
-pub fn target(random: &mut Random, settings: &Settings, aim: Aim) -> Number {
+pub fn target(
+    random: &mut Random,
+    settings: &Settings,
+    liars: &BTreeSet<Number>,
+    aim: Aim,
+) -> Number {
     let suits = |&number: &Number| match aim {
+        Aim::LatePack => liars.is_empty() || liars.contains(&number),
         Aim::HeavyAgainstLight => is_heavy_in_ta(settings, number),
         Aim::SplitCoin => is_in_ta(settings, number),
         _ => true,
@@ -331,7 +356,7 @@ fn holds(random: &mut Random, settings: &Settings, aim: Aim, target: Number) -> 
         Hold { kinds: (3, 3), instance: Some(target), delay: WHOLE_SESSION, ..Hold::default() };
     match aim {
         Aim::SplitVote => {}
-        Aim::HeavyAgainstLight => {
+        Aim::HeavyAgainstLight | Aim::LatePack => {
             holds[0].delay = WHOLE_SESSION;
             holds.push(Hold { delay: UNTIL_DECIDED, ..readies });
         }
@@ -345,7 +370,7 @@ fn holds(random: &mut Random, settings: &Settings, aim: Aim, target: Number) -> 
         Aim::BlockedBroadcast => {
             holds.push(Hold { to_one: Some(random.pick(&numbers)), ..readies });
         }
-        Aim::Agreement | Aim::EqualPacks => {
+        Aim::Agreement | Aim::EqualPacks | Aim::MoreLiars => {
             if random.once_in(4) {
                 holds.clear();
             }

@@ -2,7 +2,7 @@
 
 use std::collections::{BTreeMap, BTreeSet};
 
-use super::claim::Conditions;
+use super::claim::{Conditions, Owed};
 use super::pick;
 use super::random::Random;
 use super::script::Script;
@@ -17,6 +17,10 @@ pub enum Aim {
     Agreement,
     /// The second half: liars of weight up to ts, and all others put in one pack.
     EqualPacks,
+    /// What is owed of different packs too: liars of weight up to ts.
+    MoreLiars,
+    /// First half; all packs different, and the READYs of a liar's broadcast kept from all until the votes are decided.
+    LatePack,
     /// First half; two packs, and one broadcast's READYs kept from one concentrator for the whole session.
     BlockedBroadcast,
     /// First half; few heavy ones put in one pack and as many light ones another, and one heavy broadcast's READYs are
@@ -120,18 +124,22 @@ pub struct Plan {
 }
 
 impl Plan {
-    /// Half of the plans are of version 2.
+    /// Half of the plans are of version 2, and some are about the packs in sets.
     pub fn new(seed: u64, conditions: Conditions) -> Plan {
         let version = Random::new(seed.rotate_left(32)).pick(&Version::ALL);
-        Plan::of_version(seed, conditions, version)
+        match pick::aim_at_packs(&mut Random::new(seed.rotate_left(48)), conditions) {
+            Some(aim) => {
+                Plan::aimed(&mut Random::new(seed), aim, conditions).in_version(seed, version)
+            }
+            None => Plan::of_version(seed, conditions, version),
+        }
     }
 
     /// The plan of one seed, in this version; both have the same settings, liars and lies, but for FINISHes.
     pub fn of_version(seed: u64, conditions: Conditions, version: Version) -> Plan {
         let random = &mut Random::new(seed);
         let aim = pick::aim(random);
-        let settings = pick::settings(random, aim);
-        Plan::drawn(random, aim, settings, conditions).in_version(seed, version)
+        Plan::aimed(random, aim, conditions).in_version(seed, version)
     }
 
     /// A plan with these settings and printed coins.
@@ -155,13 +163,18 @@ impl Plan {
         self
     }
 
+    fn aimed(random: &mut Random, aim: Aim, conditions: Conditions) -> Plan {
+        let settings = pick::settings(random, aim);
+        Plan::drawn(random, aim, settings, conditions)
+    }
+
     fn drawn(random: &mut Random, aim: Aim, settings: Settings, conditions: Conditions) -> Plan {
         let liars = pick::liars(random, &settings, aim);
         let honest: Vec<Number> =
             settings.numbers().filter(|number| !liars.contains(number)).collect();
         let packs = pick::packs(random);
         let coins = pick::coins(random, &settings);
-        let target = pick::target(random, &settings, aim);
+        let target = pick::target(random, &settings, &liars, aim);
         let boxed = pick::boxed(random, aim, conditions);
         let printed = (!boxed).then_some(&coins[..]);
         Plan {
@@ -217,16 +230,16 @@ impl Plan {
         self.settings.weight(self.liars.iter().copied())
     }
 
-    /// The first half of demand 3 is owed.
-    pub fn owes_agreement(&self) -> bool {
-        self.liars_weight() <= self.settings.ta().into()
+    /// What is owed of this feeder.
+    pub fn owed(&self) -> Owed {
+        let weight = self.liars_weight();
+        let up_to_ts = weight <= self.settings.ts().into();
+        let pack = if up_to_ts { self.only_pack() } else { None };
+        Owed { up_to_ta: weight <= self.settings.ta().into(), up_to_ts, pack }
     }
 
-    /// If the second half of demand 3 is owed: the pack that every honest one that is opened puts in.
-    pub fn owed_pack(&self) -> Option<u64> {
-        if self.liars_weight() > self.settings.ts().into() {
-            return None;
-        }
+    /// The pack that every honest one that is opened puts in, if it is one.
+    fn only_pack(&self) -> Option<u64> {
         let is_opened = |number: &Number| self.openings[number] != Opened::Never;
         let mut packs =
             self.inputs.iter().filter(|(number, _)| is_opened(number)).map(|(_, &pack)| pack);

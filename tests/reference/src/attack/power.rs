@@ -4,12 +4,12 @@ use super::claim::{Conditions, Violation};
 use super::feeder::{Feeder, Receiver};
 use super::journal::{Noted, Sent};
 use crate::box_engine::BoxEngine;
-use crate::engine::Engine;
 use crate::message::LONGEST;
 use crate::packing::{unpack_restore, RestoreAnswer};
 use crate::settings::Number;
+use crate::standing_engine::StandingEngine;
 
-impl<E: Engine + BoxEngine> Feeder<'_, E> {
+impl<E: BoxEngine + StandingEngine> Feeder<'_, E> {
     /// One of those that are open loses power and is restored. Where lines of messages that left may be lost, all do once a
     /// set was named, and then one of the feeder is not heard any more: so the others may come to another set.
     pub(super) fn lose_power(&mut self) -> Result<(), Violation> {

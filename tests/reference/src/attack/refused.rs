@@ -3,15 +3,16 @@
 use super::claim::Violation;
 use super::feeder::Feeder;
 use crate::box_engine::BoxEngine;
-use crate::engine::{Coin, Engine};
+use crate::engine::Coin;
 use crate::journal::LINE_BYTES;
 use crate::message::LONGEST;
 use crate::packing::refusal;
 use crate::report::SET_WORDS;
 use crate::session::Opening;
 use crate::settings::Number;
+use crate::standing_engine::StandingEngine;
 
-impl<E: Engine + BoxEngine> Feeder<'_, E> {
+impl<E: BoxEngine + StandingEngine> Feeder<'_, E> {
     /// Lends too little, delivers broken bytes, opens with settings that are refused, or records no coin.
     pub(super) fn make_refused_call(&mut self) -> Result<(), Violation> {
         let numbers: Vec<Number> = self.honest.keys().copied().collect();

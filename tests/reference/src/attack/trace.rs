@@ -12,6 +12,7 @@ use crate::journal::LINE_BYTES;
 use crate::report::SET_WORDS;
 use crate::session::{Opening, Session};
 use crate::settings::{Number, Settings};
+use crate::standing_engine::{Standing, StandingEngine};
 use crate::traces::{refusal, report_answer, turn_answer, Call, TracedOpening};
 
 /// The reference, with the calls that it answered.
@@ -97,6 +98,12 @@ impl Engine for Traced {
 
     fn record(&self, state: &mut TracedState, coin: Coin, line: &mut [u8]) -> u64 {
         Reference::default().record(&mut state.session, coin, line)
+    }
+}
+
+impl StandingEngine for Traced {
+    fn standing(&self, state: &TracedState) -> Standing {
+        Reference::default().standing(&state.session)
     }
 }
 

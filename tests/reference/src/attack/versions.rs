@@ -7,8 +7,8 @@ use super::feeder::Feeder;
 use super::plan::Plan;
 use super::random::Random;
 use crate::box_engine::BoxEngine;
-use crate::engine::Engine;
 use crate::settings::Version;
+use crate::standing_engine::StandingEngine;
 
 /// What the honest ones of some feeders did.
 #[derive(Clone, Copy, Debug, Default, PartialEq, Eq)]
@@ -49,7 +49,7 @@ pub struct Tallies {
 
 /// Runs each of so many feeders in both versions, with the same settings, liars and lies but for FINISHes, until nothing is
 /// on its way and all are idle. Power is not lost there.
-pub fn versions<E: Engine + BoxEngine>(
+pub fn versions<E: BoxEngine + StandingEngine>(
     engine: &E,
     seed: u64,
     feeders: u64,
@@ -69,7 +69,11 @@ pub fn versions<E: Engine + BoxEngine>(
     Ok(tallies)
 }
 
-fn run<E: Engine + BoxEngine>(engine: &E, plan: &Plan, seed: u64) -> Result<Tally, Violation> {
+fn run<E: BoxEngine + StandingEngine>(
+    engine: &E,
+    plan: &Plan,
+    seed: u64,
+) -> Result<Tally, Violation> {
     let mut feeder = Feeder::new(engine, plan, Conditions::Met, !seed);
     feeder.run()?;
     let mut tally = Tally { feeders: 1, ..Tally::default() };
