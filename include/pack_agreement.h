@@ -34,9 +34,11 @@
  * What a turn sent goes to all n, later where a radio was down. No set rests on that, but a session may stay open for want
  * of it.
  * Promised of the concentrators that keep this, whatever the others send:
- *   - Where the others weigh ta at most, all sets that exits name or that are in force are one and the same set.
+ *   - Where the others weigh ta at most, all sets that exits name or that are in force are one and the same set, and no vote
+ *     is decided 1 unless the broadcast of that number had output before, at one that keeps it.
  *   - Where they weigh ts at most and all that keep it put in the same pack, no other set is named or comes into force.
- *   - Where they weigh ts at most, no set comes into force that the exits of one that keeps it had not named before.
+ *   - Where they weigh ts at most, no set comes into force that the exits of one that keeps it had not named before, and
+ *     every set that is named or in force has a pack that one that keeps it put in.
  * Where they weigh more than ts nothing is promised of sets. Never promised is that a session closes, or when.
  *
  * THE VERSION of a session, 1 or 2, says how its votes end; byte 0 of every message names it. In version 1 a vote that is
