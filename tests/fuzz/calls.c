@@ -301,12 +301,12 @@ static void deliver_raw(struct input *in)
     deliver(0, link, raw, length, take(in));
 }
 
-/* A word of a state: anywhere, or one of the numbers, marks and settings before word 161. */
+/* A word of a state: anywhere, or one of the numbers, marks and settings before word 177. */
 static void plant(struct input *in)
 {
     unsigned p = take(in) % STATES;
     size_t at = take(in);
-    if (at >= 161)
+    if (at >= 177)
         at = (at << 8 | take(in)) % PACK_STATE_WORDS;
     words_of(p)[at] = take(in) & 1 ? take_word(in) : take_number(in);
     kept[p].whole = false;

@@ -41,6 +41,9 @@ pub const FINISH_SENT: usize = 144;
 /// Two groups of 16 marks: the senders of FINISH 0, and of FINISH 1.
 pub const FINISHES: usize = 144;
 
+/// One word for each vote: mark r where in round r 1 was accepted before 0.
+pub const ONE_FIRST: usize = 160;
+
 /// Rows of 16 words, one for each sender or place.
 pub const ECHO_VALUES: usize = 239;
 pub const READY_VALUES: usize = 495;

@@ -113,7 +113,7 @@ pub fn deliver(state: &mut [u64], link: u64, message: &[u8], line: &mut [u8]) ->
         return number;
     }
     let line = line.first_chunk_mut::<LINE_BYTES>();
-    let number = record(words, link as usize & 31, message, line.is_none());
+    let number = record(words, &session, link as usize & 31, message, line.is_none());
     match line {
         Some(line) if number == 0 => lines::delivery(line, link, message) << 16,
         _ => number,
@@ -122,12 +122,12 @@ pub fn deliver(state: &mut [u64], link: u64, message: &[u8], line: &mut [u8]) ->
 
 /// Records a message that fits the layout, unless its place is taken or the bytes for its line are `short`.
 #[inline(always)]
-fn record(words: &mut Words, p: usize, message: &[u8], short: bool) -> u64 {
+fn record(words: &mut Words, session: &Session, p: usize, message: &[u8], short: bool) -> u64 {
     let (i, round) = (usize::from(message[3]) & 31, usize::from(message[4]));
     let value = wire::value(message, 0);
     let mark = 1 << (p - 1);
     let vote = VOTES + 32 * i + round;
-    let (at, held, mark, value) = match message[1] {
+    let (at, held, mark, stored) = match message[1] {
         wire::SEND => (SEND_MARKS, mark, mark, Some((SEND_VALUES + i, value))),
         wire::ECHO => (ECHO_MARKS + i, mark, mark, Some((ECHO_VALUES + 16 * i + p, value))),
         wire::READY => (READY_MARKS + i, mark, mark, Some((READY_VALUES + 16 * i + p, value))),
@@ -144,8 +144,11 @@ fn record(words: &mut Words, p: usize, message: &[u8], short: bool) -> u64 {
         return refusal::SHORT;
     }
     words[at & (STATE_WORDS - 1)] |= mark;
-    if let Some((place, value)) = value {
+    if let Some((place, value)) = stored {
         words[place & (STATE_WORDS - 1)] = value;
+    }
+    if message[1] == wire::EST && value == 1 {
+        votes::note_one(words, session, i, round);
     }
     0
 }

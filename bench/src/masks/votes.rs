@@ -1,4 +1,4 @@
-//! 01, rule 6 of the turn order, and 02, N6: FINISHes.
+//! 01, rule 6 of the turn order, with the value accepted first in AUX (02, N2), and FINISHes (N6).
 
 use super::layout::*;
 use super::refusal;
@@ -83,7 +83,9 @@ fn act_in_round(words: &mut Words, session: &Session, i: usize, r: usize, lent: 
             return 0;
         }
         words[AUX_SENT + i] |= 1 << (r - 1);
-        return send_vote(words, AUX, i, r, u64::from(!accepted[0]), lent);
+        let one_first = words[ONE_FIRST + i] >> (r - 1) & 1 == 1;
+        let one = accepted[1] && (one_first || !accepted[0]);
+        return send_vote(words, AUX, i, r, u64::from(one), lent);
     }
     let zero = if accepted[0] { aux_0 } else { 0 };
     let one = if accepted[1] { aux_1 } else { 0 };
@@ -91,6 +93,16 @@ fn act_in_round(words: &mut Words, session: &Session, i: usize, r: usize, lent: 
         return 0;
     }
     leave(words, i, r, [zero != 0, one != 0], lent)
+}
+
+/// Marks that 1 was accepted before 0 in round r, where an EST of 1 left 1 accepted and 0 not.
+#[inline]
+pub fn note_one(words: &mut Words, session: &Session, i: usize, r: usize) {
+    let [est_0, est_1, ..] = groups(words, session, i, r);
+    let (accept, weights) = (session.accept(), session.weights);
+    if accept <= weights.weigh(est_1) && weights.weigh(est_0) < accept {
+        words[ONE_FIRST + i] |= 1 << (r - 1);
+    }
 }
 
 /// The lowest round, 0 before 1, with a value that was not sent and that senders of ta + 1 hold.

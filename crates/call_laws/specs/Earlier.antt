@@ -1,4 +1,4 @@
--- The definitions that ask for the version, or cite one that does, as they stood before there were two versions: what sessions of version 1 were.
+-- The definitions that ask for the version, or cite one that does, as they are without versions: what sessions would be if none had FINISHes.
 -- All else that the calls are defined by asks nothing of the version, and is cited here.
 use Prim.Native.Nat.{ℕ, _+_, _*_}
 use mathlib.Core.Bool.{Bool, false, _&&_, _||_, not, cond}

@@ -1,4 +1,4 @@
--- Sessions of version 1 stay as they were before there was another, call by call: on words of version 1 each call gives what it gave by the
+-- Sessions of version 1 are what they would be if there were no other, call by call: on words of version 1 each call gives what it gives by the
 -- definitions of Earlier. So no FINISH is accepted, and deliveries and turns leave the words of FINISHes.
 -- Answers stand without their lines of the journal: the calls with lines are these by journal/Journal, which asks nothing of the version.
 use Prim.Native.Nat.{ℕ, _≤_}

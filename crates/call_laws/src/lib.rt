@@ -25,7 +25,7 @@ pub fn settings_kept()
     ensures { λ _. ⌜ SettingsKept ⌝ }
 {}
 
-// Sessions of version 1 are as they were before version 2.
+// Sessions of version 1 are what they would be without version 2.
 pub fn first_version()
     ensures { λ _. ⌜ FirstVersion ⌝ }
 {}

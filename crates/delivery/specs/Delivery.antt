@@ -1,13 +1,15 @@
--- Delivery: the verdict on a message, and the words after it. A delivery records one message that came over a link, and a FINISH may decide its
--- vote; it does nothing else (PROTOCOL 3.7, 9.17, 9.18).
+-- Delivery: the verdict on a message, and the words after it. A delivery records one message that came over a link, and with an EST of 1 whether 1
+-- was accepted before 0; a FINISH may decide its vote. It does nothing else (PROTOCOL 3.7, 9.17, 9.18).
 use Prim.Native.Nat.{ℕ}
-use mathlib.Core.Bool.{Bool, _||_, not, cond}
+use mathlib.Core.Bool.{Bool, _||_, _&&_, not, cond}
 use mathlib.Core.List.{List}
+use lib.Dec.{eqb}
 use lib.ListN.{drop}
 use Rattle.settings.specs.Refusals.{NO-STATE, CLOSED, HELD}
 use Rattle.records.specs.Records.{closed, version, sendHeld, echoHeld, readyHeld, estHeld, auxHeld, finishHeld}
-use Rattle.records.specs.Writing.{withSend, withEcho, withReady, withEst, withAux, withFinish, withCommit, withDecision}
+use Rattle.records.specs.Writing.{withSend, withEcho, withReady, withEst, withAux, withOneFirst, withFinish, withCommit, withDecision}
 use Rattle.commits.specs.Commits.{commitHeld}
+use Rattle.votes.specs.Votes.{oneAlone}
 use Rattle.votes.specs.Finishing.{finishDecides}
 use Rattle.settings.specs.declared.Settings.{Settings}
 use Rattle.session.specs.Session.{isState, settingsOf, sessionOf}
@@ -42,16 +44,21 @@ verdict s link b =
     (cond (closed s) (Refused CLOSED)
     (judged s link (readMessage (version s) (sessionOf s .settings .n) (sessionOf s .number) link b)))
 
+-- where an EST of 1 leaves 1 accepted and 0 not, 1 was complete before 0, and the state records it, for any round (PROTOCOL 5.19)
+unfoldable pub firstNoted : Settings → List ℕ → ℕ → ℕ → ℕ → List ℕ
+firstNoted g s i r b = cond (eqb b 1 && oneAlone g s i r) (withOneFirst s i r) s
+
 -- vote i is decided b where the FINISHes of b that are held do so (PROTOCOL 5.17)
 unfoldable pub finishSettled : Settings → List ℕ → ℕ → ℕ → List ℕ
 finishSettled g s i b = cond (finishDecides g s i b) (withDecision s i b) s
 
--- the state with a message of sender p recorded, and with a FINISH the decision that it completes; the values of a COMMIT are in the part v that starts at byte 12
+-- the state with a message of sender p recorded, with an EST of 1 whether 1 was accepted before 0, and with a FINISH the decision that it
+-- completes; the values of a COMMIT are in the part v that starts at byte 12
 unfoldable pub recorded : List ℕ → ℕ → Message → List ℕ → List ℕ
 recorded s p (Send i x) v = withSend s i x
 recorded s p (Echo i x) v = withEcho s i p x
 recorded s p (Ready i x) v = withReady s i p x
-recorded s p (Est i r b) v = withEst s i r b p
+recorded s p (Est i r b) v = firstNoted (settingsOf s) (withEst s i r b p) i r b
 recorded s p (Aux i r b) v = withAux s i r b p
 recorded s p (Commit k) v = withCommit s p (valueAt v) k
 recorded s p (Finish i b) v = finishSettled (settingsOf s) (withFinish s i b p) i b

@@ -9,9 +9,9 @@ use wire::Message;
 use wire::Parsed;
 ghost use mathlib.Core.Path.{_≡_};
 ghost use mathlib.Core.Bool.{true};
-ghost use Rattle.records.specs.Writing.{withFinish, withCommitValues, withCommit};
+ghost use Rattle.records.specs.Writing.{withEst, withFinish, withCommitValues, withCommit};
 ghost use Rattle.wire.specs.Bytes.{valueAt};
-ghost use Rattle.delivery.specs.Delivery.{placeHeld, judged, verdict, finishSettled, recorded, answerOf, deliverAnswer, delivered};
+ghost use Rattle.delivery.specs.Delivery.{placeHeld, judged, verdict, firstNoted, finishSettled, recorded, answerOf, deliverAnswer, delivered};
 ghost use Rattle.session.specs.Session.{isState, settingsOf};
 ghost use Rattle.session.specs.declared.Stored.the-variants.{Held};
 ghost use Rattle.delivery.specs.laws.Stored.{verdictFor};
@@ -99,6 +99,28 @@ fn record_commit(s: &mut [u64], p: u8, count: u8, part: &[u8])
     writing::hold_commit(s, p, count);
 }
 
+// Holds EST 1 of sender p in round r of vote i, and marks it where 1 was accepted before 0.
+fn hold_one(s: &mut [u64], g: Settings, p: u8, i: u8, r: u8)
+    ensures { λ _. ⌜ now (s .exit) ≡ firstNoted g (withEst (now (s .entry)) i r 1 p) i r 1 ⌝ }
+{
+    writing::hold_est(s, i, r, 1, p);
+    if votes::one_alone(s, g, i, r) {
+        writing::mark_one_first(s, i, r);
+    }
+}
+
+// Holds EST b; only one of 1 needs the settings of the state.
+fn record_est(s: &mut [u64], p: u8, i: u8, r: u8, b: u8)
+    requires { ⌜ isState (now s) ≡ true ⌝ }
+    ensures { λ _. ⌜ now (s .exit) ≡ firstNoted (settingsOf (now (s .entry))) (withEst (now (s .entry)) i r b p) i r b ⌝ }
+{
+    if b == 1 {
+        hold_one(s, session::settings_of(&*s), p, i, r);
+        return;
+    }
+    writing::hold_est(s, i, r, b, p);
+}
+
 // Holds FINISH b of sender p in vote i, and decides the vote where its FINISHes do.
 fn settle_finish(s: &mut [u64], g: Settings, p: u8, i: u8, b: u8)
     ensures { λ _. ⌜ now (s .exit) ≡ finishSettled g (withFinish (now (s .entry)) i b p) i b ⌝ }
@@ -109,16 +131,12 @@ fn settle_finish(s: &mut [u64], g: Settings, p: u8, i: u8, b: u8)
     }
 }
 
-// The same with the settings of the state, which only a FINISH needs: they are read once more.
+// The same with the settings of the state.
 fn record_finish(s: &mut [u64], p: u8, i: u8, b: u8)
     requires { ⌜ isState (now s) ≡ true ⌝ }
     ensures { λ _. ⌜ now (s .exit) ≡ finishSettled (settingsOf (now (s .entry))) (withFinish (now (s .entry)) i b p) i b ⌝ }
 {
-    let stored = session::state_of(&*s);
-    match stored {
-        Stored::NoState => {}
-        Stored::Held(x) => settle_finish(s, x.settings, p, i, b),
-    }
+    settle_finish(s, session::settings_of(&*s), p, i, b);
 }
 
 // Records a message of sender p; the values of a COMMIT are in the part that starts at byte 12.
@@ -134,7 +152,7 @@ fn record(s: &mut [u64], p: u8, m: Message, part: &[u8])
             instance,
             round,
             value,
-        } => writing::hold_est(s, instance, round, value, p),
+        } => record_est(s, p, instance, round, value),
         Message::Aux {
             instance,
             round,

@@ -26,7 +26,8 @@
 --     143          the version
 --     144          FINISHes sent: mark i for vote i
 --     145 to 160   FINISHes held of each vote: marks p and 16 + p for FINISH 0 and FINISH 1 of sender p
---     161 to 255   free
+--     161 to 176   values accepted first in each vote: mark r where in round r 1 was accepted before 0
+--     177 to 255   free
 --     256 to 511   values of the ECHOs held, 16 for each instance, by sender
 --     512 to 767   values of the READYs held, 16 for each instance, by sender
 --     768 to 1023  values of the COMMITs held, 16 for each sender, in rising order
@@ -112,6 +113,9 @@ readyMarksAt i = 103 + i
 
 abbrev pub finishMarksAt : ℕ → ℕ
 finishMarksAt i = 144 + i
+
+abbrev pub oneFirstAt : ℕ → ℕ
+oneFirstAt i = 160 + i
 
 abbrev pub commitCountAt : ℕ → ℕ
 commitCountAt p = 119 + p

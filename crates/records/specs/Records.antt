@@ -5,7 +5,7 @@ use mathlib.Core.List.{List}
 use lib.Dec.{eqb}
 use lib.ListN.{take, drop}
 use Rattle.settings.specs.Settings.{maxConcentrators, movedOutRound}
-use Rattle.records.specs.Layout.{inputAt, turnsAt, flagsAt, closedMark, sendSentMark, commitSentMark, versionAt, boxedAt, coinAt, zeroMark, roundAt, estSentAt, estSentMark, auxSentAt, sendMarksAt, sendValueAt, echoMarksAt, echoValueAt, readyMarksAt, readyValueAt, echoSentAt, readySentAt, finishSentAt, finishMarksAt, decidedZeroAt, decidedOneAt, commitCountAt, commitValueAt, voteAt, estMark, auxMark, finishMark}
+use Rattle.records.specs.Layout.{inputAt, turnsAt, flagsAt, closedMark, sendSentMark, commitSentMark, versionAt, boxedAt, coinAt, zeroMark, roundAt, estSentAt, estSentMark, auxSentAt, sendMarksAt, sendValueAt, echoMarksAt, echoValueAt, readyMarksAt, readyValueAt, echoSentAt, readySentAt, finishSentAt, finishMarksAt, oneFirstAt, decidedZeroAt, decidedOneAt, commitCountAt, commitValueAt, voteAt, estMark, auxMark, finishMark}
 use Rattle.records.specs.Words.{word, marked}
 
 -- the own input, given at the opening
@@ -59,6 +59,10 @@ estHeld s i r b p = marked s (voteAt i r) (estMark b p)
 -- the AUX of sender p carries b
 unfoldable pub auxHeld : List ℕ → ℕ → ℕ → ℕ → ℕ → Bool
 auxHeld s i r b p = marked s (voteAt i r) (auxMark b p)
+
+-- a delivery recorded that in round r of vote i 1 was accepted before 0 (PROTOCOL 5.19)
+unfoldable pub oneFirst : List ℕ → ℕ → ℕ → Bool
+oneFirst s i r = marked s (oneFirstAt i) r
 
 -- a FINISH has one place for its sender and vote, whichever value it carries (PROTOCOL 3.12); the FINISH of sender p carries b
 unfoldable pub finishHeld : List ℕ → ℕ → ℕ → ℕ → Bool

@@ -4,7 +4,7 @@ use mathlib.Core.Bool.{cond}
 use mathlib.Core.List.{List}
 use lib.Dec.{eqb}
 use Rattle.records.specs.Layout.{turnsAt, flagsAt, closedMark, sendSentMark, commitSentMark, roundAt, estSentAt, estSentMark, auxSentAt, echoSentAt, readySentAt, finishSentAt, decidedZeroAt, decidedOneAt}
-use Rattle.records.specs.Layout.{sendMarksAt, sendValueAt, echoMarksAt, echoValueAt, readyMarksAt, readyValueAt, voteAt, estMark, auxMark, finishMarksAt, finishMark, commitCountAt, commitRowAt}
+use Rattle.records.specs.Layout.{sendMarksAt, sendValueAt, echoMarksAt, echoValueAt, readyMarksAt, readyValueAt, voteAt, estMark, auxMark, oneFirstAt, finishMarksAt, finishMark, commitCountAt, commitRowAt}
 use Rattle.records.specs.Words.{put, setMark, storeOf}
 
 -- ---- messages that are held: p is the sender
@@ -25,6 +25,10 @@ withEst s i r b p = setMark s (voteAt i r) (estMark b p)
 
 abbrev pub withAux : List ℕ → ℕ → ℕ → ℕ → ℕ → List ℕ
 withAux s i r b p = setMark s (voteAt i r) (auxMark b p)
+
+-- in round r of vote i 1 was accepted before 0
+abbrev pub withOneFirst : List ℕ → ℕ → ℕ → List ℕ
+withOneFirst s i r = setMark s (oneFirstAt i) r
 
 -- FINISH b in vote i
 abbrev pub withFinish : List ℕ → ℕ → ℕ → ℕ → List ℕ

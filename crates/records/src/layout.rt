@@ -48,6 +48,8 @@ pub const ECHO_MARKS: usize = 87;
 pub const READY_MARKS: usize = 103;
 
 pub const FINISH_MARKS: usize = 144;
+
+pub const ONE_FIRST: usize = 160;
 // One word for each sender.
 pub const COMMIT_COUNTS: usize = 119;
 

@@ -11,7 +11,7 @@ ghost use Rattle.quorum.specs.Marking.{MarksOf};
 ghost use Rattle.quorum.specs.Weights.{weigh};
 ghost use Rattle.records.specs.Words.{copied};
 ghost use Rattle.records.specs.Records.{ownInput, turnCount, closed, sendSent, commitSent, echoSent, readySent, finishSent, version, coin, printed, coinKnown, round, estSent, auxSent, decidedZero, decidedOne, decided};
-ghost use Rattle.records.specs.Records.{sendHeld, sendValue, echoHeld, readyHeld, estHeld, auxHeld, finishHeld, commitCount, commitValue};
+ghost use Rattle.records.specs.Records.{sendHeld, sendValue, echoHeld, readyHeld, estHeld, auxHeld, oneFirst, finishHeld, commitCount, commitValue};
 ghost use Rattle.records.specs.Layout.{auxGroup};
 ghost use Rattle.records.specs.Words.{word, put, marked, equalAt, setMark};
 ghost use Rattle.records.specs.laws.Words.{Reached};
@@ -278,6 +278,13 @@ pub fn aux_held(s: &[u64], i: u8, r: u8, p: u8) -> bool
 {
     let w = vote_marks(s, i, r);
     quorum::mark(w, layout::AUX_ZERO + p as u64) | quorum::mark(w, layout::AUX_ONE + p as u64)
+}
+
+// Whether in round r of vote i 1 was accepted before 0.
+pub fn one_first(s: &[u64], i: u8, r: u8) -> bool
+    ensures { λ c. ⌜ c ≡ oneFirst (now (s .entry)) i r ⌝ }
+{
+    marked(s, layout::ONE_FIRST + i as usize, r as u64)
 }
 
 // The FINISHes held in vote i, two groups of 16 marks.

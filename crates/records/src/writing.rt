@@ -3,7 +3,7 @@ use crate::layout;
 ghost use mathlib.Core.Path.{_≡_};
 ghost use Rattle.records.specs.Layout.{commitValueAt};
 ghost use Rattle.records.specs.Words.{put, setMark};
-ghost use Rattle.records.specs.Writing.{withSend, withEcho, withReady, withEst, withAux, withFinish, withCommitCount};
+ghost use Rattle.records.specs.Writing.{withSend, withEcho, withReady, withEst, withAux, withOneFirst, withFinish, withCommitCount};
 ghost use Rattle.records.specs.Writing.{withClosed, withSendSent, withCommitSent, withEchoSent, withReadySent, withFinishSent, withEstSent, withAuxSent, withRound, withDecision, withTurnCount};
 
 // Puts a value at a word, and sets mark p of another.
@@ -73,6 +73,13 @@ pub fn hold_aux(s: &mut [u64], i: u8, r: u8, b: u8, p: u8)
         layout::VOTES + 32 * i as usize + r as usize,
         layout::AUX_ZERO + layout::GROUP * b as u64 + p as u64,
     );
+}
+
+// Marks that in round r of vote i 1 was accepted before 0.
+pub fn mark_one_first(s: &mut [u64], i: u8, r: u8)
+    ensures { λ _. ⌜ now (s .exit) ≡ withOneFirst (now (s .entry)) i r ⌝ }
+{
+    crate::set_mark(s, layout::ONE_FIRST + i as usize, r as u64);
 }
 
 // Holds FINISH b of sender p in vote i.

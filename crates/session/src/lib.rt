@@ -4,13 +4,13 @@ use settings::Checked;
 use settings::Settings;
 ghost use mathlib.Core.Path.{_≡_};
 ghost use Prim.Native.Nat.{_+_, _<_};
-ghost use Rattle.session.specs.Session.{numbered, numbersRight, sessionWith, stored};
+ghost use Rattle.session.specs.Session.{numbered, numbersRight, settingsOf, isState, sessionWith, stored};
 ghost use Rattle.session.specs.laws.Session.{placeRight, storedWith};
 ghost use Rattle.records.specs.Words.{word};
 ghost use Rattle.records.specs.Layout.{ownAt, boxedAt};
 ghost use Rattle.records.specs.Records.{version};
 ghost use Rattle.settings.specs.Versions.{versionKnown};
-ghost use mathlib.Core.Bool.{_&&_};
+ghost use mathlib.Core.Bool.{true, _&&_};
 ghost use Rattle.quorum.specs.Every.{every};
 ghost use lib.Dec.{leb};
 ghost use lib.ListN.{length};
@@ -102,6 +102,22 @@ fn stored_with(s: &[u64], g: Settings) -> Stored
         return Stored::Held(session_of(s, g));
     }
     Stored::NoState
+}
+
+// The settings of a state, without asking again whether it is one.
+pub fn settings_of(s: &[u64]) -> Settings
+    requires { ⌜ isState (now s) ≡ true ⌝ }
+    ensures { λ g. ⌜ g ≡ settingsOf (now (s .entry)) ⌝ }
+{
+    let n = records::word(s, layout::N) as u8;
+    let weights = records::word(s, layout::WEIGHTS);
+    Settings {
+        n,
+        ta: records::word(s, layout::TA) as u8,
+        ts: records::word(s, layout::TS) as u8,
+        whole: quorum::whole(weights, n) as u8,
+        weights,
+    }
 }
 
 // The session that the buffer holds.

@@ -6,7 +6,7 @@ use lib.ListN.{length}
 use Rattle.settings.specs.declared.Settings.{Settings}
 use Rattle.records.specs.Layout.{versionAt}
 use Rattle.records.specs.Words.{put}
-use Rattle.records.specs.Writing.{withRound, withDecision}
+use Rattle.records.specs.Writing.{withOneFirst, withRound, withDecision}
 use Rattle.acts.specs.declared.Act.{Act}
 use Rattle.acts.specs.declared.Act.the-variants as act
 use Rattle.wire.specs.Bytes.{valueBytes}
@@ -42,6 +42,8 @@ pub data Fact : Type 0 where
   inRound : ℕ → ℕ → Fact
   -- vote i is decided b
   isDecided : ℕ → ℕ → Fact
+  -- the state has the mark that in round r of vote i 1 was accepted before 0
+  oneWasFirst : ℕ → ℕ → Fact
   -- the session is of version v
   ofVersion : ℕ → Fact
 
@@ -56,6 +58,7 @@ withFact s (commits ps xs) = recordedFrom s ps (Commit (length xs)) (valueBytes 
 withFact s (did a) = done s a
 withFact s (inRound i r) = withRound s i r
 withFact s (isDecided i b) = withDecision s i b
+withFact s (oneWasFirst i r) = withOneFirst s i r
 withFact s (ofVersion v) = put s versionAt v
 
 unfoldable pub withFacts : List ℕ → List Fact → List ℕ

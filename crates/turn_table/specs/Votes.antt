@@ -4,7 +4,7 @@ use mathlib.Core.List.{List, [], _∷_}
 use Rattle.acts.specs.declared.Act.the-variants as act
 use Rattle.acts.specs.declared.View.the-variants.{Only, Both}
 use Rattle.wire.specs.declared.Message.the-variants.{Ready, Est, Aux}
-use Rattle.turn_table.specs.Planting.{Fact, two, three, from, did, inRound, output5, decidedThree, Row, laterRow}
+use Rattle.turn_table.specs.Planting.{Fact, two, three, from, did, inRound, oneWasFirst, output5, decidedThree, Row, laterRow}
 
 unfoldable pub startRows : List Row
 startRows =
@@ -43,10 +43,19 @@ ests zeros ones fs = did (act.Start 1 1) ∷ did (act.Relay 1 1 0) ∷ from zero
 
 unfoldable pub auxRows : List Row
 auxRows =
-    -- a value is accepted from three: neither, 1, and both, of which 0 is sent
+    -- a value is accepted from three: neither, 1, and both, of which the one accepted first is sent, here 0 ..
     laterRow act.Idle (ests two two [])
     ∷ laterRow (act.Aux 1 1 1) (ests two three [])
     ∷ laterRow (act.Aux 1 1 0) (ests three (1 ∷ 2 ∷ 3 ∷ []) [])
+    -- .. and 1 where its third EST came before the third of 0
+    ∷ laterRow (act.Aux 1 1 1) (ests two three (from (4 ∷ []) (Est 1 1 0) ∷ []))
+    -- .. not where it came after it, though two were there before any of 0
+    ∷ laterRow (act.Aux 1 1 0) (ests [] two (from three (Est 1 1 0) ∷ from (4 ∷ []) (Est 1 1 1) ∷ []))
+    -- .. in a round that was not entered then, too
+    ∷ laterRow (act.Aux 1 2 1) (did (act.Start 1 1) ∷ from three (Est 1 2 1) ∷ from three (Est 1 2 0) ∷ inRound 1 2 ∷ did (act.Relay 1 2 0) ∷ did (act.Relay 1 2 1) ∷ [])
+    -- a planted mark makes no value accepted: 1 goes only where it is
+    ∷ laterRow (act.Aux 1 1 0) (ests three two (oneWasFirst 1 1 ∷ []))
+    ∷ laterRow act.Idle (ests two two (oneWasFirst 1 1 ∷ []))
     -- once a round
     ∷ laterRow act.Idle (ests three [] (did (act.Aux 1 1 0) ∷ []))
     -- before a move

@@ -5,7 +5,7 @@ use mathlib.Core.List.{List}
 use lib.Dec.{eqb, leb, ltb}
 use Rattle.settings.specs.Settings.{roundLimit}
 use Rattle.quorum.specs.Total.{count}
-use Rattle.records.specs.Records.{estHeld, auxHeld, round, estSent, auxSent, coinKnown, decidedZero, decidedOne, decided, finishHeld, finishSent}
+use Rattle.records.specs.Records.{estHeld, auxHeld, round, estSent, auxSent, oneFirst, coinKnown, decidedZero, decidedOne, decided, finishHeld, finishSent}
 use Rattle.acts.specs.Acts.{orAct, firstAct}
 use Rattle.acts.specs.declared.Act.{Act}
 use Rattle.acts.specs.declared.Act.the-variants.{Idle, Start, Relay, Aux, Move, Finish}
@@ -21,6 +21,10 @@ estCount g s i r b = count (estHeld s i r b) (g .n)
 -- a value is accepted in a round once its ESTs there reach the accept threshold (PROTOCOL 5.5)
 unfoldable pub accepted : Settings → List ℕ → ℕ → ℕ → ℕ → Bool
 accepted g s i r b = leb (accept g) (estCount g s i r b)
+
+-- 1 is accepted in round r of vote i, and 0 is not (PROTOCOL 5.19)
+unfoldable pub oneAlone : Settings → List ℕ → ℕ → ℕ → Bool
+oneAlone g s i r = accepted g s i r 1 && not (accepted g s i r 0)
 
 -- how many votes are decided 1 (PROTOCOL 5.3)
 unfoldable pub votesDecidedOne : Settings → List ℕ → ℕ
@@ -46,9 +50,17 @@ relayRound g s i r = orAct (relayValue g s i r 0) (relayValue g s i r 1)
 unfoldable pub relayAct : Settings → List ℕ → ℕ → Act
 relayAct g s i = firstAct (relayRound g s i) (min (round s i) roundLimit)
 
--- AUX carries 0 where 0 is accepted, otherwise 1 where that is (PROTOCOL 5.6)
+-- 1 is accepted in round r of vote i, and was so before 0, as the state recorded it at delivery (PROTOCOL 5.6)
+unfoldable pub oneAcceptedFirst : Settings → List ℕ → ℕ → ℕ → Bool
+oneAcceptedFirst g s i r = oneFirst s i r && accepted g s i r 1
+
+-- AUX carries the accepted value; with both accepted, the one that was accepted first: 1 where that was recorded, otherwise 0 (PROTOCOL 5.6)
 unfoldable pub auxValue : Settings → List ℕ → ℕ → ℕ → Act
-auxValue g s i r = cond (accepted g s i r 0) (Aux i r 0) (cond (accepted g s i r 1) (Aux i r 1) Idle)
+auxValue g s i r =
+    cond (oneAcceptedFirst g s i r) (Aux i r 1)
+    (cond (accepted g s i r 0) (Aux i r 0)
+    (cond (accepted g s i r 1) (Aux i r 1)
+    Idle))
 
 -- one AUX in each round, once the round has an accepted value (PROTOCOL 5.6)
 unfoldable pub auxAct : Settings → List ℕ → ℕ → Act

@@ -8,7 +8,7 @@ ghost use mathlib.Core.Path.{_≡_};
 ghost use Prim.Native.Nat.{min};
 ghost use Rattle.settings.specs.Settings.{roundLimit};
 ghost use Rattle.records.specs.Records.{round};
-ghost use Rattle.votes.specs.Votes.{estCount, accepted, votesDecidedOne, startAct, relayValue, relayRound, relayAct, running, auxValue, auxAct};
+ghost use Rattle.votes.specs.Votes.{estCount, accepted, oneAlone, votesDecidedOne, startAct, relayValue, relayRound, relayAct, running, oneAcceptedFirst, auxValue, auxAct};
 ghost use Rattle.quorum.specs.Marks.{mark};
 ghost use Rattle.votes.specs.Votes.{auxCount, viewOf, moveAct, roundAct, voteAct, voteDue, voteRule, coinValue, estimate, decides};
 ghost use Rattle.votes.specs.laws.Given.{carriersGiven, viewGiven, moveGiven, firstFinish, over};
@@ -32,6 +32,13 @@ pub fn accepted(s: &[u64], g: Settings, i: u8, r: u8, b: u8) -> bool
     ensures { λ t. ⌜ t ≡ accepted g (now (s .entry)) i r b ⌝ }
 {
     g.accept() <= est_count(s, g, i, r, b)
+}
+
+// Whether 1 is accepted in round r of vote i, and 0 is not.
+pub fn one_alone(s: &[u64], g: Settings, i: u8, r: u8) -> bool
+    ensures { λ t. ⌜ t ≡ oneAlone g (now (s .entry)) i r ⌝ }
+{
+    accepted(s, g, i, r, 1) & !accepted(s, g, i, r, 0)
 }
 
 // The weight of the votes decided 1.
@@ -109,10 +116,23 @@ pub fn relay_act(s: &[u64], g: Settings, i: u8) -> Act
     Act::Idle
 }
 
-// The AUX of round r: 0 if 0 is accepted, else 1.
+// Whether 1 is accepted in round r of vote i, and was so before 0. ESTs are counted only where the mark is set.
+fn one_accepted_first(s: &[u64], g: Settings, i: u8, r: u8) -> bool
+    ensures { λ t. ⌜ t ≡ oneAcceptedFirst g (now (s .entry)) i r ⌝ }
+{
+    if records::one_first(s, i, r) {
+        return accepted(s, g, i, r, 1);
+    }
+    false
+}
+
+// The AUX of round r: the value that was accepted first.
 fn aux_value(s: &[u64], g: Settings, i: u8, r: u8) -> Act
     ensures { λ a. ⌜ a ≡ auxValue g (now (s .entry)) i r ⌝ }
 {
+    if one_accepted_first(s, g, i, r) {
+        return Act::Aux(i, r, 1);
+    }
     if accepted(s, g, i, r, 0) {
         return Act::Aux(i, r, 0);
     }

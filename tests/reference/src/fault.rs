@@ -1,5 +1,6 @@
 //! 01, "Faults seen in code of this trade", two that weights bring, one of boxed coins, three of FINISHes (02, N11, N12 and
-//! N6), and two against what sets hold (N9): built in on request, so that a test can show that it finds them.
+//! N6), and two against what sets hold (N9): built in on request, so that a test can show that it finds them. And the AUX of 01
+//! that N2 replaced.
 
 /// A fault that a session is opened with. Everything but a test takes `None`.
 #[derive(Clone, Copy, Debug, Default, PartialEq, Eq)]
@@ -32,9 +33,13 @@ pub enum Fault {
     EarlyStart,
     /// Exit 3 takes the broadcasts that are not in S, where there are any, once all n have output.
     OutsideS,
+    /// No fault, and not in [`Fault::ALL`]: an AUX of 0 wherever 0 is accepted, as 01 had it before N2. It keeps every claim, and
+    /// shows what N2 changes.
+    ZeroBeforeOne,
 }
 
 impl Fault {
+    /// Those that lead to a violation, after `None`.
     pub const ALL: [Fault; 14] = [
         Fault::None,
         Fault::OpenVote,
@@ -69,6 +74,7 @@ impl Fault {
             Fault::MixedFinishes => "mixed-finishes",
             Fault::EarlyStart => "early-start",
             Fault::OutsideS => "outside-s",
+            Fault::ZeroBeforeOne => "zero-before-one",
         }
     }
 

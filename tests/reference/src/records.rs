@@ -33,10 +33,10 @@ impl Records {
     pub fn record(
         &mut self,
         sender: Number,
-        message: Message,
+        message: &Message,
         fault: Fault,
     ) -> Result<(), Refusal> {
-        match message {
+        match *message {
             Message::Send { value } => hold(&mut self.sends, sender, value),
             Message::Echo { instance, value } => self.record_echo(sender, instance, value, fault),
             Message::Ready { instance, value } => {
@@ -53,7 +53,7 @@ impl Records {
             Message::Aux { instance, round, value } => {
                 hold(self.auxes.entry((instance, round)).or_default(), sender, value)
             }
-            Message::Commit { values } => hold(&mut self.commits, sender, values),
+            Message::Commit { ref values } => hold(&mut self.commits, sender, values.clone()),
             Message::Finish { instance, value } => {
                 self.record_finish(sender, instance, value, fault)
             }

@@ -90,13 +90,11 @@ impl Session {
             return Err(Refusal::Closed);
         }
         let (sender, message) = Message::from_bytes(bytes, link, &self.settings, self.session)?;
-        let finished = match message {
-            Message::Finish { instance, value } => Some((instance, value)),
-            _ => None,
-        };
-        self.records.record(sender, message, self.fault)?;
-        if let Some((instance, value)) = finished {
-            self.decide_by_finishes(instance, value);
+        self.records.record(sender, &message, self.fault)?;
+        match message {
+            Message::Est { instance, round, value } => self.note_accepted(instance, round, value),
+            Message::Finish { instance, value } => self.decide_by_finishes(instance, value),
+            _ => {}
         }
         Ok(())
     }

@@ -1,4 +1,4 @@
-//! 01, rule 6: the votes, with the FINISHes of version 2 (02, N6).
+//! 01, rule 6: the votes, with the value accepted first in AUX (02, N2) and the FINISHes of version 2 (N6).
 
 use std::collections::{BTreeMap, BTreeSet};
 
@@ -16,6 +16,8 @@ pub struct Vote {
     /// The AUX of the current round is sent.
     aux_sent: bool,
     ests_sent: BTreeSet<(Round, bool)>,
+    /// Of each round, entered or not, the value whose ESTs of 2·ta+1 were complete first.
+    accepted_first: BTreeMap<Round, bool>,
     decision: Option<bool>,
     finish_sent: bool,
 }
@@ -122,14 +124,24 @@ impl Session {
         Some(Message::Est { instance, round, value })
     }
 
-    /// One AUX in each round: 0 where 0 is accepted, otherwise 1 (PROTOCOL 5.6).
+    /// An EST was recorded: a value that is accepted now is the first of its round, if none was before.
+    pub(crate) fn note_accepted(&mut self, instance: Number, round: Round, value: bool) {
+        if self.is_accepted(instance, round, value) {
+            self.vote_mut(instance).accepted_first.entry(round).or_insert(value);
+        }
+    }
+
+    /// One AUX in each round: the value that was accepted first (02, N2).
     fn send_aux(&mut self, instance: Number) -> Option<Message> {
         let round = self.vote(instance).open_round()?;
         if self.vote(instance).aux_sent {
             return None;
         }
-        let value =
-            [false, true].into_iter().find(|&value| self.is_accepted(instance, round, value))?;
+        let first = *self.vote(instance).accepted_first.get(&round)?;
+        let value = match self.fault {
+            Fault::ZeroBeforeOne => !self.is_accepted(instance, round, false),
+            _ => first,
+        };
         self.vote_mut(instance).aux_sent = true;
         Some(Message::Aux { instance, round, value })
     }

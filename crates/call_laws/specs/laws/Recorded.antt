@@ -35,7 +35,7 @@ module _ (n : ℕ) (few : n ≤ 16) (s v : List ℕ) (size : length s ≡ 2048) 
   count-recorded (Send i x) l = kept (Send i x) (λ z. elim z [ inl e ↦ omega arith | inr e ↦ omega arith ])
   count-recorded (Echo i x) l = kept (Echo i x) (λ z. elim z [ inl e ↦ omega arith | inr e ↦ omega arith ])
   count-recorded (Ready i x) l = kept (Ready i x) (λ z. elim z [ inl e ↦ omega arith | inr e ↦ omega arith ])
-  count-recorded (Est i r b) l = kept (Est i r b) (λ e. omega arith)
+  count-recorded (Est i r b) l = kept (Est i r b) (λ z. elim z [ inl e ↦ omega arith | inr e ↦ omega arith ])
   count-recorded (Aux i r b) l = kept (Aux i r b) (λ e. omega arith)
   count-recorded (Finish i b) l = kept (Finish i b) (λ z. elim z [ inl e ↦ omega arith | inr e ↦ omega arith ])
   count-recorded (Commit k) l = elim (ℕ-discrete q p) [

@@ -1,6 +1,6 @@
 -- Where all messages are held and nothing is due, everything was sent but the set in force.
 use Prim.Native.Nat.{ℕ, zero, suc, _+_, _*_, _-_, _^_, _≤_, min}
-use mathlib.Core.Bool.{true, false, _&&_, cond, true≢false}
+use mathlib.Core.Bool.{Bool, true, false, _&&_, cond, true≢false}
 use mathlib.Core.List.{List, [], _∷_}
 use mathlib.Core.Logic.{_≢_}
 use mathlib.Core.Path.{_≡_, refl, sym, ap, subst, _∙_}
@@ -33,7 +33,7 @@ use Rattle.broadcasts.specs.declared.Output.{Output}
 use Rattle.broadcasts.specs.declared.Output.the-variants.{Value, Nothing}
 use Rattle.commits.specs.Commits.{commitHeld, sameSet, setHolders, setLeads, setLeader, setOf, leadingSet}
 use Rattle.commits.specs.laws.Sets.{set-length, set-same}
-use Rattle.votes.specs.Votes.{estCount, accepted, votesDecidedOne, startAct, relayValue, relayRound, relayAct, running, auxValue, auxAct, carries, carriers, moveValue, moveAct, roundAct, voteAct}
+use Rattle.votes.specs.Votes.{estCount, accepted, votesDecidedOne, startAct, relayValue, relayRound, relayAct, running, oneAcceptedFirst, auxValue, auxAct, carries, carriers, moveValue, moveAct, roundAct, voteAct}
 use Rattle.votes.specs.laws.Versions.{first-rule}
 use Rattle.exits.specs.Exits.{Exit, withOutput, hasValue, everyBroadcast, noExit}
 use Rattle.exits.specs.laws.Stated.{singleExit, outputsExit}
@@ -166,10 +166,17 @@ module _ (n : ℕ) (two : 2 ≤ n) (few : n ≤ 16) (low : 1 ≤ n) (begin : Lis
         at (suc zero) k d = value-sent r 1 rl rh k (d .1)
         at (suc (suc c)) k d = absurd (omega arith)
 
-    -- a vote in one of its rounds has something due
-    aux-there : (r : ℕ) → 1 ≤ r → r ≤ 32 → isDue (cond (auxSent s i r) Idle (auxValue g s i r)) ≡ false → auxSent s i r ≡ true
+    -- a vote in one of its rounds has something due: an AUX, whichever value was accepted first
+    aux-due : (r : ℕ) → 1 ≤ r → r ≤ 32 → isDue (auxValue g s i r) ≡ true
     unfolding auxValue
-    aux-there r rl rh e = passed-test (auxSent s i r) (Aux i r 0) refl (rw (is-accepted i r 0 lo hi rl rh (omega arith)) at e)
+    aux-due r rl rh = rw (is-accepted i r 0 lo hi rl rh (omega arith)) (by (oneAcceptedFirst g s i r))
+      where
+        by : (t : Bool) → isDue (cond t (Aux i r 1) (Aux i r 0)) ≡ true
+        by true = refl
+        by false = refl
+
+    aux-there : (r : ℕ) → 1 ≤ r → r ≤ 32 → isDue (cond (auxSent s i r) Idle (auxValue g s i r)) ≡ false → auxSent s i r ≡ true
+    aux-there r rl rh e = passed-test (auxSent s i r) (auxValue g s i r) (aux-due r rl rh) e
 
     -- printed coins are known
     known : (r : ℕ) → coinKnown s i r ≡ true

@@ -25,8 +25,8 @@ hold-ready-requires c κs = search needs
 enum-known-m-4 : tie.Need-enum-known-m-4
 enum-known-m-4 c = search needs
 
-hold-est-requires : tie.Need-hold-est-requires
-hold-est-requires c κs = search needs
+record-est-requires : tie.Need-record-est-requires
+record-est-requires c κs = search needs
 
 enum-known-m-5 : tie.Need-enum-known-m-5
 enum-known-m-5 c = search needs
@@ -99,7 +99,7 @@ record-spec =
     enum-known-m-3
     hold-ready-requires
     enum-known-m-4
-    hold-est-requires
+    record-est-requires
     enum-known-m-5
     hold-aux-requires
     enum-known-m-6

@@ -2,17 +2,17 @@
 use Prim.Native.Nat.{ℕ}
 use mathlib.Core.Bool.{Bool, true, false, _||_}
 use mathlib.Core.List.{List}
-use mathlib.Core.Path.{_≡_, refl, sym, ap, _∙_}
-use native.Mathlib.Omega.{arith}
+use mathlib.Core.Path.{_≡_, refl}
 use lib.ListN.{length}
+use borrow.Author.Tests.{ne-eqb}
 use Rattle.records.specs.Records.{closed, version, sendHeld, echoHeld, readyHeld, estHeld, auxHeld, finishHeld}
-use Rattle.records.specs.Writing.{withSend, withEcho, withReady, withEst, withAux, withFinish, withCommit, withDecision}
+use Rattle.records.specs.Writing.{withSend, withEcho, withReady, withEst, withAux, withOneFirst, withFinish, withCommit, withDecision}
 use Rattle.commits.specs.Commits.{commitHeld}
 use Rattle.session.specs.laws.Cases.{size-wrong}
+use Rattle.votes.specs.Votes.{oneAlone}
 use Rattle.votes.specs.Finishing.{finishDecides}
 use Rattle.settings.specs.declared.Settings.{Settings}
-use Rattle.session.specs.Session.{isState, settingsOf, sessionWith, sessionOf, stored}
-use Rattle.session.specs.laws.Session.{held-read}
+use Rattle.session.specs.Session.{settingsOf, stored}
 use Rattle.session.specs.declared.Session.{Session}
 use Rattle.session.specs.declared.Stored.{Stored}
 use Rattle.session.specs.declared.Stored.the-variants.{NoState, Held}
@@ -22,7 +22,7 @@ use Rattle.wire.specs.declared.Message.{Message}
 use Rattle.wire.specs.declared.Message.the-variants.{Send, Echo, Ready, Est, Aux, Commit, Finish}
 use Rattle.wire.specs.declared.Parsed.{Parsed}
 use Rattle.wire.specs.declared.Parsed.the-variants as parsed
-use Rattle.delivery.specs.Delivery.{placeHeld, judged, verdict, finishSettled, recorded}
+use Rattle.delivery.specs.Delivery.{placeHeld, judged, verdict, firstNoted, finishSettled, recorded}
 use Rattle.delivery.specs.laws.Stored.{verdictFor, verdict-stored}
 use Rattle.delivery.specs.declared.Verdict.{Verdict}
 use Rattle.delivery.specs.declared.Verdict.the-variants.{Refused, Accepted}
@@ -100,16 +100,30 @@ module _ (g : Settings) (s s1 t : List ℕ) (p i b : ℕ) (e : s1 ≡ withFinish
 
 pub ruleset settle-cases = (finish-decided, finish-open)
 
-module _ (s : List ℕ) (p i b : ℕ) (y : Stored) (e : y ≡ stored s) where
-  pub finish-nowhere : isState s ≡ true → y ≡ NoState → s ≡ finishSettled (settingsOf s) (withFinish s i b p) i b
-  unfolding stored
-  finish-nowhere h n = absurd (let z : _≡_ {A = Stored} NoState (Held (sessionOf s)) = sym n ∙ e ∙ rw h in let o : _≡_ {A = ℕ} 0 1 = cc in omega arith)
+pub finish-here : (s t : List ℕ) (p i b : ℕ) (g : Settings) → g ≡ settingsOf s → t ≡ finishSettled g (withFinish s i b p) i b → t ≡ finishSettled (settingsOf s) (withFinish s i b p) i b
+finish-here s t p i b g e q = rw (← e) q
 
-  pub finish-here : (x : Session) (t : List ℕ) → y ≡ Held x → t ≡ finishSettled (x .settings) (withFinish s i b p) i b → t ≡ finishSettled (settingsOf s) (withFinish s i b p) i b
-  unfolding sessionOf sessionWith
-  finish-here x t h q = q ∙ ap (λ (k : Session). finishSettled (k .settings) (withFinish s i b p) i b) (held-read s x (sym e ∙ h) .same)
+-- the value accepted first
+module _ (g : Settings) (s s1 t : List ℕ) (p i r : ℕ) (e : s1 ≡ withEst s i r 1 p) (d : Bool) (f : d ≡ oneAlone g s1 i r) where
+  pub one-noted : d ≡ true → t ≡ withOneFirst s1 i r → t ≡ firstNoted g (withEst s i r 1 p) i r 1
+  unfolding firstNoted
+  one-noted h q = rw (← e, ← f, h) q
 
-pub ruleset finish-cases = (finish-nowhere, finish-here)
+  pub one-passed : d ≡ false → s1 ≡ firstNoted g (withEst s i r 1 p) i r 1
+  unfolding firstNoted
+  one-passed h = rw (← e, ← f, h)
+
+pub ruleset one-cases = (one-noted, one-passed)
+
+module _ (s t : List ℕ) (p i r b : ℕ) where
+  pub est-one : (g : Settings) → b ≡ 1 → g ≡ settingsOf s → t ≡ firstNoted g (withEst s i r 1 p) i r 1 → t ≡ firstNoted (settingsOf s) (withEst s i r b p) i r b
+  est-one g z e q = rw (← e, z) q
+
+  pub est-other : (b ≡ 1 → ⊥) → t ≡ withEst s i r b p → t ≡ firstNoted (settingsOf s) (withEst s i r b p) i r b
+  unfolding firstNoted
+  est-other z q = rw (ne-eqb b 1 z) q
+
+pub ruleset est-cases = (est-one, est-other)
 
 module _ (s t v : List ℕ) (p : ℕ) (m : Message) where
   pub record-send : (i x : ℕ) → m ≡ Send i x → t ≡ withSend s i x → t ≡ recorded s p m v
@@ -124,7 +138,7 @@ module _ (s t v : List ℕ) (p : ℕ) (m : Message) where
   unfolding recorded
   record-ready i x e f = rw e f
 
-  pub record-est : (i r b : ℕ) → m ≡ Est i r b → t ≡ withEst s i r b p → t ≡ recorded s p m v
+  pub record-est : (i r b : ℕ) → m ≡ Est i r b → t ≡ firstNoted (settingsOf s) (withEst s i r b p) i r b → t ≡ recorded s p m v
   unfolding recorded
   record-est i r b e f = rw e f
 

@@ -7,7 +7,7 @@ use mathlib.Core.Path.{_≡_, sym, ap, _∙_}
 use native.Mathlib.Omega.{arith}
 use lib.ListN.{length}
 use Rattle.quorum.specs.Marks.{mark}
-use Rattle.records.specs.Layout.{sendMarksAt, sendValueAt, echoMarksAt, echoValueAt, readyMarksAt, readyValueAt, voteAt, estMark, auxMark, finishMarksAt, finishMark, commitCountAt, commitRowAt, decidedZeroAt, decidedOneAt}
+use Rattle.records.specs.Layout.{sendMarksAt, sendValueAt, echoMarksAt, echoValueAt, readyMarksAt, readyValueAt, voteAt, estMark, auxMark, oneFirstAt, finishMarksAt, finishMark, commitCountAt, commitRowAt, decidedZeroAt, decidedOneAt}
 use Rattle.records.specs.Words.{word, put, marked, setMark}
 use Rattle.records.specs.laws.Words.{length-put, length-setMark, word-put-other, word-setMark-other, marked-came}
 use Rattle.records.specs.Words.{storeOf}
@@ -15,10 +15,10 @@ use Rattle.records.specs.laws.Fill.{length-storeOf, store-other}
 use Rattle.wire.specs.Bytes.{valueAt}
 use Rattle.wire.specs.declared.Message.{Message}
 use Rattle.wire.specs.declared.Message.the-variants.{Send, Echo, Ready, Est, Aux, Commit, Finish}
-use Rattle.records.specs.Writing.{withFinish}
+use Rattle.records.specs.Writing.{withEst, withFinish}
 use Rattle.session.specs.Session.{settingsOf}
 use Rattle.delivery.specs.Delivery.{recorded}
-use Rattle.delivery.specs.laws.Settling.{settled-word, settled-length}
+use Rattle.delivery.specs.laws.Settling.{noted-word, noted-length, settled-word, settled-length}
 
 -- a message of sender p within the layout; a SEND's instance is its sender (PROTOCOL 2.1)
 abbrev pub InLayout : ℕ → Message → Type 0
@@ -90,6 +90,13 @@ not-decision a (inr (inl y)) = ((λ z. omega arith), λ z. omega arith)
 not-decision a (inr (inr (inl y))) = ((λ z. omega arith), λ z. omega arith)
 not-decision a (inr (inr (inr y))) = ((λ z. omega arith), λ z. omega arith)
 
+-- nor is what was accepted first
+not-first : (a i : ℕ) → i ≤ 16 → MarkWord a → 1 ≤ i → a ≢ oneFirstAt i
+not-first a i few (inl y) some z = omega arith
+not-first a i few (inr (inl y)) some z = omega arith
+not-first a i few (inr (inr (inl y))) some z = omega arith
+not-first a i few (inr (inr (inr y))) some z = omega arith
+
 -- no new mark but that of the message
 pub mark-recorded : (s v : List ℕ) (p : ℕ) (m : Message) (a j : ℕ) → length s ≡ 2048 → InLayout p m → MarkWord a → marked (recorded s p m v) a j ≡ true → (marked s a j ≡ true) ⊎ ((a ≡ markWordOf p m) × (j ≡ markOf p m))
 unfolding recorded marked
@@ -99,7 +106,9 @@ mark-recorded s v p (Echo i x) a j l h t e =
     value-then-mark s (echoValueAt i p) x (echoMarksAt i) p a j (omega arith) (no-marks (echoValueAt i p) a (inr (inr (omega arith, omega arith))) t) e
 mark-recorded s v p (Ready i x) a j l h t e =
     value-then-mark s (readyValueAt i p) x (readyMarksAt i) p a j (omega arith) (no-marks (readyValueAt i p) a (inr (inr (omega arith, omega arith))) t) e
-mark-recorded s v p (Est i r b) a j l h t e = marked-came s (voteAt i r) (estMark b p) a j (omega arith) e
+mark-recorded s v p (Est i r b) a j l h t e =
+    marked-came s (voteAt i r) (estMark b p) a j (omega arith)
+    (ap (λ (x : ℕ). mark x j) (sym (noted-word (settingsOf s) (withEst s i r b p) i r b a (not-first a i (h .3) t (h .2)))) ∙ e)
 mark-recorded s v p (Aux i r b) a j l h t e = marked-came s (voteAt i r) (auxMark b p) a j (omega arith) e
 mark-recorded s v p (Commit k) a j l h t e = inl (kept ∙ e)
   where
@@ -115,12 +124,12 @@ mark-recorded s v p (Finish i b) a j l h t e =
     marked-came s (finishMarksAt i) (finishMark b p) a j (omega arith)
     (ap (λ (x : ℕ). mark x j) (sym (settled-word (settingsOf s) (withFinish s i b p) i b a (not-decision a t .0) (not-decision a t .1))) ∙ e)
 
--- the words that recording a message of sender p may change; a FINISH may decide its vote
+-- the words that recording a message of sender p may change; an EST may be the first value accepted, and a FINISH may decide its vote
 abbrev pub Changed : ℕ → Message → ℕ → Type 0
 Changed p (Send i x) a = (a ≡ sendValueAt i) ⊎ (a ≡ sendMarksAt)
 Changed p (Echo i x) a = (a ≡ echoValueAt i p) ⊎ (a ≡ echoMarksAt i)
 Changed p (Ready i x) a = (a ≡ readyValueAt i p) ⊎ (a ≡ readyMarksAt i)
-Changed p (Est i r b) a = a ≡ voteAt i r
+Changed p (Est i r b) a = (a ≡ voteAt i r) ⊎ (a ≡ oneFirstAt i)
 Changed p (Aux i r b) a = a ≡ voteAt i r
 Changed p (Commit k) a = (a ≡ commitCountAt p) ⊎ ((commitRowAt p < a) × (a ≤ commitRowAt p + k))
 Changed p (Finish i b) a = (a ≡ finishMarksAt i) ⊎ ((decidedZeroAt ≤ a) × (a ≤ decidedOneAt))
@@ -131,7 +140,9 @@ unfolding recorded
 word-recorded s v p (Send i x) a h = word-setMark-other _ sendMarksAt i a (λ z. h (inr z)) ∙ word-put-other s (sendValueAt i) x a (λ z. h (inl z))
 word-recorded s v p (Echo i x) a h = word-setMark-other _ (echoMarksAt i) p a (λ z. h (inr z)) ∙ word-put-other s (echoValueAt i p) x a (λ z. h (inl z))
 word-recorded s v p (Ready i x) a h = word-setMark-other _ (readyMarksAt i) p a (λ z. h (inr z)) ∙ word-put-other s (readyValueAt i p) x a (λ z. h (inl z))
-word-recorded s v p (Est i r b) a h = word-setMark-other s (voteAt i r) (estMark b p) a h
+word-recorded s v p (Est i r b) a h =
+    noted-word (settingsOf s) (withEst s i r b p) i r b a (λ z. h (inr z))
+    ∙ word-setMark-other s (voteAt i r) (estMark b p) a (λ z. h (inl z))
 word-recorded s v p (Aux i r b) a h = word-setMark-other s (voteAt i r) (auxMark b p) a h
 word-recorded s v p (Commit k) a h =
     word-put-other _ (commitCountAt p) k a (λ z. h (inl z))
@@ -145,7 +156,7 @@ unfolding recorded
 length-recorded s v p (Send i x) = simp (length-setMark, length-put)
 length-recorded s v p (Echo i x) = simp (length-setMark, length-put)
 length-recorded s v p (Ready i x) = simp (length-setMark, length-put)
-length-recorded s v p (Est i r b) = length-setMark s (voteAt i r) (estMark b p)
+length-recorded s v p (Est i r b) = noted-length (settingsOf s) (withEst s i r b p) i r b ∙ length-setMark s (voteAt i r) (estMark b p)
 length-recorded s v p (Aux i r b) = length-setMark s (voteAt i r) (auxMark b p)
 length-recorded s v p (Commit k) = length-put _ (commitCountAt p) k ∙ length-storeOf (valueAt v) (commitRowAt p) s k
 length-recorded s v p (Finish i b) = settled-length (settingsOf s) (withFinish s i b p) i b ∙ length-setMark s (finishMarksAt i) (finishMark b p)

@@ -18,10 +18,10 @@ use Rattle.commits.specs.Commits.{commitHeld}
 use Rattle.wire.specs.Bytes.{valueAt}
 use Rattle.wire.specs.declared.Message.{Message}
 use Rattle.wire.specs.declared.Message.the-variants.{Send, Echo, Ready, Est, Aux, Commit, Finish}
-use Rattle.records.specs.Writing.{withFinish}
+use Rattle.records.specs.Writing.{withEst, withFinish}
 use Rattle.session.specs.Session.{settingsOf}
 use Rattle.delivery.specs.Delivery.{placeHeld, recorded}
-use Rattle.delivery.specs.laws.Settling.{settled-kept}
+use Rattle.delivery.specs.laws.Settling.{noted-kept, settled-kept}
 use Rattle.delivery.specs.laws.Frame.{InLayout, MarkWord, ValueWord, markWordOf, markOf, mark-put, no-marks, Changed, word-recorded}
 use Rattle.delivery.specs.laws.Kept.{SetAfter, before, now, set-after}
 
@@ -44,7 +44,7 @@ module _ (s v : List ℕ) (size : length s ≡ 2048) (p : ℕ) where
   marks-recorded (Send i x) h k w q e = marked-kept _ sendMarksAt i k q (put-keeps (sendValueAt i) x (inl (omega arith, omega arith)) k w q e)
   marks-recorded (Echo i x) h k w q e = marked-kept _ (echoMarksAt i) p k q (put-keeps (echoValueAt i p) x (inr (inr (omega arith, omega arith))) k w q e)
   marks-recorded (Ready i x) h k w q e = marked-kept _ (readyMarksAt i) p k q (put-keeps (readyValueAt i p) x (inr (inr (omega arith, omega arith))) k w q e)
-  marks-recorded (Est i r b) h k w q e = marked-kept s (voteAt i r) (estMark b p) k q e
+  marks-recorded (Est i r b) h k w q e = noted-kept (settingsOf s) (withEst s i r b p) i r b k q (marked-kept s (voteAt i r) (estMark b p) k q e)
   marks-recorded (Aux i r b) h k w q e = marked-kept s (voteAt i r) (auxMark b p) k q e
   marks-recorded (Commit c) h k w q e = ap (λ (x : ℕ). mark x q) (word-recorded s v p (Commit c) k out) ∙ e
     where
@@ -61,7 +61,9 @@ module _ (s v : List ℕ) (size : length s ≡ 2048) (p : ℕ) where
   new-recorded (Send i x) h c = marked-new _ sendMarksAt i (omega (arith, put-size (sendValueAt i) x)) (omega arith) (omega arith)
   new-recorded (Echo i x) h c = marked-new _ (echoMarksAt i) p (omega (arith, put-size (echoValueAt i p) x)) (omega arith) (omega arith)
   new-recorded (Ready i x) h c = marked-new _ (readyMarksAt i) p (omega (arith, put-size (readyValueAt i p) x)) (omega arith) (omega arith)
-  new-recorded (Est i r b) h c = marked-new s (voteAt i r) (estMark b p) (omega arith) (omega arith) (omega arith)
+  new-recorded (Est i r b) h c =
+      noted-kept (settingsOf s) (withEst s i r b p) i r b (voteAt i r) (estMark b p)
+      (marked-new s (voteAt i r) (estMark b p) (omega arith) (omega arith) (omega arith))
   new-recorded (Aux i r b) h c = marked-new s (voteAt i r) (auxMark b p) (omega arith) (omega arith) (omega arith)
   new-recorded (Commit k) h c = absurd c
   new-recorded (Finish i b) h c =

@@ -19,10 +19,10 @@ use Rattle.wire.specs.Bytes.{valueAt, values}
 use Rattle.wire.specs.declared.Message.{Message}
 use Rattle.wire.specs.declared.Message.the-variants.{Send, Echo, Ready, Est, Aux, Commit, Finish}
 use Rattle.wire_laws.specs.Proper.{Layout}
-use Rattle.records.specs.Writing.{withFinish}
+use Rattle.records.specs.Writing.{withEst, withFinish}
 use Rattle.session.specs.Session.{settingsOf}
 use Rattle.delivery.specs.Delivery.{recorded}
-use Rattle.delivery.specs.laws.Settling.{settled-fit}
+use Rattle.delivery.specs.laws.Settling.{noted-fit, settled-fit}
 use Rattle.delivery.specs.laws.Frame.{InLayout, Changed, word-recorded, length-recorded}
 use Rattle.delivery.specs.laws.Values.{values-listed}
 
@@ -49,7 +49,8 @@ changed-where p (Echo i x) a h (inl e) = inr (omega arith)
 changed-where p (Echo i x) a h (inr e) = inl (omega arith, omega arith)
 changed-where p (Ready i x) a h (inl e) = inr (omega arith)
 changed-where p (Ready i x) a h (inr e) = inl (omega arith, omega arith)
-changed-where p (Est i r b) a h e = inr (omega arith)
+changed-where p (Est i r b) a h (inl e) = inr (omega arith)
+changed-where p (Est i r b) a h (inr e) = inr (omega arith)
 changed-where p (Aux i r b) a h e = inr (omega arith)
 changed-where p (Commit k) a h (inl e) = inl (omega arith, omega arith)
 changed-where p (Commit k) a h (inr e) = inr (omega arith)
@@ -73,7 +74,8 @@ no-free p (Echo i x) a h lo hi (inl e) = omega arith
 no-free p (Echo i x) a h lo hi (inr e) = omega arith
 no-free p (Ready i x) a h lo hi (inl e) = omega arith
 no-free p (Ready i x) a h lo hi (inr e) = omega arith
-no-free p (Est i r b) a h lo hi e = omega arith
+no-free p (Est i r b) a h lo hi (inl e) = omega arith
+no-free p (Est i r b) a h lo hi (inr e) = omega arith
 no-free p (Aux i r b) a h lo hi e = omega arith
 no-free p (Commit k) a h lo hi (inl e) = omega arith
 no-free p (Commit k) a h lo hi (inr e) = omega arith
@@ -100,7 +102,7 @@ unfolding recorded
 fit-recorded s v p (Send i x) h x-fits f = fit-setMark _ _ _ (fit-put s _ x f x-fits)
 fit-recorded s v p (Echo i x) h x-fits f = fit-setMark _ _ _ (fit-put s _ x f x-fits)
 fit-recorded s v p (Ready i x) h x-fits f = fit-setMark _ _ _ (fit-put s _ x f x-fits)
-fit-recorded s v p (Est i r b) h u f = fit-setMark s _ _ f
+fit-recorded s v p (Est i r b) h u f = noted-fit (settingsOf s) (withEst s i r b p) i r b (fit-setMark s _ _ f)
 fit-recorded s v p (Aux i r b) h u f = fit-setMark s _ _ f
 fit-recorded s v p (Commit k) h all f = fit-put _ _ k (fit-storeOf (valueAt v) _ s k f (λ j lo hi. all j)) (omega arith)
 fit-recorded s v p (Finish i b) h u f = settled-fit (settingsOf s) (withFinish s i b p) i b (fit-setMark s _ _ f)
@@ -170,9 +172,11 @@ set-after s v p (Ready i x) k size h lo hi = set-kept s v p (Ready i x) k size h
     out a (inr c) (inr d) = omega arith
 set-after s v p (Est i r b) k size h lo hi = set-kept s v p (Est i r b) k size hi out
   where
-    out : (a : ℕ) → CommitWord k a → a ≡ 991 + 32 * i + r → ⊥
-    out a (inl c) d = omega arith
-    out a (inr c) d = omega arith
+    out : (a : ℕ) → CommitWord k a → Changed p (Est i r b) a → ⊥
+    out a (inl c) (inl d) = omega arith
+    out a (inl c) (inr d) = omega arith
+    out a (inr c) (inl d) = omega arith
+    out a (inr c) (inr d) = omega arith
 set-after s v p (Aux i r b) k size h lo hi = set-kept s v p (Aux i r b) k size hi out
   where
     out : (a : ℕ) → CommitWord k a → a ≡ 991 + 32 * i + r → ⊥

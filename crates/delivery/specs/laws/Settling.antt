@@ -1,6 +1,6 @@
--- The decision that FINISHes make, and what it leaves.
+-- What deliveries mark beside their messages, and what that leaves: which value was accepted first, and the decision that FINISHes make.
 use Prim.Native.Nat.{ℕ, _≤_}
-use mathlib.Core.Bool.{Bool, true, false, not, cond}
+use mathlib.Core.Bool.{Bool, true, false, _&&_, not, cond}
 use mathlib.Core.List.{List}
 use mathlib.Core.Logic.{_⊎_, inl, inr, _≢_}
 use mathlib.Core.Path.{_≡_, refl}
@@ -10,14 +10,67 @@ use borrow.Author.Tests.{leb-true, not-true}
 use Rattle.quorum.specs.laws.Bools.{and-left, and-right}
 use Rattle.settings.specs.Settings.{accept}
 use Rattle.settings.specs.declared.Settings.{Settings}
-use Rattle.records.specs.Layout.{decidedZeroAt, decidedOneAt}
+use Rattle.records.specs.Layout.{oneFirstAt, decidedZeroAt, decidedOneAt}
 use Rattle.records.specs.Records.{decided}
-use Rattle.records.specs.Words.{word, marked}
+use Rattle.records.specs.Words.{word, marked, setMark}
 use Rattle.records.specs.laws.Words.{length-setMark, word-setMark-other, marked-kept}
 use Rattle.records.specs.laws.Bounds.{Fit, fit-setMark}
 use Rattle.records.specs.Writing.{withDecision}
+use Rattle.votes.specs.Votes.{oneAlone}
 use Rattle.votes.specs.Finishing.{finishCount, finishDecides}
-use Rattle.delivery.specs.Delivery.{finishSettled}
+use Rattle.delivery.specs.Delivery.{firstNoted, finishSettled}
+
+-- mark q of word k, set where d holds
+module _ (d : Bool) (s : List ℕ) (k q : ℕ) where
+  given-word : (a : ℕ) → a ≢ k → word (cond d (setMark s k q) s) a ≡ word s a
+  given-word a n = by d
+    where
+      by : (c : Bool) → word (cond c (setMark s k q) s) a ≡ word s a
+      by true = word-setMark-other s k q a n
+      by false = refl
+
+  given-length : length (cond d (setMark s k q) s) ≡ length s
+  given-length = by d
+    where
+      by : (c : Bool) → length (cond c (setMark s k q) s) ≡ length s
+      by true = length-setMark s k q
+      by false = refl
+
+  given-fit : Fit s → Fit (cond d (setMark s k q) s)
+  given-fit f = by d
+    where
+      by : (c : Bool) → Fit (cond c (setMark s k q) s)
+      by true = fit-setMark s k q f
+      by false = f
+
+  given-kept : (a j : ℕ) → marked s a j ≡ true → marked (cond d (setMark s k q) s) a j ≡ true
+  given-kept a j e = by d
+    where
+      by : (c : Bool) → marked (cond c (setMark s k q) s) a j ≡ true
+      by true = marked-kept s k q a j e
+      by false = e
+
+-- the mark of the value accepted first
+module _ (g : Settings) (s : List ℕ) (i r b : ℕ) where
+  abbrev noted : Bool
+  noted = eqb b 1 && oneAlone g s i r
+
+  pub noted-word : (a : ℕ) → a ≢ oneFirstAt i → word (firstNoted g s i r b) a ≡ word s a
+  unfolding firstNoted
+  noted-word a n = given-word noted s (oneFirstAt i) r a n
+
+  pub noted-length : length (firstNoted g s i r b) ≡ length s
+  unfolding firstNoted
+  noted-length = given-length noted s (oneFirstAt i) r
+
+  pub noted-fit : Fit s → Fit (firstNoted g s i r b)
+  unfolding firstNoted
+  noted-fit f = given-fit noted s (oneFirstAt i) r f
+
+  -- no mark goes
+  pub noted-kept : (a j : ℕ) → marked s a j ≡ true → marked (firstNoted g s i r b) a j ≡ true
+  unfolding firstNoted
+  noted-kept a j e = given-kept noted s (oneFirstAt i) r a j e
 
 -- vote i is decided b by the FINISHes of b that are held in s
 pub record FinishDecided (g : Settings) (s : List ℕ) (i b : ℕ) : Type 0 where
@@ -42,8 +95,11 @@ module _ (g : Settings) (s : List ℕ) (i b : ℕ) where
       by true e = inr (rw e, finish-decided-told g s i b e)
       by false e = inl (rw e)
 
-  decision-word : (a : ℕ) → a ≢ decidedZeroAt → a ≢ decidedOneAt → word (withDecision s i b) a ≡ word s a
-  decision-word a z o = word-setMark-other s (cond (eqb b 0) decidedZeroAt decidedOneAt) i a (by (eqb b 0))
+  abbrev decision : ℕ
+  decision = cond (eqb b 0) decidedZeroAt decidedOneAt
+
+  not-decision : (a : ℕ) → a ≢ decidedZeroAt → a ≢ decidedOneAt → a ≢ decision
+  not-decision a z o = by (eqb b 0)
     where
       by : (t : Bool) → a ≢ cond t decidedZeroAt decidedOneAt
       by true = z
@@ -51,33 +107,17 @@ module _ (g : Settings) (s : List ℕ) (i b : ℕ) where
 
   pub settled-word : (a : ℕ) → a ≢ decidedZeroAt → a ≢ decidedOneAt → word (finishSettled g s i b) a ≡ word s a
   unfolding finishSettled
-  settled-word a z o = by (finishDecides g s i b)
-    where
-      by : (d : Bool) → word (cond d (withDecision s i b) s) a ≡ word s a
-      by true = decision-word a z o
-      by false = refl
+  settled-word a z o = given-word (finishDecides g s i b) s decision i a (not-decision a z o)
 
   pub settled-length : length (finishSettled g s i b) ≡ length s
   unfolding finishSettled
-  settled-length = by (finishDecides g s i b)
-    where
-      by : (d : Bool) → length (cond d (withDecision s i b) s) ≡ length s
-      by true = length-setMark s (cond (eqb b 0) decidedZeroAt decidedOneAt) i
-      by false = refl
+  settled-length = given-length (finishDecides g s i b) s decision i
 
   pub settled-fit : Fit s → Fit (finishSettled g s i b)
   unfolding finishSettled
-  settled-fit f = by (finishDecides g s i b)
-    where
-      by : (d : Bool) → Fit (cond d (withDecision s i b) s)
-      by true = fit-setMark s (cond (eqb b 0) decidedZeroAt decidedOneAt) i f
-      by false = f
+  settled-fit f = given-fit (finishDecides g s i b) s decision i f
 
   -- no mark goes
   pub settled-kept : (k q : ℕ) → marked s k q ≡ true → marked (finishSettled g s i b) k q ≡ true
   unfolding finishSettled
-  settled-kept k q e = by (finishDecides g s i b)
-    where
-      by : (d : Bool) → marked (cond d (withDecision s i b) s) k q ≡ true
-      by true = marked-kept s (cond (eqb b 0) decidedZeroAt decidedOneAt) i k q e
-      by false = e
+  settled-kept k q e = given-kept (finishDecides g s i b) s decision i k q e

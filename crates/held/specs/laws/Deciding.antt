@@ -110,7 +110,11 @@ module _ (s v : List ℕ) (p : ℕ) (size : length s ≡ 2048) (i : ℕ) (z : Bo
       out : Changed p (wire.Ready j x) (decidedAt z) → ⊥
       out (inl e) = omega (arith, low z .0, low z .1)
       out (inr e) = omega (arith, low z .0, low z .1)
-  decided-came (wire.Est j r b) h = stood (wire.Est j r b) (λ e. omega (arith, low z .0, low z .1))
+  decided-came (wire.Est j r b) h = stood (wire.Est j r b) out
+    where
+      out : Changed p (wire.Est j r b) (decidedAt z) → ⊥
+      out (inl e) = omega (arith, low z .0, low z .1)
+      out (inr e) = omega (arith, low z .0, low z .1)
   decided-came (wire.Aux j r b) h = stood (wire.Aux j r b) (λ e. omega (arith, low z .0, low z .1))
   decided-came (wire.Commit k) h = stood (wire.Commit k) out
     where

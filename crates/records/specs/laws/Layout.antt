@@ -5,7 +5,7 @@ use mathlib.Core.List.{List, [], _∷_}
 use mathlib.Core.Path.{_≡_, refl}
 use lib.Dec.{eqb, leb}
 use Rattle.records.specs.Layout.{stateWords, nAt, taAt, tsAt, ownAt, sessionAt, inputAt, turnsAt, flagsAt, coinAt, roundAt, estSentAt, auxSentAt, sendValueAt, echoMarksAt, readyMarksAt, commitCountAt}
-use Rattle.records.specs.Layout.{echoSentAt, readySentAt, decidedZeroAt, decidedOneAt, sendMarksAt, weightsAt, boxedAt, versionAt, finishSentAt, finishMarksAt, echoValueAt, readyValueAt, commitValueAt, voteAt}
+use Rattle.records.specs.Layout.{echoSentAt, readySentAt, decidedZeroAt, decidedOneAt, sendMarksAt, weightsAt, boxedAt, versionAt, finishSentAt, finishMarksAt, oneFirstAt, echoValueAt, readyValueAt, commitValueAt, voteAt}
 
 -- a region by its address function, at the lowest numbers and at the highest, and the words that the layout names for it
 pub record Region : Type 0 where
@@ -50,6 +50,7 @@ regions =
     ∷ single versionAt 143
     ∷ single finishSentAt 144
     ∷ region (finishMarksAt 1) (finishMarksAt 16) 145 160
+    ∷ region (oneFirstAt 1) (oneFirstAt 16) 161 176
     ∷ region (echoValueAt 1 1) (echoValueAt 16 16) 256 511
     ∷ region (readyValueAt 1 1) (readyValueAt 16 16) 512 767
     ∷ region (commitValueAt 1 1) (commitValueAt 16 16) 768 1023

@@ -5,6 +5,8 @@ use mathlib.Core.List.{List}
 use mathlib.Core.Path.{_≡_, sym, _∙_}
 use native.Mathlib.Omega.{arith}
 use lib.ListN.{length}
+use mir.Val.{Fits}
+use mir.Syntax.{w8}
 use lib.Dec.{leb}
 use borrow.Author.Tests.{eq-eqb, ne-eqb, lt-leb, le-leb, not-true, not-false, leb-true}
 use Rattle.quorum.specs.laws.Bools.{and-left, and-right}
@@ -16,11 +18,14 @@ use Rattle.settings.specs.declared.Checked.{Checked}
 use Rattle.settings.specs.declared.Checked.the-variants.{Valid, Invalid}
 use Rattle.quorum.specs.Every.{every}
 use Rattle.quorum.specs.laws.Every.{every-both}
+use Rattle.quorum.specs.Whole.{wholeOf}
+use Rattle.quorum.specs.laws.Whole.{whole-le}
+use Rattle.settings.specs.Rules.{Ruled}
 use Rattle.records.specs.Layout.{nAt, taAt, tsAt, ownAt, weightsAt, boxedAt, turnsAt, roundAt, commitCountAt}
 use Rattle.records.specs.Records.{version}
 use Rattle.records.specs.Words.{word}
 use Rattle.session.specs.Session.{numbered, roundsRight, commitsRight, numbersRight, settingsOf, isState, sessionWith, sessionOf, stored}
-use Rattle.session.specs.laws.Session.{placeRight, storedWith}
+use Rattle.session.specs.laws.Session.{placeRight, is-state, storedWith}
 use Rattle.session.specs.declared.Session.{Session}
 use Rattle.session.specs.declared.Stored.{Stored}
 use Rattle.session.specs.declared.Stored.the-variants.{NoState, Held}
@@ -80,3 +85,35 @@ module _ (s : List ℕ) (size : length s ≡ 2048) (n ta ts w : ℕ) (en : n ≡
       f ∙ rw (k .same, eq-eqb (length s) 2048 size, ← en, ← ea, ← es, ← ew, k .valid)
 
 pub ruleset state-cases = (own-small, with-held, with-none, size-wrong, settings-wrong, settings-right)
+
+-- the settings of a state fit into bytes
+module _ (s : List ℕ) (h : isState s ≡ true) where
+  ruled : Ruled (settingsOf s)
+  ruled = is-state s h .ruled
+
+  sum-small : wholeOf (word s weightsAt) (word s nAt) ≤ 64
+  unfolding settingsOf
+  sum-small = omega (arith, ruled .few, whole-le (word s weightsAt) (word s nAt) (ruled .right))
+
+  pub n-fits : (n : ℕ) → n ≡ word s 0 → Fits w8 n
+  unfolding settingsOf
+  n-fits n e = omega (arith, e, ruled .few)
+
+  pub ta-fits : (k : ℕ) → k ≡ word s 1 → Fits w8 k
+  unfolding settingsOf
+  ta-fits k e = omega (arith, e, sum-small, ruled .sum, ruled .margin)
+
+  pub ts-fits : (k : ℕ) → k ≡ word s 2 → Fits w8 k
+  unfolding settingsOf
+  ts-fits k e = omega (arith, e, sum-small, ruled .sum, ruled .margin)
+
+  pub whole-fits : (n w k : ℕ) → n ≡ word s 0 → w ≡ word s 141 → k ≡ wholeOf w n → Fits w8 k
+  whole-fits n w k en ew ek =
+      let e : k ≡ wholeOf (word s weightsAt) (word s nAt) = ek ∙ rw (en, ew) in
+      omega (arith, e, sum-small)
+
+pub settings-read : (s : List ℕ) (n ta ts w k : ℕ) → n ≡ word s 0 → w ≡ word s 141 → ta ≡ word s 1 → ts ≡ word s 2 → k ≡ wholeOf w n → record { n = n; ta = ta; ts = ts; whole = k; weights = w } ≡ settingsOf s
+unfolding settingsOf
+settings-read s n ta ts w k en ew ea es ek = rw (ek, en, ew, ea, es)
+
+pub ruleset settings-cases = (n-fits, ta-fits, ts-fits, whole-fits, settings-read)

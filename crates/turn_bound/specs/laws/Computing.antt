@@ -9,13 +9,13 @@ use Rattle.quorum.specs.Packed.{markIf, withWeight, packed}
 use Rattle.quorum.specs.Lowest.{lowest}
 use Rattle.quorum.specs.Every.{every}
 use Rattle.records.specs.Words as words
-use Rattle.records.specs.Records.{closed, sendSent, commitSent, echoSent, readySent, sendHeld, sendValue, echoHeld, echoValue, readyHeld, readyValue, estHeld, auxHeld, finishHeld, finishSent, coin, printed, coinRecorded, coinKnown, round, estSent, auxSent, decidedZero, decidedOne, decided, commitCount, commitValue, commitSet}
+use Rattle.records.specs.Records.{closed, sendSent, commitSent, echoSent, readySent, sendHeld, sendValue, echoHeld, echoValue, readyHeld, readyValue, estHeld, auxHeld, oneFirst, finishHeld, finishSent, coin, printed, coinRecorded, coinKnown, round, estSent, auxSent, decidedZero, decidedOne, decided, commitCount, commitValue, commitSet}
 use Rattle.records.specs.Words.{blank, storeOf}
 use Rattle.acts.specs.Acts.{orAct, actAt, firstAct}
 use Rattle.broadcasts.specs.Leading.{holders, leads, valueOf, leading}
 use Rattle.broadcasts.specs.Broadcasts.{output, echoAct, readyDue, readyAct, echoRule, readyRule}
 use Rattle.commits.specs.Commits.{commitHeld, sameSet, setHolders, setLeads, setLeader, setOf, leadingSet}
-use Rattle.votes.specs.Votes.{estCount, accepted, votesDecidedOne, startAct, relayValue, relayRound, relayAct, running, auxValue, auxAct, carries, carriers, auxCount, carried, view, moveValue, moveAct, roundAct, voteAct, windingAct, voteDue, voteRule}
+use Rattle.votes.specs.Votes.{estCount, accepted, oneAlone, oneAcceptedFirst, votesDecidedOne, startAct, relayValue, relayRound, relayAct, running, auxValue, auxAct, carries, carriers, auxCount, carried, view, moveValue, moveAct, roundAct, voteAct, windingAct, voteDue, voteRule}
 use Rattle.votes.specs.Finishing.{finishCount, repeated, finishRepeated, finishValue, finishAct, finished, finishDecides}
 use Rattle.exits.specs.Exits.{withOutput, sizeS, exit1At, votesDone, exit2At, exit3Full, noExit, exit3, naming, exitOf, exitNow}
 use Rattle.session.specs.Session.{numbered, roundsRight, commitsRight, numbersRight, settingsOf, isState, sessionWith, sessionOf, stored}
@@ -25,7 +25,7 @@ use Rattle.wire.specs.Message as wire
 use Rattle.wire.specs.Reading.{lengthRight, headerOf, fieldsRight, takenIf, readValues, readChecked, readMessage}
 use Rattle.opening.specs.Opening.{openAnswer, withSettings, withCoins, openWords, opened}
 use Rattle.opening.specs.Given.{item, coinZero, coinsGiven, weightGiven, weightsGiven, weightsWord}
-use Rattle.delivery.specs.Delivery.{placeHeld, judged, verdict, finishSettled, recorded, answerOf, wordsAfter, deliverAnswer, delivered}
+use Rattle.delivery.specs.Delivery.{placeHeld, judged, verdict, firstNoted, finishSettled, recorded, answerOf, wordsAfter, deliverAnswer, delivered}
 use Rattle.recording.specs.Recording.{bitMark, otherMark, inLayout, unopposed, recordable, recordAnswer, withBit, recordedWords}
 use Rattle.turn.specs.Due.{inForceRule, orSet, commitDue, commitOf, commitRule, sendRule, votesRule, due}
 use Rattle.turn.specs.Turn.{moveOutcome, outcomeOf, entered, newDecision, moveDecided, moved, applied, admits, bytesAfter, taking, turnOutcome, turnWords, turnBytes}
@@ -40,7 +40,7 @@ countings = tt
 
 -- records
 unfoldable records : Unit {0}
-unfolding words.word words.put words.marked words.setMark closed sendSent commitSent echoSent readySent sendHeld sendValue echoHeld echoValue readyHeld readyValue estHeld auxHeld finishHeld finishSent coin printed coinRecorded coinKnown round estSent auxSent decidedZero decidedOne decided commitCount commitValue commitSet blank storeOf
+unfolding words.word words.put words.marked words.setMark closed sendSent commitSent echoSent readySent sendHeld sendValue echoHeld echoValue readyHeld readyValue estHeld auxHeld oneFirst finishHeld finishSent coin printed coinRecorded coinKnown round estSent auxSent decidedZero decidedOne decided commitCount commitValue commitSet blank storeOf
 records = tt
 
 -- broadcasts and COMMITs
@@ -50,7 +50,7 @@ broadcasts = tt
 
 -- votes and exits
 unfoldable votes : Unit {0}
-unfolding estCount accepted votesDecidedOne startAct relayValue relayRound relayAct running auxValue auxAct carries carriers auxCount carried view moveValue moveAct roundAct voteAct windingAct voteDue voteRule finishCount repeated finishRepeated finishValue finishAct finished finishDecides withOutput sizeS exit1At votesDone exit2At exit3Full noExit exit3 naming exitOf exitNow
+unfolding estCount accepted oneAlone oneAcceptedFirst votesDecidedOne startAct relayValue relayRound relayAct running auxValue auxAct carries carriers auxCount carried view moveValue moveAct roundAct voteAct windingAct voteDue voteRule finishCount repeated finishRepeated finishValue finishAct finished finishDecides withOutput sizeS exit1At votesDone exit2At exit3Full noExit exit3 naming exitOf exitNow
 votes = tt
 
 -- states and messages
@@ -60,7 +60,7 @@ messages = tt
 
 -- openings, deliveries and recordings
 unfoldable openings : Unit {0}
-unfolding openAnswer item coinZero coinsGiven weightGiven weightsGiven weightsWord withSettings withCoins openWords opened placeHeld judged verdict finishSettled recorded answerOf wordsAfter deliverAnswer delivered bitMark otherMark inLayout unopposed recordable recordAnswer withBit recordedWords
+unfolding openAnswer item coinZero coinsGiven weightGiven weightsGiven weightsWord withSettings withCoins openWords opened placeHeld judged verdict firstNoted finishSettled recorded answerOf wordsAfter deliverAnswer delivered bitMark otherMark inLayout unopposed recordable recordAnswer withBit recordedWords
 openings = tt
 
 -- turns

@@ -62,7 +62,11 @@ module _ (n : ℕ) (few : n ≤ 16) (s v : List ℕ) (size : length s ≡ 2048) 
       no-place : Changed p (Ready i x) (commitCountAt q) → ⊥
       no-place (inl e) = omega arith
       no-place (inr e) = omega arith
-  counts-recorded (Est i r b) l c q lo hi = other-count (Est i r b) q (c q lo hi) (λ e. omega arith)
+  counts-recorded (Est i r b) l c q lo hi = other-count (Est i r b) q (c q lo hi) no-place
+    where
+      no-place : Changed p (Est i r b) (commitCountAt q) → ⊥
+      no-place (inl e) = omega arith
+      no-place (inr e) = omega arith
   counts-recorded (Aux i r b) l c q lo hi = other-count (Aux i r b) q (c q lo hi) (λ e. omega arith)
   counts-recorded (Commit k) l c q lo hi = at (ℕ-discrete q p)
     where

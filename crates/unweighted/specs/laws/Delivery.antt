@@ -1,8 +1,9 @@
 -- A delivery to words in which all weights are 1.
 use Prim.Native.Nat.{ℕ}
-use mathlib.Core.Bool.{Bool, not, cond}
+use mathlib.Core.Bool.{Bool, _&&_, not, cond}
 use mathlib.Core.List.{List}
 use mathlib.Core.Path.{_≡_, refl, ap, _∙_}
+use lib.Dec.{eqb}
 use lib.ListN.{drop}
 use Rattle.settings.specs.Refusals.{NO-STATE, CLOSED}
 use Rattle.records.specs.Layout.{nAt}
@@ -10,7 +11,7 @@ use Rattle.records.specs.Words.{word}
 use Rattle.records.specs.Records.{closed, version}
 use Rattle.session.specs.Session.{sessionWith, sessionOf}
 use Rattle.session.specs.Session as weighted-session
-use Rattle.records.specs.Writing.{withFinish, withDecision}
+use Rattle.records.specs.Writing.{withEst, withOneFirst, withFinish, withDecision}
 use Rattle.wire.specs.Reading.{readMessage}
 use Rattle.wire.specs.declared.Message.{Message}
 use Rattle.wire.specs.declared.Message.the-variants as message
@@ -20,11 +21,11 @@ use Rattle.delivery.specs.declared.Verdict.{Verdict}
 use Rattle.delivery.specs.declared.Verdict.the-variants.{Refused, Accepted}
 use Rattle.unweighted.specs.Settings.{Settings}
 use Rattle.unweighted.specs.Session.{sessionNumber}
-use Rattle.unweighted.specs.Votes.{finishDecides}
-use Rattle.unweighted.specs.Delivery.{verdict, finishSettled, recorded, wordsAfter, deliverAnswer, delivered}
+use Rattle.unweighted.specs.Votes.{oneAlone, finishDecides}
+use Rattle.unweighted.specs.Delivery.{verdict, firstNoted, finishSettled, recorded, wordsAfter, deliverAnswer, delivered}
 use Rattle.unweighted.specs.Statement.{AllOne}
 use Rattle.unweighted.specs.laws.Session.{stored-ones, plain-same, state-same}
-use Rattle.unweighted.specs.laws.Votes.{finish-decides-same}
+use Rattle.unweighted.specs.laws.Votes.{one-alone-same, finish-decides-same}
 
 module _ (s : List ℕ) (all : AllOne s) (link : ℕ) (b : List ℕ) where
   abbrev judge : Bool → Verdict
@@ -38,6 +39,13 @@ module _ (s : List ℕ) (all : AllOne s) (link : ℕ) (b : List ℕ) where
   unfolding weighted.deliverAnswer deliverAnswer
   deliver-answer-same = ap answerOf verdict-same
 
+  noted-same : (p i r c : ℕ) → weighted.firstNoted (weighted-session.settingsOf s) (withEst s i r c p) i r c ≡ firstNoted s (withEst s i r c p) i r c
+  unfolding weighted.firstNoted firstNoted
+  noted-same p i r c =
+      let u : List ℕ = withEst s i r c p in
+      ap (λ (d : Bool). cond (eqb c 1 && d) (withOneFirst u i r) u)
+      (one-alone-same (weighted-session.settingsOf s) (stored-ones s all) u i r ∙ ap (λ (g : Settings). oneAlone g u i r) (plain-same s all))
+
   settled-same : (p i c : ℕ) → weighted.finishSettled (weighted-session.settingsOf s) (withFinish s i c p) i c ≡ finishSettled s (withFinish s i c p) i c
   unfolding weighted.finishSettled finishSettled
   settled-same p i c =
@@ -50,7 +58,7 @@ module _ (s : List ℕ) (all : AllOne s) (link : ℕ) (b : List ℕ) where
   recorded-same (message.Send i x) v = refl
   recorded-same (message.Echo i x) v = refl
   recorded-same (message.Ready i x) v = refl
-  recorded-same (message.Est i r c) v = refl
+  recorded-same (message.Est i r c) v = noted-same link i r c
   recorded-same (message.Aux i r c) v = refl
   recorded-same (message.Commit k) v = refl
   recorded-same (message.Finish i c) v = settled-same link i c

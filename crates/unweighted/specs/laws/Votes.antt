@@ -5,14 +5,14 @@ use mathlib.Core.List.{List}
 use mathlib.Core.Path.{_≡_, ap, ap₂, fun-ext}
 use lib.Dec.{leb, ltb}
 use Rattle.settings.specs.Settings.{roundLimit}
-use Rattle.records.specs.Records.{estHeld, auxHeld, finishHeld, round, decided, decidedOne}
+use Rattle.records.specs.Records.{estHeld, auxHeld, finishHeld, oneFirst, round, decided, decidedOne}
 use Rattle.acts.specs.Acts.{orAct, firstAct}
 use Rattle.acts.specs.declared.Act.{Act}
 use Rattle.votes.specs.Votes.{viewOf}
 use Rattle.votes.specs.Votes as weighted
 use Rattle.votes.specs.Finishing as weighted-finishing
 use Rattle.settings.specs.declared.Settings as weighted-settings
-use Rattle.unweighted.specs.Votes.{estCount, accepted, votesDecidedOne, startAct, relayValue, relayRound, relayAct, auxValue, auxAct, carries, carriers, carried, view, moveValue, moveAct, roundAct, voteAct, finishCount, repeated, finishValue, finishAct, finishDecides, windingAct, voteDue}
+use Rattle.unweighted.specs.Votes.{estCount, accepted, oneAlone, oneAcceptedFirst, votesDecidedOne, startAct, relayValue, relayRound, relayAct, auxValue, auxAct, carries, carriers, carried, view, moveValue, moveAct, roundAct, voteAct, finishCount, repeated, finishValue, finishAct, finishDecides, windingAct, voteDue}
 use Rattle.unweighted.specs.laws.Counts.{Ones, plain, counts, vote-quorum-same, relay-same, accept-same}
 
 module _ (g : weighted-settings.Settings) (one : Ones g) (s : List ℕ) where
@@ -45,9 +45,17 @@ module _ (g : weighted-settings.Settings) (one : Ones g) (s : List ℕ) where
     unfolding weighted.relayAct relayAct
     relay-act-same = ap (λ (f : ℕ → Act). firstAct f (min (round s i) roundLimit)) (fun-ext relay-round-same)
 
+    pub one-alone-same : (r : ℕ) → weighted.oneAlone g s i r ≡ oneAlone (plain g) s i r
+    unfolding weighted.oneAlone oneAlone
+    one-alone-same r = rw (accepted-same r 0, accepted-same r 1)
+
+    one-accepted-first-same : (r : ℕ) → weighted.oneAcceptedFirst g s i r ≡ oneAcceptedFirst (plain g) s i r
+    unfolding weighted.oneAcceptedFirst oneAcceptedFirst
+    one-accepted-first-same r = ap (λ (a : Bool). oneFirst s i r && a) (accepted-same r 1)
+
     aux-value-same : (r : ℕ) → weighted.auxValue g s i r ≡ auxValue (plain g) s i r
     unfolding weighted.auxValue auxValue
-    aux-value-same r = rw (accepted-same r 0, accepted-same r 1)
+    aux-value-same r = rw (one-accepted-first-same r, accepted-same r 0, accepted-same r 1)
 
     aux-act-same : weighted.auxAct g s i ≡ auxAct (plain g) s i
     unfolding weighted.auxAct auxAct

@@ -19,13 +19,13 @@ use Rattle.quorum.specs.laws.Total.{total-agree}
 use Rattle.records.specs.Layout.{auxGroup}
 use Rattle.records.specs.Words.{marked}
 use Rattle.records.specs.MarkWords.{decidedOneMarks, voteMarks}
-use Rattle.records.specs.Records.{auxHeld, decidedOne, round, estSent, auxSent, coinKnown, finishSent, decidedZero, version}
+use Rattle.records.specs.Records.{auxHeld, decidedOne, round, estSent, auxSent, oneFirst, coinKnown, finishSent, decidedZero, version}
 use Rattle.acts.specs.Acts.{isDue, orAct, firstAct}
 use Rattle.acts.specs.declared.Act.{Act}
 use Rattle.acts.specs.declared.Act.the-variants.{Idle, Start, Relay, Aux, Move, Finish}
 use Rattle.acts.specs.declared.View.{View}
 use Rattle.acts.specs.declared.View.the-variants.{Only}
-use Rattle.votes.specs.Votes.{estCount, votesDecidedOne, startAct, relayValue, relayRound, relayAct, running, accepted, auxValue, auxAct}
+use Rattle.votes.specs.Votes.{estCount, votesDecidedOne, startAct, relayValue, relayRound, relayAct, running, accepted, oneAcceptedFirst, auxValue, auxAct}
 use Rattle.votes.specs.Votes.{moveAct, roundAct, voteAct, voteDue, coinValue, decides}
 use Rattle.votes.specs.Finishing.{repeated, finishRepeated, finishValue, finishAct, finished}
 use Rattle.votes.specs.laws.Given.{carriesGiven, carriersGiven, viewGiven, moveGiven, move-given, firstFinish, over, due-given}
@@ -92,19 +92,36 @@ pub relay-rounds : (g : Settings) (s : List ℕ) (i last : ℕ) (x : Act) → la
 unfolding relayAct
 relay-rounds g s i last x e h = rw (← e) h
 
+-- whether 1 was accepted first
+module _ (g : Settings) (s : List ℕ) (i r : ℕ) (m : Bool) (e : m ≡ oneFirst s i r) where
+  pub one-accepted-first : (t : Bool) → m ≡ true → t ≡ accepted g s i r 1 → t ≡ oneAcceptedFirst g s i r
+  unfolding oneAcceptedFirst
+  one-accepted-first t h f = rw (← e, h) f
+
+  pub one-unmarked : m ≡ false → false ≡ oneAcceptedFirst g s i r
+  unfolding oneAcceptedFirst
+  one-unmarked h = rw (← e, h)
+
+pub ruleset marked-first = (one-accepted-first, one-unmarked)
+
 -- the AUX
-pub aux-one : (g : Settings) (s : List ℕ) (i r : ℕ) (t u : Bool) → u ≡ true → u ≡ accepted g s i r 1 → t ≡ false → t ≡ accepted g s i r 0 → Aux i r 1 ≡ auxValue g s i r
+pub aux-one : (g : Settings) (s : List ℕ) (i r : ℕ) (m t u : Bool) → u ≡ true → u ≡ accepted g s i r 1 → t ≡ false → t ≡ accepted g s i r 0 → m ≡ false → m ≡ oneAcceptedFirst g s i r → Aux i r 1 ≡ auxValue g s i r
 unfolding auxValue
-aux-one g s i r t u k f h e = rw (← e, h, ← f, k)
+aux-one g s i r m t u k f h e q d = rw (← d, q, ← e, h, ← f, k)
 
-module _ (g : Settings) (s : List ℕ) (i r : ℕ) (t : Bool) (e : t ≡ accepted g s i r 0) where
-  pub aux-zero : t ≡ true → Aux i r 0 ≡ auxValue g s i r
+module _ (g : Settings) (s : List ℕ) (i r : ℕ) (m : Bool) (d : m ≡ oneAcceptedFirst g s i r) where
+  pub aux-one-first : m ≡ true → Aux i r 1 ≡ auxValue g s i r
   unfolding auxValue
-  aux-zero h = rw (← e, h)
+  aux-one-first q = rw (← d, q)
 
-  pub aux-waits : (u : Bool) → t ≡ false → u ≡ accepted g s i r 1 → u ≡ false → Idle ≡ auxValue g s i r
-  unfolding auxValue
-  aux-waits u h f k = rw (← e, h, ← f, k)
+  module _ (q : m ≡ false) (t : Bool) (e : t ≡ accepted g s i r 0) where
+    pub aux-zero : t ≡ true → Aux i r 0 ≡ auxValue g s i r
+    unfolding auxValue
+    aux-zero h = rw (← d, q, ← e, h)
+
+    pub aux-waits : (u : Bool) → u ≡ accepted g s i r 1 → u ≡ false → t ≡ false → Idle ≡ auxValue g s i r
+    unfolding auxValue
+    aux-waits u f k h = rw (← d, q, ← e, h, ← f, k)
 
 module _ (g : Settings) (s : List ℕ) (i r : ℕ) (t : Bool) (e : r ≡ round s i) (f : t ≡ auxSent s i r) where
   pub aux-was-sent : t ≡ true → Idle ≡ auxAct g s i
@@ -123,7 +140,7 @@ module _ (g : Settings) (s : List ℕ) (i r : ℕ) (t : Bool) (e : r ≡ round s
   unfolding moveAct
   move-now a k q a0 a1 h z o d = rw (← e, ← f, ← q, h, ← move-given g s i r, ← z, ← o) d
 
-pub ruleset auxes = (aux-zero, aux-one, aux-waits, aux-was-sent, aux-now)
+pub ruleset auxes = (aux-one-first, aux-zero, aux-one, aux-waits, aux-was-sent, aux-now)
 
 -- the move
 

@@ -7,7 +7,7 @@ use mathlib.Core.Path.{_≡_}
 use Rattle.settings.specs.Settings.{voteQuorum, relay, roundLimit}
 use Rattle.settings.specs.Versions.{finishing}
 use Rattle.settings.specs.declared.Settings.{Settings}
-use Rattle.records.specs.Records.{round, estSent, auxSent, coinKnown, finishSent, decidedZero, decidedOne, version}
+use Rattle.records.specs.Records.{round, estSent, auxSent, oneFirst, coinKnown, finishSent, decidedZero, decidedOne, version}
 use Rattle.acts.specs.declared.Act.{Act}
 use Rattle.acts.specs.declared.Act.the-variants.{Idle, InForce, Commit, Send, Echo, Ready, Start, Relay, Aux, Move, Finish}
 use Rattle.acts.specs.declared.View.{View}
@@ -32,7 +32,7 @@ pub record RelayTold (g : Settings) (s : List ℕ) (i r b : ℕ) : Type 0 where
   pub held : relay g ≤ estCount g s i r b
   pub unsent : estSent s i r b ≡ false
 
--- AUX b is sent in round r
+-- AUX b is sent in round r; where the other value is accepted too, the mark tells which was first
 pub record AuxTold (g : Settings) (s : List ℕ) (i r b : ℕ) : Type 0 where
   pub current : r ≡ round s i
   pub low : 1 ≤ r
@@ -40,6 +40,8 @@ pub record AuxTold (g : Settings) (s : List ℕ) (i r b : ℕ) : Type 0 where
   pub bit : b ≤ 1
   pub is-accepted : accepted g s i r b ≡ true
   pub unsent : auxSent s i r ≡ false
+  pub zero-first : b ≡ 0 → accepted g s i r 1 ≡ true → oneFirst s i r ≡ false
+  pub one-first : b ≡ 1 → accepted g s i r 0 ≡ true → oneFirst s i r ≡ true
 
 -- the counted AUXs carry b only
 pub record OnlyShown (g : Settings) (s : List ℕ) (i r b : ℕ) : Type 0 where

@@ -1,9 +1,9 @@
 -- Each act that is due in a vote tells what the rules ask for it.
 use Prim.Native.Nat.{ℕ, min, _≤_}
-use mathlib.Core.Bool.{Bool, true, false, _&&_, cond}
+use mathlib.Core.Bool.{Bool, true, false, true≢false, _&&_, cond}
 use mathlib.Core.List.{List}
 use mathlib.Core.Logic.{inl, inr}
-use mathlib.Core.Path.{_≡_, refl, subst}
+use mathlib.Core.Path.{_≡_, refl, sym, subst, _∙_}
 use native.Mathlib.Omega.{arith}
 use lib.Dec.{eqb, leb}
 use borrow.Author.Tests.{eqb-true, leb-true}
@@ -14,16 +14,20 @@ use Rattle.settings.specs.Rules.{Ruled}
 use Rattle.settings.specs.laws.Thresholds.{ruled-bounds}
 use Rattle.settings.specs.declared.Settings.{Settings}
 use Rattle.quorum.specs.Whole.{weightsRight}
-use Rattle.records.specs.Records.{round, estSent, auxSent, coinKnown, finishSent, decidedZero, decidedOne, version}
+use Rattle.records.specs.Records.{round, estSent, auxSent, oneFirst, coinKnown, finishSent, decidedZero, decidedOne, version}
 use Rattle.acts.specs.Acts.{orAct}
 use Rattle.acts.specs.declared.Act.{Act}
 use Rattle.acts.specs.declared.Act.the-variants.{Idle, Start, Relay, Aux, Move, Finish}
-use Rattle.votes.specs.Votes.{estCount, accepted, startAct, relayValue, relayRound, relayAct, running, auxValue, auxAct, carriers, view}
+use Rattle.votes.specs.Votes.{estCount, accepted, startAct, relayValue, relayRound, relayAct, running, oneAcceptedFirst, auxValue, auxAct, carriers, view}
 use Rattle.votes.specs.Votes.{moveValue, moveAct, roundAct, voteAct, windingAct, voteDue}
 use Rattle.votes.specs.Finishing.{finishCount, repeated, finishRepeated, finishValue, finishAct, finished}
 use Rattle.acts.specs.laws.Choices.{all-cond, all-or, all-first}
 use Rattle.votes.specs.laws.Told.{Told}
 use Rattle.votes.specs.laws.Views.{view-shown}
+
+unmarked : (m one : Bool) → (m && one) ≡ false → one ≡ true → m ≡ false
+unmarked true one q o = absurd (true≢false (sym o ∙ q))
+unmarked false one q o = refl
 
 module _ (g : Settings) (right : weightsRight (g .weights) (g .n) ≡ true) (s : List ℕ) (output : ℕ → Bool) (ones : ℕ) (Vote : ℕ → Type 0) (i : ℕ) (v : Vote i) where
   abbrev P : Act → Type 0
@@ -58,13 +62,19 @@ module _ (g : Settings) (right : weightsRight (g .weights) (g .n) ≡ true) (s :
 
   module _ (low : 1 ≤ round s i) (high : round s i ≤ roundLimit) where
     aux-value-told : auxSent s i (round s i) ≡ false → P (auxValue g s i (round s i))
-    unfolding auxValue
+    unfolding auxValue oneAcceptedFirst
     aux-value-told e =
-        all-cond P (accepted g s i (round s i) 0) (Aux i (round s i) 0) (cond (accepted g s i (round s i) 1) (Aux i (round s i) 1) Idle)
-        (λ a. (v, record { current = refl; low = low; high = high; bit = omega arith; is-accepted = a; unsent = e }))
-        (λ n. all-cond P (accepted g s i (round s i) 1) (Aux i (round s i) 1) Idle
-        (λ a. (v, record { current = refl; low = low; high = high; bit = omega arith; is-accepted = a; unsent = e }))
-        (λ m. tt))
+        let r = round s i in
+        let m = oneFirst s i r in
+        let zero = accepted g s i r 0 in
+        let one = accepted g s i r 1 in
+        all-cond P (oneAcceptedFirst g s i r) (Aux i r 1) (cond zero (Aux i r 0) (cond one (Aux i r 1) Idle))
+        (λ q. (v, record { current = refl; low = low; high = high; bit = omega arith; is-accepted = and-right m one q; unsent = e; zero-first = λ z. absurd (omega arith); one-first = λ z o. and-left m one q }))
+        (λ q. all-cond P zero (Aux i r 0) (cond one (Aux i r 1) Idle)
+        (λ a. (v, record { current = refl; low = low; high = high; bit = omega arith; is-accepted = a; unsent = e; zero-first = λ z o. unmarked m one q o; one-first = λ z. absurd (omega arith) }))
+        (λ n. all-cond P one (Aux i r 1) Idle
+        (λ a. (v, record { current = refl; low = low; high = high; bit = omega arith; is-accepted = a; unsent = e; zero-first = λ z. absurd (omega arith); one-first = λ z o. absurd (true≢false (sym o ∙ n)) }))
+        (λ w. tt)))
 
     aux-told : P (auxAct g s i)
     unfolding auxAct

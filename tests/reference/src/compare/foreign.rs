@@ -153,13 +153,13 @@ fn message(random: &mut Random, n: u64) -> Message {
     let round = 1 + random.below(rounds) as u8;
     let value = random.below(3);
     let bit = random.once_in(2);
-    match random.below(8) {
+    match random.below(10) {
         0 => Message::Send { value },
         1 => Message::Echo { instance, value },
         2 => Message::Ready { instance, value },
-        3 => Message::Est { instance, round, value: bit },
-        4 => Message::Aux { instance, round, value: bit },
-        5 | 6 => Message::Finish { instance, value: bit },
+        3..=5 => Message::Est { instance, round, value: bit },
+        6 => Message::Aux { instance, round, value: bit },
+        7 | 8 => Message::Finish { instance, value: bit },
         _ => Message::Commit { values: (0..=random.below(n.min(3))).collect() },
     }
 }
@@ -203,7 +203,7 @@ fn plant(random: &mut Random, state: &mut Words) {
         region.iter_mut().for_each(|word| *word = random.below(values));
     }
     plant_marks(random, state, 1024..1536);
-    for region in [144..145, 145..161, 161..256] {
+    for region in [144..145, 145..161, 161..177, 177..256] {
         plant_marks(random, state, region);
     }
     plant_marks(random, state, 1536..2048);

@@ -10,10 +10,10 @@ use lib.ListN.{take}
 use lib.Seq.{drop-set-lt}
 use Rattle.quorum.specs.Every.{every}
 use Rattle.quorum.specs.Marks.{mark}
-use Rattle.records.specs.Layout.{weightsAt, flagsAt, closedMark, sendSentMark, commitSentMark, echoSentAt, readySentAt, finishSentAt, versionAt, finishMarksAt, finishMark, decidedZeroAt, decidedOneAt, sendMarksAt, boxedAt, coinAt, zeroMark, roundAt, estSentAt, estSentMark, auxSentAt, sendValueAt, echoMarksAt, readyMarksAt, echoValueAt, readyValueAt, commitCountAt, commitValueAt, voteAt, estMark, auxMark}
+use Rattle.records.specs.Layout.{weightsAt, flagsAt, closedMark, sendSentMark, commitSentMark, echoSentAt, readySentAt, finishSentAt, versionAt, finishMarksAt, finishMark, oneFirstAt, decidedZeroAt, decidedOneAt, sendMarksAt, boxedAt, coinAt, zeroMark, roundAt, estSentAt, estSentMark, auxSentAt, sendValueAt, echoMarksAt, readyMarksAt, echoValueAt, readyValueAt, commitCountAt, commitValueAt, voteAt, estMark, auxMark}
 use Rattle.records.specs.Words.{word, put, marked}
 use Rattle.records.specs.laws.Words.{word-put-other}
-use Rattle.records.specs.Records.{closed, sendSent, commitSent, echoSent, readySent, sendHeld, sendValue, echoHeld, echoValue, readyHeld, readyValue, estHeld, auxHeld, finishHeld, finishSent, version, coin, printed, coinRecorded, coinKnown, round, estSent, auxSent, decidedZero, decidedOne, decided, commitCount, commitValue, commitSet}
+use Rattle.records.specs.Records.{closed, sendSent, commitSent, echoSent, readySent, sendHeld, sendValue, echoHeld, echoValue, readyHeld, readyValue, estHeld, auxHeld, oneFirst, finishHeld, finishSent, version, coin, printed, coinRecorded, coinKnown, round, estSent, auxSent, decidedZero, decidedOne, decided, commitCount, commitValue, commitSet}
 use Rattle.commits.specs.Commits.{commitHeld, sameSet}
 
 module _ (s : List ℕ) (x : ℕ) where
@@ -87,6 +87,10 @@ module _ (s : List ℕ) (x : ℕ) where
   pub aux-held-apart : (i r b : ℕ) → auxHeld t i r b ≡ auxHeld s i r b
   unfolding auxHeld
   aux-held-apart i r b = fun-ext (λ p. mark-apart (voteAt i r) (auxMark b p) (λ e. omega arith))
+
+  pub one-first-apart : (i r : ℕ) → oneFirst t i r ≡ oneFirst s i r
+  unfolding oneFirst
+  one-first-apart i r = mark-apart (oneFirstAt i) r (λ e. omega arith)
 
   pub echo-value-apart : (i : ℕ) → echoValue t i ≡ echoValue s i
   unfolding echoValue

@@ -28,13 +28,13 @@ use Rattle.commits.specs.Commits.{setOf}
 use Rattle.turn.specs.Due.{orSet, sendRule}
 use Rattle.unweighted.specs.Settings.{Settings}
 use Rattle.unweighted.specs.Broadcasts.{output, readyDue, readyAct, echoRule, readyRule}
-use Rattle.unweighted.specs.Votes.{estCount, accepted, votesDecidedOne, startAct, relayValue, relayRound, relayAct, auxValue, auxAct, carries, carriers, carried, view, moveValue, moveAct, roundAct, voteAct, finishCount, repeated, finishValue, finishAct, finishDecides, windingAct, voteDue}
+use Rattle.unweighted.specs.Votes.{estCount, accepted, oneAlone, oneAcceptedFirst, votesDecidedOne, startAct, relayValue, relayRound, relayAct, auxValue, auxAct, carries, carriers, carried, view, moveValue, moveAct, roundAct, voteAct, finishCount, repeated, finishValue, finishAct, finishDecides, windingAct, voteDue}
 use Rattle.unweighted.specs.Exits.{exitOf, exitNow}
 use Rattle.unweighted.specs.Commits.{setHolders, setLeads, setLeader, leadingSet}
 use Rattle.unweighted.specs.Due.{inForceRule, commitDue, commitRule, votesRule, due}
 use Rattle.unweighted.specs.laws.Counts.{Ones}
 use Rattle.unweighted.specs.laws.Exits.{exit-same}
-use Rattle.unweighted.specs.laws.apart.Records.{word-apart, send-sent-apart, commit-sent-apart, echo-sent-apart, ready-sent-apart, send-held-apart, finish-sent-apart, version-apart, finish-held-apart, zero-apart, one-apart, est-held-apart, aux-held-apart, echo-value-apart, ready-value-apart, send-value-apart, echo-held-apart, ready-held-apart, round-apart, est-sent-apart, aux-sent-apart, coin-known-apart, commit-held-apart, commit-set-apart, same-set-apart}
+use Rattle.unweighted.specs.laws.apart.Records.{word-apart, send-sent-apart, commit-sent-apart, echo-sent-apart, ready-sent-apart, send-held-apart, finish-sent-apart, version-apart, finish-held-apart, zero-apart, one-apart, est-held-apart, aux-held-apart, one-first-apart, echo-value-apart, ready-value-apart, send-value-apart, echo-held-apart, ready-held-apart, round-apart, est-sent-apart, aux-sent-apart, coin-known-apart, commit-held-apart, commit-set-apart, same-set-apart}
 use Rattle.unweighted.specs.laws.apart.Records as records
 use Rattle.acts.specs.laws.First.{first-agree}
 
@@ -94,9 +94,18 @@ module _ (g : Settings) (few : g .n ≤ 16) (s : List ℕ) (x : ℕ) where
     unfolding relayAct
     relay-act-apart = ap₂ (λ (f : ℕ → Act) (r : ℕ). firstAct f (min r roundLimit)) (fun-ext relay-round-apart) (round-apart s x i high)
 
+    pub one-alone-apart : (r : ℕ) → oneAlone g t i r ≡ oneAlone g s i r
+    unfolding oneAlone
+    one-alone-apart r = rw (accepted-apart r 0, accepted-apart r 1)
+
+    one-accepted-first-apart : (r : ℕ) → oneAcceptedFirst g t i r ≡ oneAcceptedFirst g s i r
+    unfolding oneAcceptedFirst
+    one-accepted-first-apart r = rw (one-first-apart s x i r, accepted-apart r 1)
+
     aux-act-apart : auxAct g t i ≡ auxAct g s i
     unfolding auxAct auxValue
-    aux-act-apart = rw (round-apart s x i high, aux-sent-apart s x i high (round s i), accepted-apart (round s i) 0, accepted-apart (round s i) 1)
+    aux-act-apart =
+        rw (round-apart s x i high, aux-sent-apart s x i high (round s i), one-accepted-first-apart (round s i), accepted-apart (round s i) 0, accepted-apart (round s i) 1)
 
     carries-apart : (r p : ℕ) → carries g t i r p ≡ carries g s i r p
     unfolding carries

@@ -8,7 +8,7 @@ use native.Mathlib.Omega.{arith}
 use lib.Dec.{eqb, ltb}
 use Rattle.quorum.specs.Marks.{withMark}
 use Rattle.settings.specs.Settings.{roundLimit}
-use Rattle.records.specs.Layout.{weightsAt, turnsAt, flagsAt, closedMark, sendSentMark, commitSentMark, echoSentAt, readySentAt, decidedZeroAt, decidedOneAt, roundAt, estSentAt, estSentMark, auxSentAt, sendMarksAt, sendValueAt, echoMarksAt, echoValueAt, readyMarksAt, readyValueAt, voteAt, estMark, finishSentAt, finishMarksAt, finishMark, auxMark, commitCountAt, commitRowAt}
+use Rattle.records.specs.Layout.{weightsAt, turnsAt, flagsAt, closedMark, sendSentMark, commitSentMark, echoSentAt, readySentAt, decidedZeroAt, decidedOneAt, roundAt, estSentAt, estSentMark, auxSentAt, sendMarksAt, sendValueAt, echoMarksAt, echoValueAt, readyMarksAt, readyValueAt, voteAt, estMark, oneFirstAt, finishSentAt, finishMarksAt, finishMark, auxMark, commitCountAt, commitRowAt}
 use Rattle.records.specs.Words.{put, setMark}
 use Rattle.records.specs.Records.{coin, decided}
 use Rattle.records.specs.Words.{storeOf}
@@ -21,16 +21,16 @@ use Rattle.wire.specs.Bytes.{valueAt}
 use Rattle.wire.specs.declared.Message.{Message}
 use Rattle.wire.specs.declared.Message.the-variants as message
 use Rattle.delivery.specs.Delivery as weighted
-use Rattle.unweighted.specs.Votes.{finishDecides}
+use Rattle.unweighted.specs.Votes.{oneAlone, finishDecides}
 use Rattle.unweighted.specs.Session.{settingsOf}
-use Rattle.unweighted.specs.Delivery.{finishSettled, recorded}
+use Rattle.unweighted.specs.Delivery.{firstNoted, finishSettled, recorded}
 use Rattle.delivery.specs.laws.Frame.{InLayout}
-use Rattle.records.specs.Writing.{withFinish, withDecision}
+use Rattle.records.specs.Writing.{withEst, withOneFirst, withFinish, withDecision}
 use Rattle.turn.specs.Turn.{withTurnCounted, entered, newDecision, moveDecided, moved, done, applied}
 use Rattle.turn.specs.laws.Frame.{Placed}
 use Rattle.unweighted.specs.laws.Opening.{put-swap, store-put}
 use Rattle.unweighted.specs.laws.apart.Records.{word-apart, coin-apart, decided-apart}
-use Rattle.unweighted.specs.laws.apart.Rules.{finish-decides-apart}
+use Rattle.unweighted.specs.laws.apart.Rules.{one-alone-apart, finish-decides-apart}
 use Rattle.unweighted.specs.laws.apart.Session.{settings-apart}
 
 module _ (x : ℕ) where
@@ -52,6 +52,17 @@ module _ (x : ℕ) where
       go true = mark-apart s decidedZeroAt i (λ e. omega arith)
       go false = mark-apart s decidedOneAt i (λ e. omega arith)
 
+  -- EST b of sender p, and the mark of a 1 that was accepted first
+  est-apart : (s : List ℕ) (p i r b : ℕ) → settingsOf s .n ≤ 16 → i ≤ 16 → firstNoted (put s weightsAt x) (withEst (put s weightsAt x) i r b p) i r b ≡ put (firstNoted s (withEst s i r b p) i r b) weightsAt x
+  unfolding firstNoted
+  est-apart s p i r b few high =
+      rw (settings-apart s x, mark-apart s (voteAt i r) (estMark b p) (λ e. omega arith), one-alone-apart (settingsOf s) few (withEst s i r b p) x i high r)
+      (go (eqb b 1 && oneAlone (settingsOf s) (withEst s i r b p) i r))
+    where
+      go : (c : Bool) → cond c (withOneFirst (put (withEst s i r b p) weightsAt x) i r) (put (withEst s i r b p) weightsAt x) ≡ put (cond c (withOneFirst (withEst s i r b p) i r) (withEst s i r b p)) weightsAt x
+      go true = mark-apart (withEst s i r b p) (oneFirstAt i) r (λ e. omega arith)
+      go false = refl
+
   -- FINISH b of sender p, and its decision
   finish-apart : (s : List ℕ) (p i b : ℕ) → settingsOf s .n ≤ 16 → i ≤ 16 → finishSettled (put s weightsAt x) (withFinish (put s weightsAt x) i b p) i b ≡ put (finishSettled s (withFinish s i b p) i b) weightsAt x
   unfolding finishSettled
@@ -69,7 +80,7 @@ module _ (x : ℕ) where
   recorded-apart s v p (message.Send i y) few h = both-apart s (sendValueAt i) y sendMarksAt i (λ e. omega arith) (λ e. omega arith)
   recorded-apart s v p (message.Echo i y) few h = both-apart s (echoValueAt i p) y (echoMarksAt i) p (λ e. omega arith) (λ e. omega arith)
   recorded-apart s v p (message.Ready i y) few h = both-apart s (readyValueAt i p) y (readyMarksAt i) p (λ e. omega arith) (λ e. omega arith)
-  recorded-apart s v p (message.Est i r b) few h = mark-apart s (voteAt i r) (estMark b p) (λ e. omega arith)
+  recorded-apart s v p (message.Est i r b) few h = est-apart s p i r b few (h .3)
   recorded-apart s v p (message.Aux i r b) few h = mark-apart s (voteAt i r) (auxMark b p) (λ e. omega arith)
   recorded-apart s v p (message.Commit k) few h =
       ap (λ (u : List ℕ). put u (commitCountAt p) k) (store-put (valueAt v) (commitRowAt p) s weightsAt x k (λ j lo hi e. omega arith))
