@@ -22,7 +22,7 @@ use Rattle.held.specs.laws.Columns as columns
 
 -- ---- the marks of votes tell kind, value and sender
 
-est-place : (p : ℕ) (m : wire-message.Message) (i r b k : ℕ) → InLayout p m → Voting i r b → Numbered k → voteAt i r ≡ markWordOf p m → estMark b k ≡ markOf p m → (m ≡ wire.Est i r b) × (k ≡ p)
+pub est-place : (p : ℕ) (m : wire-message.Message) (i r b k : ℕ) → InLayout p m → Voting i r b → Numbered k → voteAt i r ≡ markWordOf p m → estMark b k ≡ markOf p m → (m ≡ wire.Est i r b) × (k ≡ p)
 est-place p (wire.Send j x) i r b k h g n w q = absurd (omega (arith, g .instance .low, g .first))
 est-place p (wire.Echo j x) i r b k h g n w q = absurd (omega (arith, g .instance .low, g .first))
 est-place p (wire.Ready j x) i r b k h g n w q = absurd (omega (arith, g .instance .low, g .first))

@@ -27,7 +27,7 @@ use Rattle.turn_bound.specs.laws.Stepped.{Stepped, opening-stepped, deli
 
 -- an opening lent `room` bytes for its line: accepted, it is the one without; else the words stay
 module _ (w : List ℕ) (o : Arguments) (room : ℕ) where
-  open-taken : eqb (openNumber (length w) o room) 0 ≡ true → (openAnswer (length w) o ≡ 0) × (openedWords w o room ≡ opened w o)
+  pub open-taken : eqb (openNumber (length w) o room) 0 ≡ true → (openAnswer (length w) o ≡ 0) × (openedWords w o room ≡ opened w o)
   unfolding openNumber openedWords
   open-taken e = let t = line-taken (openAnswer (length w) o) room (eqb-true _ 0 e) in (t .0, line-words room w (opened w o) (t .1))
 

@@ -99,7 +99,7 @@ module _ (s : List ℕ) (o : Arguments) (e : openAnswer (length s) o ≡ 0) wher
   pub opened-ruled : Ruled g
   opened-ruled = valid-rules (o .n) (taBy o) (o .ts) (weightsBy o) (is-accepted .valid)
 
-  opened-new : opened s o ≡ openWords o
+  pub opened-new : opened s o ≡ openWords o
   unfolding opened
   opened-new = rw (eq-eqb (openAnswer (length s) o) 0 e)
 

@@ -92,11 +92,11 @@ module _ (w : List ℕ) (k : ℕ) (g : Terms) (x : Stepped w k g) where
 
 -- ---- lines
 
-some-if : {A : Type 0} (b : Bool) (y : Option A) (x : A) → cond b y none ≡ some x → (b ≡ true) × (y ≡ some x)
+pub some-if : {A : Type 0} (b : Bool) (y : Option A) (x : A) → cond b y none ≡ some x → (b ≡ true) × (y ≡ some x)
 some-if true y x e = (refl, e)
 some-if false y x e = absurd (let z : _≡_ {A = ℕ} 0 1 = cc in omega arith)
 
-words-of : (z y : Point) → some z ≡ some y → z .words ≡ y .words
+pub words-of : (z y : Point) → some z ≡ some y → z .words ≡ y .words
 words-of z y e = cc
 
 opened-stepped : (o : Arguments) (x : Point) → openedFrom o ≡ some x → Stepped (x .words) 0 (termsOf (x .words))
@@ -193,7 +193,7 @@ first-no-turn b x e = of (fields b) e
     of [] e = absurd (let z : _≡_ {A = ℕ} 0 1 = cc in omega arith)
     of (f ∷ fs) e = letters (letter f) fs e
 
-wrong-stays : (j i : ℕ) (bs : List (List ℕ)) → replayFrom j (wrong i) bs ≡ wrong i
+pub wrong-stays : (j i : ℕ) (bs : List (List ℕ)) → replayFrom j (wrong i) bs ≡ wrong i
 unfolding replayFrom further
 wrong-stays j i [] = refl
 wrong-stays j i (b ∷ bs) = wrong-stays (j + 1) i bs

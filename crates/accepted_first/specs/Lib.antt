@@ -1,0 +1,2 @@
+pub mod AcceptedFirst
+pub mod laws

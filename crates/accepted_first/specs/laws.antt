@@ -1,0 +1,3 @@
+pub mod Leading
+pub mod Stepping
+pub mod Moments
