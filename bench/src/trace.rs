@@ -6,8 +6,8 @@ use std::collections::VecDeque;
 use pack_reference::engine::Engine;
 use pack_reference::journal::LINE_BYTES;
 use pack_reference::message::LONGEST;
-use pack_reference::packing::{unpack_turn, TurnAnswer};
-use pack_reference::{Message, Opening, PackSet, Version};
+use pack_reference::packing::{unpack_report, unpack_turn, TurnAnswer};
+use pack_reference::{Message, Opening, PackSet, Version, SET_WORDS};
 
 use crate::plain::PlainMasks;
 
@@ -37,7 +37,7 @@ impl Kind {
     }
 }
 
-#[derive(Clone, Debug)]
+#[derive(Clone, Debug, PartialEq, Eq)]
 pub enum Call {
     Deliver { link: u64, message: Vec<u8>, answer: u64 },
     Turn { answer: u64, message: Vec<u8> },
@@ -57,11 +57,14 @@ pub struct Trace {
     /// What the honest ones sent together, and their turns that were not idle.
     pub feeder_sent: usize,
     pub feeder_turns: usize,
+    /// The set in force at the end; empty where it did not close.
+    pub set: PackSet,
 }
 
 /// A feeder whose concentrators turn until idle after each delivery; messages arrive in the order of sending.
-struct Feeder {
-    states: Vec<Vec<u64>>,
+struct Feeder<'a, E: Engine> {
+    engine: &'a E,
+    states: Vec<E::State>,
     closed: Vec<bool>,
     on_their_way: VecDeque<(u64, Vec<u8>)>,
     trace: Trace,
@@ -71,6 +74,17 @@ impl Trace {
     /// Weights of 1 to `heaviest`, in turn from the last concentrator on; ta and ts are as large as they allow with
     /// ta = ts.
     pub fn new(version: Version, n: u64, heaviest: u8, kind: Kind) -> Trace {
+        Trace::with_engine(&PlainMasks, version, n, heaviest, kind)
+    }
+
+    /// The same, made by another engine.
+    pub fn with_engine<E: Engine>(
+        engine: &E,
+        version: Version,
+        n: u64,
+        heaviest: u8,
+        kind: Kind,
+    ) -> Trace {
         let weights: Vec<u8> = (0..n as u8).rev().map(|back| 1 + back % heaviest).collect();
         let tolerated = (weights.iter().map(|&weight| u64::from(weight)).sum::<u64>() - 1) / 3;
         let liars_from = if kind == Kind::Liars { n - liars(&weights, tolerated) } else { n };
@@ -88,10 +102,11 @@ impl Trace {
             calls: Vec::new(),
             feeder_sent: 0,
             feeder_turns: 0,
+            set: PackSet::new(),
         };
-        let states = vec![PlainMasks.blank(); liars_from as usize];
+        let states = (0..liars_from).map(|_| engine.blank()).collect();
         let closed = vec![false; liars_from as usize];
-        let mut feeder = Feeder { states, closed, on_their_way: VecDeque::new(), trace };
+        let mut feeder = Feeder { engine, states, closed, on_their_way: VecDeque::new(), trace };
         feeder.run();
         feeder.trace
     }
@@ -103,6 +118,11 @@ impl Trace {
         Opening { version, n, ta, ts, own, session: SESSION, input, coins, weights, boxed: 0 }
     }
 
+    /// The packs that the honest ones put in.
+    pub fn put_in(&self) -> PackSet {
+        (1..=self.liars_from).map(|own| self.opening(own).input).collect()
+    }
+
     pub fn deliveries(&self) -> usize {
         self.calls.iter().filter(|call| matches!(call, Call::Deliver { .. })).count()
     }
@@ -112,11 +132,11 @@ impl Trace {
     }
 }
 
-impl Feeder {
+impl<E: Engine> Feeder<'_, E> {
     fn run(&mut self) {
         for own in 1..=self.trace.liars_from {
             let state = &mut self.states[own as usize - 1];
-            let answer = PlainMasks.open(state, &self.trace.opening(own), &mut [0; LINE_BYTES]);
+            let answer = self.engine.open(state, &self.trace.opening(own), &mut [0; LINE_BYTES]);
             assert_eq!(answer & 0xff, 0, "good settings");
         }
         for liar in self.trace.liars_from + 1..=self.trace.n {
@@ -130,6 +150,10 @@ impl Feeder {
                 self.act(own);
             }
         }
+        let (mut named, mut in_force) = ([0; SET_WORDS], [0; SET_WORDS]);
+        let answer = self.engine.report(&self.states[0], &mut named, &mut in_force);
+        let count = unpack_report(answer).expect("an answer of a report").in_force;
+        self.trace.set = in_force[..count].iter().copied().collect();
     }
 
     fn deliver(&mut self, own: u64, link: u64, message: &[u8]) {
@@ -137,7 +161,7 @@ impl Feeder {
             return;
         }
         let state = &mut self.states[own as usize - 1];
-        let answer = PlainMasks.deliver(state, link, message, &mut [0; LINE_BYTES]);
+        let answer = self.engine.deliver(state, link, message, &mut [0; LINE_BYTES]);
         if own == 1 {
             self.trace.calls.push(Call::Deliver { link, message: message.to_vec(), answer });
         }
@@ -148,7 +172,7 @@ impl Feeder {
         while !self.closed[own as usize - 1] {
             let mut lent = [0; LONGEST];
             let state = &mut self.states[own as usize - 1];
-            let answer = PlainMasks.turn(state, &mut lent, &mut [0; LINE_BYTES]);
+            let answer = self.engine.turn(state, &mut lent, &mut [0; LINE_BYTES]);
             let read = unpack_turn(answer).expect("an answer of a turn");
             let length = if let TurnAnswer::Sent { length } = read { length } else { 0 };
             let message = lent[..length].to_vec();

@@ -1,6 +1,6 @@
 //! Times sessions of both versions at one concentrator: the archive, the masks, the reference. With the arguments
 //! `count VERSION N HEAVIEST KIND` it runs each part once, in functions of their own, for a tool that counts instructions;
-//! with `saved` it prints what version 2 saves, and times nothing.
+//! with `saved` it prints what version 2 saves, with `packs` what the AUX of N2 changes in the sets, and times nothing.
 
 use std::hint::black_box;
 use std::time::Instant;
@@ -8,7 +8,7 @@ use std::time::Instant;
 use pack_bench::plain::{Archive, PlainMasks};
 use pack_bench::trace::{check, replay, Kind, Part, Trace};
 use pack_reference::engine::{Engine, Reference};
-use pack_reference::Version;
+use pack_reference::{Fault, Version};
 
 const SIZES: [u64; 4] = [4, 7, 10, 16];
 /// The largest weight of a feeder; with 1 all weigh the same.
@@ -26,13 +26,15 @@ fn main() {
             let traces = traces();
             print_times(&traces);
             print_saved(&traces);
+            print_packs(&traces);
         }
         [saved] if saved == "saved" => print_saved(&traces()),
+        [packs] if packs == "packs" => print_packs(&traces()),
         [count, version, n, heaviest, kind] if count == "count" => {
             count_one(version, n, heaviest, kind);
         }
         _ => {
-            eprintln!("usage: times [saved | count VERSION N HEAVIEST KIND]");
+            eprintln!("usage: times [saved | packs | count VERSION N HEAVIEST KIND]");
             std::process::exit(2);
         }
     }
@@ -167,6 +169,27 @@ fn print_saved(traces: &[Trace]) {
             two.feeder_turns
         );
     }
+}
+
+/// The same feeders with the AUX of 01 and with that of N2.
+fn print_packs(traces: &[Trace]) {
+    let before = Reference { fault: Fault::ZeroBeforeOne };
+    let [mut other_calls, mut put_in, mut in_before, mut in_now, mut gained] = [0; 5];
+    for now in traces {
+        let packs = now.put_in();
+        let before = Trace::with_engine(&before, now.version, now.n, now.heaviest, now.kind);
+        other_calls += usize::from(before.calls != now.calls);
+        put_in += packs.len();
+        in_before += packs.intersection(&before.set).count();
+        in_now += packs.intersection(&now.set).count();
+        gained += packs.intersection(&now.set).filter(|pack| !before.set.contains(pack)).count();
+    }
+    println!(
+        "\nOf {put_in} packs that honest ones put into these {} feeders, {in_before} are in their sets with the AUX of 01, \
+         {in_now} with that of N2; {gained} were left out before and are in now. At concentrator 1, {other_calls} sessions \
+         take other calls.",
+        traces.len()
+    );
 }
 
 fn weights_name(heaviest: u8) -> String {

@@ -60,7 +60,7 @@ pub struct Feeder<'a, E: BoxEngine + StandingEngine> {
     /// By the step at which they are due, then in order of sending.
     pub(super) parcels: BTreeMap<(u64, u64), Parcel>,
     parcel_count: u64,
-    now: u64,
+    pub(super) now: u64,
     pub(super) claim: Claim,
     /// The weight of the honest ones whose FINISHes of a vote a receiver accepted.
     pub(super) finished: BTreeMap<(Number, Number), Weight>,
@@ -115,6 +115,9 @@ impl<'a, E: BoxEngine + StandingEngine> Feeder<'a, E> {
             if self.plan.boxed && self.random.once_in(self.plan.pace.peeks) {
                 self.peek();
             }
+            if self.waits_for_turns() && self.act_all()? {
+                continue;
+            }
             if let Some(((due, _), parcel)) = self.parcels.pop_first() {
                 self.now = self.now.max(due) + 1;
                 self.hand_over(parcel)?;
@@ -123,6 +126,12 @@ impl<'a, E: BoxEngine + StandingEngine> Feeder<'a, E> {
             }
         }
         Ok(())
+    }
+
+    /// All that is due was delivered, and those who turn only then have not turned since.
+    fn waits_for_turns(&self) -> bool {
+        let due = self.parcels.keys().next().map(|&(due, _)| due);
+        self.plan.pace.laziness.is_none() && due.is_some_and(|due| due > self.now)
     }
 
     /// Opens those whose step has come.
@@ -234,7 +243,7 @@ impl<'a, E: BoxEngine + StandingEngine> Feeder<'a, E> {
     pub(super) fn send_to_all(&mut self, sent: &Sent) {
         let numbers: Vec<Number> = self.honest.keys().copied().collect();
         for number in numbers {
-            let delay = self.plan.delay(&mut self.random, &sent.message, number);
+            let delay = self.plan.delay(&mut self.random, &sent.message, number, self.now);
             self.send(Receiver::Honest(number), sent.clone(), delay);
         }
         for face in 0..self.faces.len() {
@@ -264,7 +273,7 @@ impl<'a, E: BoxEngine + StandingEngine> Feeder<'a, E> {
                     return Ok(());
                 }
                 self.deliver(number, parcel)?;
-                if self.random.once_in(self.plan.pace.laziness) {
+                if self.plan.pace.laziness.is_some_and(|times| self.random.once_in(times)) {
                     self.act(number)?;
                 }
                 Ok(())
@@ -313,6 +322,15 @@ impl<'a, E: BoxEngine + StandingEngine> Feeder<'a, E> {
         if !honest.opened {
             return Ok(());
         }
+        let shown = self.shown(number)?;
+        let turns_share = 100 * honest.taken / self.plan.settings.turn_limit();
+        self.statistics.note(number, &shown, turns_share);
+        self.claim.check(number, &shown)
+    }
+
+    /// What a report shows, which must fit what was answered before.
+    pub(super) fn shown(&self, number: Number) -> Result<Shown, Violation> {
+        let honest = &self.honest[&number];
         let (mut named, mut in_force) = ([UNWRITTEN; SET_WORDS], [UNWRITTEN; SET_WORDS]);
         let answer = self.engine.report(&honest.state, &mut named, &mut in_force);
         let wrong = Violation::Answer { at: number, call: "report", answer };
@@ -331,9 +349,7 @@ impl<'a, E: BoxEngine + StandingEngine> Feeder<'a, E> {
             let (taken, reported) = (honest.taken, report.turns);
             return Err(Violation::Turns { at: number, taken, reported });
         }
-        let turns_share = 100 * honest.taken / self.plan.settings.turn_limit();
-        self.statistics.note(number, &shown, turns_share);
-        self.claim.check(number, &shown)
+        Ok(shown)
     }
 }
 

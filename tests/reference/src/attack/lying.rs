@@ -82,7 +82,7 @@ impl<E: BoxEngine + StandingEngine> Feeder<'_, E> {
         let sent = Sent { link: liar, message: message.into(), line: None };
         for &number in plan.inputs.keys() {
             if self.faces[face].talks_to(plan.groups[&number]) {
-                let delay = plan.delay(&mut self.random, &sent.message, number);
+                let delay = plan.delay(&mut self.random, &sent.message, number, self.now);
                 self.send(Receiver::Honest(number), sent.clone(), delay);
             }
         }

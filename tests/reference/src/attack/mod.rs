@@ -6,6 +6,8 @@ mod face;
 mod feeder;
 mod journal;
 mod lying;
+mod pacing;
+mod packs;
 mod pick;
 mod plan;
 mod power;
@@ -19,6 +21,7 @@ use std::collections::BTreeSet;
 use std::fmt;
 
 pub use claim::{Claim, Conditions, Owed, Shown, Violation};
+pub use packs::{packs, Packs, PacksByKind};
 pub use plan::Plan;
 pub use trace::feeder_trace;
 pub use versions::{versions, Tallies, Tally};

@@ -3,21 +3,15 @@
 use std::collections::{BTreeMap, BTreeSet};
 
 use super::claim::Conditions;
-use super::plan::{Aim, Faces, Group, Hold, Opened, Pace, Plan};
+use super::pacing::{hold, UNTIL_DECIDED};
+use super::plan::{Aim, Faces, Group, Hold, Opened, Plan};
 use super::random::Random;
 use super::script::{Script, Watch};
 use crate::compare::all_settings;
-use crate::settings::{Number, Settings};
+use crate::settings::{Number, Settings, Weight};
 
 /// The most concentrators of a feeder in the attack, and the number of packs.
 pub const MOST: usize = 7;
-/// A delay that lasts until nothing else is on its way.
-const WHOLE_SESSION: u64 = 1_000_000;
-/// A delay that lasts until votes that do not wait for anything are decided.
-const UNTIL_DECIDED: u64 = 3_000;
-
-/// A delay that lasts until ESTs were relayed.
-const UNTIL_ACCEPTED: u64 = 300;
 
 pub fn aim(random: &mut Random) -> Aim {
     match random.below(13) {
@@ -41,6 +35,11 @@ pub fn aim_at_packs(random: &mut Random, conditions: Conditions) -> Option<Aim> 
     }
 }
 
+/// The aim at AUXs with both values accepted, in one of eight of the other plans; none where conditions are not met.
+pub fn aim_at_auxes(random: &mut Random, conditions: Conditions) -> Option<Aim> {
+    (conditions == Conditions::Met && random.once_in(8)).then_some(Aim::BusyHosts)
+}
+
 /// Whether feeders with these settings can have the aim.
 pub fn suits(settings: &Settings, aim: Aim) -> bool {
     match aim {
@@ -50,6 +49,8 @@ pub fn suits(settings: &Settings, aim: Aim) -> bool {
         Aim::LatePack => settings.numbers().any(|number| is_in_ta(settings, number)),
         // With ta = 0 no vote can start with 0, and the first half has no liars.
         Aim::BlockedBroadcast | Aim::SplitVote | Aim::SplitStart => settings.ta() > 0,
+        // Two groups that weigh 2·ta at most.
+        Aim::BusyHosts => settings.weight(settings.numbers()) <= 4 * Weight::from(settings.ta()),
         // Two light enough: the target, and one that starts its vote with 0.
         Aim::SplitCoin => {
             settings.numbers().filter(|&number| is_in_ta(settings, number)).count() > 2
@@ -113,6 +114,7 @@ pub fn unnamed(random: &mut Random, settings: &Settings) -> BTreeSet<Number> {
 pub fn liars(random: &mut Random, settings: &Settings, aim: Aim) -> BTreeSet<Number> {
     let most = u64::from(match aim {
         Aim::EqualPacks | Aim::MoreLiars => settings.ts(),
+        Aim::BusyHosts => 0,
         _ => settings.ta(),
     });
     let less = if random.once_in(4) { random.below(most + 1) } else { 0 };
@@ -142,7 +144,7 @@ pub fn inputs(
             let pack = |number: Number| packs[usize::from(is_light(settings, number))];
             return honest.iter().map(|&number| (number, pack(number))).collect();
         }
-        Aim::LatePack | Aim::SplitVote | Aim::SplitStart | Aim::SplitCoin => MOST,
+        Aim::LatePack | Aim::SplitVote | Aim::SplitStart | Aim::BusyHosts | Aim::SplitCoin => MOST,
     };
     let in_turn = kinds == MOST || random.once_in(2);
     let shuffled = random.some(honest.to_vec(), honest.len());
@@ -152,7 +154,7 @@ pub fn inputs(
     shuffled.into_iter().enumerate().map(|(place, number)| (number, input(place))).collect()
 }
 
-/// At random; or so that group A makes up all quorums of a vote with the liars.
+/// At random; or so that group A makes up all quorums of a vote with the liars, or that neither group has a value accepted alone.
 pub fn groups(
     random: &mut Random,
     settings: &Settings,
@@ -162,6 +164,11 @@ pub fn groups(
     if aim == Aim::SplitCoin {
         let second = of_weight(random, settings, honest.to_vec(), settings.ta().into());
         let group = |number| if second.contains(&number) { Group::B } else { Group::A };
+        return settings.numbers().map(|number| (number, group(number))).collect();
+    }
+    if aim == Aim::BusyHosts {
+        let first = of_weight(random, settings, honest.to_vec(), 2 * u64::from(settings.ta()));
+        let group = |number| if first.contains(&number) { Group::A } else { Group::B };
         return settings.numbers().map(|number| (number, group(number))).collect();
     }
     let share = random.pick(&[2, 2, 4]);
@@ -248,7 +255,7 @@ pub fn script(
             script.watches.insert(target, Watch::Lead);
             return script;
         }
-        Aim::LatePack => return script,
+        Aim::LatePack | Aim::BusyHosts => return script,
         Aim::EqualPacks | Aim::MoreLiars => 2,
         Aim::Agreement | Aim::BlockedBroadcast | Aim::HeavyAgainstLight => 5,
     };
@@ -308,84 +315,4 @@ pub fn target(
         _ => true,
     };
     random.pick(&settings.numbers().filter(suits).collect::<Vec<Number>>())
-}
-
-pub fn pace(
-    random: &mut Random,
-    settings: &Settings,
-    aim: Aim,
-    target: Number,
-    conditions: Conditions,
-) -> Pace {
-    Pace {
-        holds: holds(random, settings, aim, target),
-        jitter: random.pick(&[1, 1, 5, 30, 200]),
-        laziness: random.pick(&[1, 1, 2, 5]),
-        refused_calls: random.pick(&[20, 200]),
-        call_limit: if aim == Aim::SplitCoin {
-            20_000
-        } else {
-            random.pick(&[3_000, 6_000, 12_000])
-        },
-        power_losses: power_losses(random, conditions),
-        asking: match aim {
-            Aim::SplitCoin => (1, random.pick(&[1, 60, 60])),
-            _ => random.pick(&[(1, 1), (1, 1), (3, 3), (1, 20), (20, 1)]),
-        },
-        peeks: random.pick(&[4, 40]),
-    }
-}
-
-/// In one of three feeders; always where lines of messages that left may be lost.
-fn power_losses(random: &mut Random, conditions: Conditions) -> Option<u64> {
-    match (conditions, random.below(9)) {
-        (Conditions::LostLines, _) => Some(50),
-        (_, 0) => Some(10),
-        (_, 1) => Some(60),
-        (_, 2) => Some(300),
-        _ => None,
-    }
-}
-
-/// COMMITs for a long time, and what else the aim asks for.
-fn holds(random: &mut Random, settings: &Settings, aim: Aim, target: Number) -> Vec<Hold> {
-    let delay = random.pick(&[500, 5_000, WHOLE_SESSION]);
-    let mut holds = vec![Hold { kinds: (6, 6), delay, ..Hold::default() }];
-    let numbers: Vec<Number> = settings.numbers().collect();
-    let readies =
-        Hold { kinds: (3, 3), instance: Some(target), delay: WHOLE_SESSION, ..Hold::default() };
-    match aim {
-        Aim::SplitVote => {}
-        Aim::HeavyAgainstLight | Aim::LatePack => {
-            holds[0].delay = WHOLE_SESSION;
-            holds.push(Hold { delay: UNTIL_DECIDED, ..readies });
-        }
-        Aim::SplitStart => holds.push(Hold { to_group: Some(Group::B), ..readies }),
-        Aim::SplitCoin => {
-            // Group B then sees both values in its AUXs.
-            let auxes = Hold { kinds: (5, 5), delay: UNTIL_ACCEPTED, ..readies };
-            let to_group = Some(Group::B);
-            holds.extend([Hold { to_group, ..readies }, Hold { to_group, ..auxes }]);
-        }
-        Aim::BlockedBroadcast => {
-            holds.push(Hold { to_one: Some(random.pick(&numbers)), ..readies });
-        }
-        Aim::Agreement | Aim::EqualPacks | Aim::MoreLiars => {
-            if random.once_in(4) {
-                holds.clear();
-            }
-            holds.extend((0..random.below(3)).map(|_| hold(random, &numbers)));
-        }
-    }
-    holds
-}
-
-/// A broadcast, its READYs, a vote or everything, to one concentrator, one group or all.
-fn hold(random: &mut Random, numbers: &[Number]) -> Hold {
-    let kinds = random.pick(&[(1, 1), (1, 3), (3, 3), (3, 3), (4, 5), (1, 5)]);
-    let instance = (!random.once_in(4)).then_some(random.pick(numbers));
-    let to_one = (!random.once_in(3)).then_some(random.pick(numbers));
-    let to_group = (to_one.is_none() && random.once_in(2)).then_some(Group::B);
-    let delay = random.pick(&[100, 1_000, 10_000, WHOLE_SESSION]);
-    Hold { kinds, instance, to_group, to_one, delay }
 }

@@ -3,6 +3,7 @@
 use std::collections::{BTreeMap, BTreeSet};
 
 use super::claim::{Conditions, Owed};
+use super::pacing;
 use super::pick;
 use super::random::Random;
 use super::script::Script;
@@ -30,6 +31,9 @@ pub enum Aim {
     SplitVote,
     /// First half; all packs different, one broadcast's READYs kept from one group, and its vote fought over.
     SplitStart,
+    /// No liars; all packs different, one broadcast's READYs kept from one group and the ESTs of its vote from all until the other
+    /// votes are decided; all turn only once all that is due was delivered, so that both values can be accepted between two turns.
+    BusyHosts,
     /// First half; boxed, all packs different, one broadcast's READYs kept from a group of weight ta at most, and liars lead
     /// its vote by the coins that they see.
     SplitCoin,
@@ -69,6 +73,8 @@ pub struct Hold {
     pub to_group: Option<Group>,
     pub to_one: Option<Number>,
     pub delay: u64,
+    /// A step up to which they are held, whenever they were sent.
+    pub until: u64,
 }
 
 impl Hold {
@@ -79,6 +85,11 @@ impl Hold {
             && self.to_group.is_none_or(|held| held == group)
             && self.to_one.is_none_or(|held| held == to)
     }
+
+    /// The steps that it holds a message that is sent now.
+    fn delay_from(&self, now: u64) -> u64 {
+        self.delay.max(self.until.saturating_sub(now))
+    }
 }
 
 /// How calls follow each other.
@@ -87,8 +98,8 @@ pub struct Pace {
     pub holds: Vec<Hold>,
     /// The most steps that an ordinary message takes.
     pub jitter: u64,
-    /// A concentrator turns until idle once in so many deliveries to it.
-    pub laziness: u64,
+    /// A concentrator turns until idle once in so many deliveries to it; or else only once all that is due was delivered.
+    pub laziness: Option<u64>,
     /// Once in so many steps there is a call that must be refused.
     pub refused_calls: u64,
     /// Once in so many steps an honest one loses power, if ever.
@@ -124,10 +135,12 @@ pub struct Plan {
 }
 
 impl Plan {
-    /// Half of the plans are of version 2, and some are about the packs in sets.
+    /// Half of the plans are of version 2, and some are about the packs in sets, or about AUXs with both values accepted.
     pub fn new(seed: u64, conditions: Conditions) -> Plan {
         let version = Random::new(seed.rotate_left(32)).pick(&Version::ALL);
-        match pick::aim_at_packs(&mut Random::new(seed.rotate_left(48)), conditions) {
+        let aim = pick::aim_at_packs(&mut Random::new(seed.rotate_left(48)), conditions);
+        let at_auxes = || pick::aim_at_auxes(&mut Random::new(seed.rotate_left(8)), conditions);
+        match aim.or_else(at_auxes) {
             Some(aim) => {
                 Plan::aimed(&mut Random::new(seed), aim, conditions).in_version(seed, version)
             }
@@ -188,7 +201,7 @@ impl Plan {
             groups: pick::groups(random, &settings, &honest, aim),
             faces: pick::faces(random, &packs, aim),
             script: pick::script(random, &settings, printed, &packs, aim, target),
-            pace: pick::pace(random, &settings, aim, target, conditions),
+            pace: pacing::pace(random, &settings, aim, target, conditions),
             boxed,
             no_coins: vec![0; coins.len()],
             coins,
@@ -219,10 +232,10 @@ impl Plan {
         BoxOpening { n, ta, ts, coins: &self.coins, weights: self.settings.weights() }
     }
 
-    /// The steps that a message takes on its way.
-    pub fn delay(&self, random: &mut Random, message: &[u8], to: Number) -> u64 {
+    /// The steps that a message that is sent now takes on its way.
+    pub fn delay(&self, random: &mut Random, message: &[u8], to: Number, now: u64) -> u64 {
         let covers = |hold: &&Hold| hold.covers(message, to, self.groups[&to]);
-        let held = self.pace.holds.iter().filter(covers).map(|hold| hold.delay).max();
+        let held = self.pace.holds.iter().filter(covers).map(|hold| hold.delay_from(now)).max();
         random.below(self.pace.jitter) + held.unwrap_or(0)
     }
 

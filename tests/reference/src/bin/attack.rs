@@ -1,11 +1,11 @@
 //! Attacks the reference engine, sound, with each fault, and sound with lost lines of the journals or with recorded bits
 //! that differ. Arguments: seed, number of feeders, and optionally one of these. It succeeds if the sound engine holds and
 //! everything else is found. With `versions` as the third argument it runs each feeder in both versions, and prints what the
-//! honest ones did in each.
+//! honest ones did in each; with `packs` it runs each with the AUX of 01 and with that of N2, and prints the packs in the sets.
 
 use std::process::ExitCode;
 
-use pack_reference::attack::{attack, versions, Conditions};
+use pack_reference::attack::{attack, packs, versions, Conditions};
 use pack_reference::engine::Reference;
 use pack_reference::Fault;
 
@@ -26,15 +26,15 @@ fn targets() -> Vec<Target> {
 
 fn main() -> ExitCode {
     let arguments: Vec<String> = std::env::args().skip(1).collect();
-    if let [seed, feeders, "versions"] =
-        arguments.iter().map(String::as_str).collect::<Vec<_>>()[..]
-    {
-        if let (Ok(seed), Ok(feeders)) = (seed.parse(), feeders.parse()) {
-            return print_versions(seed, feeders);
+    if let [seed, feeders, mode] = &arguments[..] {
+        match (mode.as_str(), seed.parse(), feeders.parse()) {
+            ("versions", Ok(seed), Ok(feeders)) => return print_versions(seed, feeders),
+            ("packs", Ok(seed), Ok(feeders)) => return print_packs(seed, feeders),
+            _ => {}
         }
     }
     let Some((seed, feeders, targets)) = read_arguments(&arguments) else {
-        eprintln!("usage: attack SEED FEEDERS [FAULT | versions]");
+        eprintln!("usage: attack SEED FEEDERS [FAULT | versions | packs]");
         targets().iter().for_each(|target| eprintln!("  fault {}", target.name));
         return ExitCode::from(2);
     };
@@ -53,6 +53,21 @@ fn print_versions(seed: u64, feeders: u64) -> ExitCode {
                 println!("version {}, no liars: {}", version.number(), tallies.honest);
                 println!("version {}, liars: {}", version.number(), tallies.lying);
             }
+            ExitCode::SUCCESS
+        }
+        Err(violation) => {
+            println!("violation: {violation}");
+            ExitCode::FAILURE
+        }
+    }
+}
+
+fn print_packs(seed: u64, feeders: u64) -> ExitCode {
+    match packs(seed, feeders) {
+        Ok(packs) => {
+            println!("no liars: {}", packs.honest);
+            println!("liars: {}", packs.lying);
+            println!("busy hosts: {}", packs.busy);
             ExitCode::SUCCESS
         }
         Err(violation) => {
