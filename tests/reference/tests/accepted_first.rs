@@ -1,5 +1,6 @@
 //! Document 02, N2: AUX carries the value that was accepted first, as deliveries recorded it.
 
+use pack_reference::journal::{restore, LINE_BYTES};
 use pack_reference::message::LONGEST;
 use pack_reference::{Fault, Message, Number, Opening, Outcome, PackSet, Session, Version};
 
@@ -119,6 +120,47 @@ fn rounds_that_are_not_entered_are_recorded_too() {
         }
         assert_eq!(aux_of(2, &sent(&mut session)), Some(first));
     }
+}
+
+/// The journal of a session that holds both values of vote 1, 1 first, and has sent its AUX last; and that session.
+fn journal_up_to_aux(fault: Fault) -> (Vec<u8>, Session) {
+    let line = &mut [0; LINE_BYTES];
+    let (mut session, length) = Session::open_with_line(&OPENING, fault, line).unwrap();
+    let mut journal = line[..length].to_vec();
+    let est = |value: bool| Message::Est { instance: 1, round: 1, value };
+    for message in [Message::Ready { instance: 1, value: 5 }, est(true), est(false)] {
+        for sender in 1..=3 {
+            let bytes = message.to_bytes(Version::One, sender, SESSION);
+            let length = session.deliver_with_line(sender.into(), &bytes, line).unwrap();
+            journal.extend_from_slice(&line[..length]);
+        }
+    }
+    // SEND, READY, start, relay of 0, AUX.
+    for _ in 0..5 {
+        session.turn_with_line(&mut [0; LONGEST], line).unwrap();
+        journal.extend_from_slice(b"T\n");
+    }
+    (journal, session)
+}
+
+fn aux_bytes(value: bool) -> Option<Vec<u8>> {
+    Some(Message::Aux { instance: 1, round: 1, value }.to_bytes(Version::One, 4, SESSION))
+}
+
+#[test]
+fn a_journal_gives_the_first_value_back() {
+    let (journal, session) = journal_up_to_aux(Fault::None);
+    let restored = restore(&journal, &mut [0; LONGEST], Fault::None).unwrap();
+    assert_eq!((restored.session, restored.message), (session, aux_bytes(true)));
+}
+
+/// Why a session has to end with the engine that it was opened with.
+#[test]
+fn a_journal_of_the_aux_of_01_gives_another_aux() {
+    let (journal, _) = journal_up_to_aux(Fault::ZeroBeforeOne);
+    let given = |fault| restore(&journal, &mut [0; LONGEST], fault).unwrap().message;
+    assert_eq!(given(Fault::ZeroBeforeOne), aux_bytes(false));
+    assert_eq!(given(Fault::None), aux_bytes(true));
 }
 
 /// Four honest ones, each with its own pack, on engines that may have the AUX of 01.
