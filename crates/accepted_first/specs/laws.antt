@@ -1,3 +1,3 @@
-pub mod Leading
+pub mod Facts
 pub mod Stepping
 pub mod Moments

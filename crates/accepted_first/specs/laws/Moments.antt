@@ -52,8 +52,8 @@ use Rattle.turn_bound.specs.laws.Opened.{opened-new, opened-ruled}
 use Rattle.turn_bound.specs.laws.CallCount.{open-taken, open-refused, restore-refused, same-words}
 use Rattle.turn_bound.specs.laws.Stepped.{some-if, words-of, wrong-stays}
 use Rattle.accepted_first.specs.AcceptedFirst.{another, onward, afterLines, lineMoments, momentsAfter, momentsAt, alone, sometime, First, AcceptedFirst}
-use Rattle.accepted_first.specs.laws.Leading.{Facts, none-yet, facts-next}
-use Rattle.accepted_first.specs.laws.Leading as leading
+use Rattle.accepted_first.specs.laws.Facts.{Facts, none-yet, facts-next}
+use Rattle.accepted_first.specs.laws.Facts as facts
 use Rattle.accepted_first.specs.laws.Stepping.{Onward, same-onward, turn-onward, recording-onward, delivery-onward}
 
 -- what the moments of a session tell of round r of vote i, the newest being w, by the settings g
@@ -299,10 +299,10 @@ module _ (w : List ℕ) (us : List (List ℕ)) (h : Past w us) (i r : ℕ) where
   -- an AUX that is due carries the value that was accepted first
   told-first : (b : ℕ) → 1 ≤ i → i ≤ 16 → AuxTold (settingsOf w) w i r b → First (settingsOf w) (w ∷ us) i r b
   told-first zero lo hi x =
-      let t = leading.zero-first _ _ _ _ _ (h i r lo hi (x .low) (x .high)) (x .is-accepted) (x .zero-first refl) in
+      let t = facts.zero-first _ _ _ _ _ (h i r lo hi (x .low) (x .high)) (x .is-accepted) (x .zero-first refl) in
       record { bit = x .bit; before = t .0; never = t .1 }
   told-first (suc zero) lo hi x =
-      let t = leading.one-first _ _ _ _ _ (h i r lo hi (x .low) (x .high)) (x .is-accepted) (x .one-first refl) in
+      let t = facts.one-first _ _ _ _ _ (h i r lo hi (x .low) (x .high)) (x .is-accepted) (x .one-first refl) in
       record { bit = x .bit; before = t .0; never = t .1 }
   told-first (suc (suc b)) lo hi x = absurd (omega (arith, x .bit))
 

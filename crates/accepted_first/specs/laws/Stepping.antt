@@ -43,7 +43,7 @@ use Rattle.turn.specs.laws.Frame.{told-placed, setting, between, beyond, applie
 use Rattle.turn.specs.laws.Admitting.{admitted-ruled}
 use Rattle.turn.specs.laws.Turn.{Taken, Way, refused, taken, way}
 use Rattle.held.specs.laws.Recording.{est-place}
-use Rattle.accepted_first.specs.laws.Leading.{Change}
+use Rattle.accepted_first.specs.laws.Facts.{Change}
 
 -- the changes in round r of vote i from the words w to the words t, by the settings g
 abbrev pub Changes : Settings → ℕ → ℕ → List ℕ → List ℕ → Type 0
@@ -155,7 +155,7 @@ is-est (Aux j q c) i r b = no (λ e. let z : _≡_ {A = ℕ} 0 1 = cc in omega a
 is-est (Commit k) i r b = no (λ e. let z : _≡_ {A = ℕ} 0 1 = cc in omega arith)
 is-est (Finish j c) i r b = no (λ e. let z : _≡_ {A = ℕ} 0 1 = cc in omega arith)
 
--- a word that holds the mark stays, or another mark is set in it
+-- the mark stays where its word is not one that the message changes
 first-elsewhere : (w v : List ℕ) (p : ℕ) (m : Message) (i r : ℕ) → (Changed p m (oneFirstAt i) → ⊥) → oneFirst (recorded w p m v) i r ≡ oneFirst w i r
 unfolding oneFirst marked
 first-elsewhere w v p m i r out = ap (λ (x : ℕ). mark x r) (word-recorded w v p m (oneFirstAt i) out)

@@ -124,7 +124,7 @@ mark-recorded s v p (Finish i b) a j l h t e =
     marked-came s (finishMarksAt i) (finishMark b p) a j (omega arith)
     (ap (λ (x : ℕ). mark x j) (sym (settled-word (settingsOf s) (withFinish s i b p) i b a (not-decision a t .0) (not-decision a t .1))) ∙ e)
 
--- the words that recording a message of sender p may change; an EST may be the first value accepted, and a FINISH may decide its vote
+-- the words that recording a message of sender p may change; an EST may mark 1 as accepted first, and a FINISH may decide its vote
 abbrev pub Changed : ℕ → Message → ℕ → Type 0
 Changed p (Send i x) a = (a ≡ sendValueAt i) ⊎ (a ≡ sendMarksAt)
 Changed p (Echo i x) a = (a ≡ echoValueAt i p) ⊎ (a ≡ echoMarksAt i)

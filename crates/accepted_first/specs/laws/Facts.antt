@@ -9,8 +9,8 @@ pub record Facts (z o m a b : Bool) : Type 0 where
   pub marked : m ≡ b
   pub zero-stays : a ≡ true → z ≡ true
   pub one-stays : b ≡ true → o ≡ true
-  pub zero-led : z ≡ true → (a ≡ true) ⊎ (b ≡ true)
-  pub one-led : o ≡ true → (a ≡ true) ⊎ (b ≡ true)
+  pub zero-first-known : z ≡ true → (a ≡ true) ⊎ (b ≡ true)
+  pub one-first-known : o ≡ true → (a ≡ true) ⊎ (b ≡ true)
   pub apart : a ≡ true → b ≡ true → ⊥
 
 pub none-yet : Facts false false false false false
@@ -19,8 +19,8 @@ none-yet =
       marked = refl;
       zero-stays = λ e. e;
       one-stays = λ e. e;
-      zero-led = λ e. absurd (false≢true e);
-      one-led = λ e. absurd (false≢true e);
+      zero-first-known = λ e. absurd (false≢true e);
+      one-first-known = λ e. absurd (false≢true e);
       apart = λ e f. false≢true e;
     }
 
@@ -31,13 +31,13 @@ pub record Change (z o m z' o' m' : Bool) : Type 0 where
   pub single : ((o' ≡ o) × (m' ≡ m)) ⊎ ((z' ≡ z) × (m' ≡ (m || (o' && not z'))))
 
 module _ (z o m m' a b : Bool) (f : Facts z o m a b) where
-  -- one of the values was accepted before: it has led
-  led : (z' o' : Bool) → Change z o m z' o' m' → z' ≡ true → o' ≡ true → (a ≡ true) ⊎ (b ≡ true)
-  led z' o' c p q = of (c .single)
+  -- one of the values was accepted before: one of the two was first
+  first-known : (z' o' : Bool) → Change z o m z' o' m' → z' ≡ true → o' ≡ true → (a ≡ true) ⊎ (b ≡ true)
+  first-known z' o' c p q = of (c .single)
     where
       of : ((o' ≡ o) × (m' ≡ m)) ⊎ ((z' ≡ z) × (m' ≡ (m || (o' && not z')))) → (a ≡ true) ⊎ (b ≡ true)
-      of (inl s) = f .one-led (sym (s .0) ∙ q)
-      of (inr s) = f .zero-led (sym (s .0) ∙ p)
+      of (inl s) = f .one-first-known (sym (s .0) ∙ q)
+      of (inr s) = f .zero-first-known (sym (s .0) ∙ p)
 
   -- 1 is not alone: the mark stays
   unmoved : (z' o' : Bool) → Change z o m z' o' m' → (o' && not z') ≡ false → m' ≡ b
@@ -56,7 +56,7 @@ module _ (z o m m' a b : Bool) (f : Facts z o m a b) where
       was (inr e) = e
 
       of : ((true ≡ o) × (m' ≡ m)) ⊎ ((false ≡ z) × (m' ≡ (m || (true && not false)))) → m' ≡ true
-      of (inl s) = s .1 ∙ f .marked ∙ was (f .one-led (sym (s .0)))
+      of (inl s) = s .1 ∙ f .marked ∙ was (f .one-first-known (sym (s .0)))
       of (inr s) = s .1 ∙ or-right m true refl
 
   -- the facts one moment later
@@ -66,8 +66,8 @@ module _ (z o m m' a b : Bool) (f : Facts z o m a b) where
         marked = unmoved true true c refl;
         zero-stays = λ e. refl;
         one-stays = λ e. refl;
-        zero-led = λ e. led true true c refl refl;
-        one-led = λ e. led true true c refl refl;
+        zero-first-known = λ e. first-known true true c refl refl;
+        one-first-known = λ e. first-known true true c refl refl;
         apart = f .apart;
       }
   facts-next true false c =
@@ -75,8 +75,8 @@ module _ (z o m m' a b : Bool) (f : Facts z o m a b) where
         marked = unmoved true false c refl;
         zero-stays = λ e. refl;
         one-stays = λ e. c .one (f .one-stays e);
-        zero-led = λ e. inl refl;
-        one-led = λ e. inl refl;
+        zero-first-known = λ e. inl refl;
+        one-first-known = λ e. inl refl;
         apart = λ e g. false≢true (c .one (f .one-stays g));
       }
   facts-next false true c =
@@ -84,8 +84,8 @@ module _ (z o m m' a b : Bool) (f : Facts z o m a b) where
         marked = moved c;
         zero-stays = λ e. c .zero (f .zero-stays e);
         one-stays = λ e. refl;
-        zero-led = λ e. inr refl;
-        one-led = λ e. inr refl;
+        zero-first-known = λ e. inr refl;
+        one-first-known = λ e. inr refl;
         apart = λ e g. false≢true (c .zero (f .zero-stays e));
       }
   facts-next false false c =
@@ -93,8 +93,8 @@ module _ (z o m m' a b : Bool) (f : Facts z o m a b) where
         marked = unmoved false false c refl;
         zero-stays = λ e. c .zero (f .zero-stays e);
         one-stays = λ e. c .one (f .one-stays e);
-        zero-led = λ e. absurd (false≢true e);
-        one-led = λ e. absurd (false≢true e);
+        zero-first-known = λ e. absurd (false≢true e);
+        one-first-known = λ e. absurd (false≢true e);
         apart = f .apart;
       }
 
@@ -105,7 +105,7 @@ module _ (z o m a b : Bool) (f : Facts z o m a b) where
     where
       of : (c : Bool) → b ≡ c → (a ≡ true) × (b ≡ false)
       of true e = absurd (true≢false (sym e ∙ sym (f .marked) ∙ q (f .one-stays e)))
-      of false e = (by (f .zero-led p), e)
+      of false e = (by (f .zero-first-known p), e)
         where
           by : (a ≡ true) ⊎ (b ≡ true) → a ≡ true
           by (inl g) = g
@@ -117,7 +117,7 @@ module _ (z o m a b : Bool) (f : Facts z o m a b) where
     where
       of : (c : Bool) → a ≡ c → (b ≡ true) × (a ≡ false)
       of true e = absurd (f .apart e (sym (f .marked) ∙ q (f .zero-stays e)))
-      of false e = (by (f .one-led p), e)
+      of false e = (by (f .one-first-known p), e)
         where
           by : (a ≡ true) ⊎ (b ≡ true) → b ≡ true
           by (inl g) = absurd (false≢true (sym e ∙ g))
