@@ -1,4 +1,5 @@
 // Fields and numbers as text, for the lines of the journal and of the drill.
+#![tactic(auto)]
 mod digits;
 mod writing;
 

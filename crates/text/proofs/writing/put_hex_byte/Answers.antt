@@ -1,0 +1,6 @@
+-- `put_hex_byte` writes the two digits.
+use Rattle.text.specs.laws.Digits.{wrote_byte}
+use Rattle.text.proofs.writing.put_hex_byte.Goals as goal
+
+pub returns : goal.returns
+returns c = search wrote_byte
