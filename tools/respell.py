@@ -27,8 +27,10 @@ RENAMED_CRATES = {"csv": "delivery_csv"}
 APART = {
     "in-force": "by_in_force",
     "inForce": "set_in_force",
-    **{n: n + "_lem" for n in "all_right is_state opened_with passes_at ready_held same_set".split()},
 }
+# Laws whose name a definition in camel case comes to have. Functions of the sources keep such a name.
+LAWS = "all_right is_state opened_with passes_at ready_held same_set".split()
+APART.update({n: n + "_lem" for n in LAWS})
 # Names in camel case, turned: a law of the same spelling gets `_lem`, as the library's do.
 TURNED = set()
 
@@ -126,7 +128,7 @@ def changer(path, text, names, crates):
         return lambda n: snake(n) if n in ours else n
     if path.endswith(".antt"):
         return lambda n: n if n in kept else snake(n)
-    return lambda n: snake(n) if n in names and n not in kept else n
+    return lambda n: snake(n) if n in names and n not in kept and n not in LAWS else n
 
 
 def read(top):
@@ -228,7 +230,7 @@ def edited(text, names):
     lines = []
     for line in text.split("\n"):
         if line.startswith(("old:", "new:")):
-            line = line[:4] + NAME.sub(lambda m: snake(m[0]) if m[0] in names else m[0], line[4:])
+            line = line[:4] + NAME.sub(lambda m: snake(m[0]) if m[0] in names and m[0] not in LAWS else m[0], line[4:])
         lines.append(line)
     return "\n".join(lines)
 

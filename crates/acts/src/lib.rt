@@ -1,15 +1,16 @@
 // What a turn can do, as a reader of the state answers it and a writer carries it out.
+#![tactic(auto)]
 ghost use Rattle.std.specs.Prelude.{◌≡◌};
 ghost use Rattle.acts.specs.Acts.{is_due};
 
 // The values that the counted AUXs of a round carry.
-#[derive(Drop)]
+#[derive(Clone, Copy)]
 pub enum View {
     Only(u8),
     Both,
 }
 
-#[derive(Drop)]
+#[derive(Clone, Copy)]
 pub enum Act {
     Idle,
     InForce,

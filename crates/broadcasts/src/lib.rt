@@ -1,4 +1,5 @@
 // Broadcasts: the ECHO and the READY that are due, and the output.
+#![tactic(auto)]
 ghost use Rattle.std.specs.Prelude.{◌≡◌, ◌+◌, ◌≤◌, leb};
 ghost use Rattle.settings.specs.laws.Counting.{counting};
 ghost use Rattle.acts.specs.Acts.{first_act};
@@ -16,7 +17,7 @@ use records::layout;
 use settings::Settings;
 
 // A value that enough senders hold, if there is one.
-#[derive(Drop)]
+#[derive(Clone, Copy)]
 pub enum Output {
     Value(u64),
     Nothing,

@@ -7,14 +7,14 @@ ghost use Rattle.calendar.specs.laws.Search.{distance, window_at, nearest_from};
 use settings::refusal;
 
 // The number of the refusal, or the minute.
-#[derive(Drop)]
+#[derive(Clone, Copy)]
 pub enum Start {
     Refused(u64),
     Minute(u64),
 }
 
 // What is found in a list of windows: a bad one, or how many minutes it is to the next minute in a window.
-#[derive(Drop)]
+#[derive(Clone, Copy)]
 pub enum Nearest {
     Bad,
     After(u64),

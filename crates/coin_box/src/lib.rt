@@ -14,7 +14,7 @@ const WEIGHTS: usize = 3;
 // Rows of 32 words, for each vote by round: the marks of the requesters.
 const REQUESTS: usize = 7;
 
-#[derive(Drop)]
+#[derive(Clone, Copy)]
 pub enum Reply {
     Refused(u64),
     Sealed,

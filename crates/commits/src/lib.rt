@@ -23,7 +23,7 @@ fn same_value(s: &[u64], p: u8, q: u8, k: u8) -> bool
 }
 
 // Whether the COMMITs of senders p and q hold the same set.
-fn same_set_lem(s: &[u64], p: u8, q: u8) -> bool
+fn same_set(s: &[u64], p: u8, q: u8) -> bool
     ensures { result ≡ same_set s.now p q }
 {
     let n = records::commit_count(s, p);
@@ -45,7 +45,7 @@ fn holds_set(s: &[u64], p: u8, q: u8) -> bool
     ensures { result ≡ (commit_held s.now q && same_set s.now p q) }
 {
     if commit_held(s, q) {
-        same_set_lem(s, p, q)
+        same_set(s, p, q)
     } else {
         false
     }

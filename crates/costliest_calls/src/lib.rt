@@ -11,7 +11,7 @@ use settings::refusal;
 use wire::Message;
 
 // A call: none, the message of a concentrator over its link, or a turn.
-#[derive(Drop)]
+#[derive(Clone, Copy)]
 pub enum Call {
     Nothing,
     Delivery(u8, Message),

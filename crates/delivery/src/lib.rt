@@ -13,7 +13,7 @@ use settings::{Settings, refusal};
 use wire::{Message, Parsed};
 
 // What a delivery comes to: the number of the refusal, or the message to be recorded.
-#[derive(Drop)]
+#[derive(Clone, Copy)]
 pub enum Verdict {
     Refused(u64),
     Accepted(Message),
@@ -26,7 +26,7 @@ fn place_held(s: &[u64], p: u8, m: Message) -> bool
     match m {
         Message::Send { instance, value: _ } => records::send_held(s, instance),
         Message::Echo { instance, value: _ } => records::echo_held(s, instance, p),
-        Message::Ready { instance, value: _ } => records::ready_held_lem(s, instance, p),
+        Message::Ready { instance, value: _ } => records::ready_held(s, instance, p),
         Message::Est {
             instance,
             round,

@@ -33,7 +33,7 @@ pub const MAX_FIELDS: u64 = 16;
 pub const MAX_FIELD_BYTES: u8 = 64;
 
 // The answer of a conversion.
-#[derive(Drop)]
+#[derive(Clone, Copy)]
 pub enum Conversion {
     // The number, from 1, of the first record or line that cannot be taken.
     Record(u64),
@@ -44,14 +44,14 @@ pub enum Conversion {
 }
 
 // What is left of the lent bytes: once more was spent than there was, `over` is true and `left` 0.
-#[derive(Drop)]
+#[derive(Clone, Copy)]
 pub struct Room {
     pub left: usize,
     pub over: bool,
 }
 
 // Where in a record the next byte stands.
-#[derive(Drop)]
+#[derive(Clone, Copy)]
 pub enum Phase {
     // At the start of a field.
     Start,
@@ -66,7 +66,7 @@ pub enum Phase {
 }
 
 // A record of which some bytes are read.
-#[derive(Drop)]
+#[derive(Clone, Copy)]
 pub struct RecordReader {
     pub phase: Phase,
     // How many fields are over.
@@ -78,14 +78,14 @@ pub struct RecordReader {
 }
 
 // What a byte of a record puts into a drill line.
-#[derive(Drop)]
+#[derive(Clone, Copy)]
 pub enum Shown {
     Nothing,
     Byte(u8),
 }
 
 // A text of records of which some bytes are judged.
-#[derive(Drop)]
+#[derive(Clone, Copy)]
 pub struct RecordScan {
     pub reader: RecordReader,
     // How many records are over.
@@ -95,7 +95,7 @@ pub struct RecordScan {
 }
 
 // A line of which some bytes are read.
-#[derive(Drop)]
+#[derive(Clone, Copy)]
 pub struct LineReader {
     // How many fields are over.
     pub fields: u8,
@@ -108,7 +108,7 @@ pub struct LineReader {
 }
 
 // A text of lines of which some bytes are judged.
-#[derive(Drop)]
+#[derive(Clone, Copy)]
 pub struct LineScan {
     pub reader: LineReader,
     // How many lines are over.

@@ -4,7 +4,7 @@ ghost use Rattle.delivery_csv.specs.Parts.{turned_if, part_with, ended_part};
 
 use crate::{LF, QUOTE};
 
-#[derive(Drop)]
+#[derive(Clone, Copy)]
 pub struct Part {
     // Its bytes.
     pub length: usize,

@@ -12,7 +12,7 @@ use crate::{Conversion, csv_to_drill, drill_to_csv};
 const MAX_REST: usize = 4096;
 
 // What was done with the bytes that are there.
-#[derive(Drop)]
+#[derive(Clone, Copy)]
 pub enum Progress {
     // The lent bytes are too few.
     Short,

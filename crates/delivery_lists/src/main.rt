@@ -6,7 +6,7 @@ use delivery_csv::Progress;
 use libc::{STDERR_FILENO, STDIN_FILENO, STDOUT_FILENO};
 
 // What is kept from read to read.
-#[derive(Drop)]
+#[derive(Clone, Copy)]
 pub struct State {
     // How many bytes at the front of the input's buffer are not converted yet.
     pub held: usize,

@@ -3,7 +3,7 @@ use drill_core::Drill;
 use libc::{STDIN_FILENO, STDOUT_FILENO};
 
 // A drill after a read, and whether there may be more input.
-#[derive(Drop)]
+#[derive(Clone, Copy)]
 pub struct Fed {
     pub drill: Drill,
     pub more: bool,

@@ -11,7 +11,7 @@ pub use feeding::{feed, feed_all, start};
 pub use results::finish;
 
 // Where in its input a drill stands: before line 1, at the C and P lines, at the lines after them, after a line it cannot take.
-#[derive(Drop)]
+#[derive(Clone, Copy)]
 pub enum Phase {
     First,
     Setup,
@@ -20,7 +20,7 @@ pub enum Phase {
 }
 
 // What the N, C and P lines gave; `named` marks the coin words that a C line gave.
-#[derive(Drop)]
+#[derive(Clone, Copy)]
 pub struct Given {
     pub members: Members,
     pub ta: u64,
@@ -32,7 +32,7 @@ pub struct Given {
 }
 
 // What a drill knows beside the lent memory.
-#[derive(Drop)]
+#[derive(Clone, Copy)]
 pub struct State {
     pub phase: Phase,
     pub given: Given,
@@ -40,7 +40,7 @@ pub struct State {
 }
 
 // A line of the calls.
-#[derive(Drop)]
+#[derive(Clone, Copy)]
 pub enum Call {
     Turn {
         p: u8,
@@ -61,7 +61,7 @@ pub enum Call {
 }
 
 // What a line comes to.
-#[derive(Drop)]
+#[derive(Clone, Copy)]
 pub enum Verdict {
     Bad,
     Settings {
@@ -83,7 +83,7 @@ pub enum Verdict {
 
 // A drill between two bytes of its input: its state, the number of the line being read, whether that line has a byte, and the
 // line as far as it is read.
-#[derive(Drop)]
+#[derive(Clone, Copy)]
 pub struct Drill {
     pub state: State,
     pub number: u64,

@@ -9,21 +9,21 @@ pub use messages::{deliver_lie, deliver_message};
 pub use turns::{run, take_turn};
 
 // How many messages were sent, and how many of them an R has delivered.
-#[derive(Drop)]
+#[derive(Clone, Copy)]
 pub struct Counts {
     pub sent: u16,
     pub offered: u16,
 }
 
 // The concentrators 1 to n, and which of them are honest.
-#[derive(Drop)]
+#[derive(Clone, Copy)]
 pub struct Members {
     pub n: u8,
     pub honest: u64,
 }
 
 // A liar's one-value message.
-#[derive(Drop)]
+#[derive(Clone, Copy)]
 pub struct Lie {
     pub p: u8,
     pub kind: u8,
@@ -33,7 +33,7 @@ pub struct Lie {
 }
 
 // What a turn leaves, and whether turns go on after it.
-#[derive(Drop)]
+#[derive(Clone, Copy)]
 pub struct Turned {
     pub counts: Counts,
     pub again: bool,

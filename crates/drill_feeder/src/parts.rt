@@ -4,7 +4,7 @@ ghost use Rattle.drill_feeder.specs.laws.Parts.{PartOf};
 ghost use Rattle.drill_feeder.specs.Parts.{byte_at, state_at, place_at};
 
 // A part of a slice, from start to before end.
-#[derive(Drop)]
+#[derive(Clone, Copy)]
 pub struct Part {
     pub start: usize,
     pub end: usize,

@@ -8,7 +8,7 @@ pub use printing::{put_bad, put_result, put_sent};
 pub use reading::{feed, finish, start};
 
 // A line by its letter, with its fields under their names in PROTOCOL 15.3 to 15.9; Bad is one of the wrong form.
-#[derive(Drop)]
+#[derive(Clone, Copy)]
 pub enum Line {
     Bad,
     N {
@@ -44,7 +44,7 @@ pub enum Line {
 }
 
 // The last six numbers, the newest sixth.
-#[derive(Drop)]
+#[derive(Clone, Copy)]
 pub struct Numbers {
     pub first: u64,
     pub second: u64,
@@ -55,7 +55,7 @@ pub struct Numbers {
 }
 
 // A line of which some bytes are read.
-#[derive(Drop)]
+#[derive(Clone, Copy)]
 pub struct Reader {
     // The letter, and 0 before it.
     pub kind: u8,

@@ -12,7 +12,7 @@ use settings::refusal;
 use turn::Outcome;
 
 // The answer of an opening, a delivery or a recording: the number of the refusal, or the length of its line.
-#[derive(Drop)]
+#[derive(Clone, Copy)]
 pub enum Entry {
     Refused(u64),
     Line(u64),

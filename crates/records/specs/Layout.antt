@@ -48,8 +48,8 @@ ta_at = 1
 abbrev pub ts_at : ℕ
 ts_at = 2
 
-abbrev pub field_own : ℕ
-field_own = 3
+abbrev pub own_at : ℕ
+own_at = 3
 
 abbrev pub session_at : ℕ
 session_at = 4

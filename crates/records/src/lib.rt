@@ -1,4 +1,5 @@
 // The state: 2,048 lent words, the place of each record among them, and total readers and writers.
+#![tactic(auto)]
 pub mod layout;
 pub mod writing;
 
@@ -158,7 +159,7 @@ pub fn echo_held(s: &[u64], i: u8, p: u8) -> bool
 }
 
 // Whether the READY of sender p is held in instance i.
-pub fn ready_held_lem(s: &[u64], i: u8, p: u8) -> bool
+pub fn ready_held(s: &[u64], i: u8, p: u8) -> bool
     ensures { result ≡ ready_held s.now i p }
 {
     marked(s, layout::READY_MARKS + i as usize, p as u64)

@@ -17,7 +17,7 @@ use settings::{Settings, refusal};
 
 // What a report tells beside the sets, which stand at the front of the lent words: the exit, 0 for none, the number of
 // values named and in force, and the turns that were not idle.
-#[derive(Drop)]
+#[derive(Clone, Copy)]
 pub struct Figures {
     pub exit: u8,
     pub named: u8,
@@ -25,14 +25,14 @@ pub struct Figures {
     pub turns: u64,
 }
 
-#[derive(Drop)]
+#[derive(Clone, Copy)]
 pub enum Answer {
     Refused(u64),
     Given(Figures),
 }
 
 // Whether a report is given: the number of the refusal, or the settings of the session.
-#[derive(Drop)]
+#[derive(Clone, Copy)]
 pub enum Admitted {
     Refused(u64),
     Open(Settings),

@@ -11,7 +11,7 @@ use crate::reader::place_of;
 const TAB: u8 = 9;
 
 // A field that is read as a number.
-#[derive(Drop)]
+#[derive(Clone, Copy)]
 pub enum Number {
     Wrong,
     Is(u64),
@@ -80,7 +80,7 @@ pub fn read_number(f: &[u8], form: u8) -> Number
 }
 
 // A field that is read as bytes: how many.
-#[derive(Drop)]
+#[derive(Clone, Copy)]
 pub enum Hex {
     Wrong,
     Is(usize),

@@ -22,7 +22,7 @@ const PACK: u8 = 16;
 const LETTER_O: u8 = 79;
 
 // The fields of an opening line that were read: how many.
-#[derive(Drop)]
+#[derive(Clone, Copy)]
 pub enum Fields {
     Wrong,
     Count(usize),

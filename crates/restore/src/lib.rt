@@ -14,7 +14,7 @@ use records::layout;
 use settings::refusal;
 
 // The answer of a restore.
-#[derive(Drop)]
+#[derive(Clone, Copy)]
 pub enum Restored {
     // The state's words or the lent bytes are too few: the number of the refusal.
     Refused(u64),

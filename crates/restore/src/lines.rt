@@ -18,7 +18,7 @@ const LETTER_T: u8 = 84;
 const LETTER_K: u8 = 75;
 
 // What became of a line: it cannot be applied, or the length of its message, 0 for none.
-#[derive(Drop)]
+#[derive(Clone, Copy)]
 pub enum Applied {
     Wrong,
     Right(u64),

@@ -5,7 +5,7 @@ ghost use Rattle.restore.specs.laws.Places.{place_of, line_end};
 
 const LF: u8 = 10;
 
-#[derive(Drop)]
+#[derive(Clone, Copy)]
 pub struct Reader<'a> {
     pub src: &'a [u8],
     pub at: usize,

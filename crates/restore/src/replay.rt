@@ -10,7 +10,7 @@ use crate::lines::Applied;
 use crate::{Restored, first, lines, reader};
 
 // How far the lines but the last have been applied: the number of one that cannot be, or where the last one starts and ends, and its number.
-#[derive(Drop)]
+#[derive(Clone, Copy)]
 pub enum Place {
     Wrong(u64),
     Last(usize, usize, u64),

@@ -11,14 +11,14 @@ ghost use Rattle.quorum.specs.Every.{every};
 use records::layout;
 use settings::{Checked, Settings};
 
-#[derive(Drop)]
+#[derive(Clone, Copy)]
 pub struct Session {
     pub settings: Settings,
     pub own: u8,
     pub number: u32,
 }
 
-#[derive(Drop)]
+#[derive(Clone, Copy)]
 pub enum Stored {
     NoState,
     Held(Session),

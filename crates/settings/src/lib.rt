@@ -1,4 +1,5 @@
 // A session's settings, the thresholds worked out from them, and the numbers of the refusals.
+#![tactic(auto)]
 pub mod refusal;
 
 ghost use Rattle.std.specs.Prelude.{◌≡◌, ◌-◌};
@@ -8,7 +9,7 @@ ghost use Rattle.settings.specs.Settings.{quorum, repeat, vote_quorum, relay, ac
 ghost use Rattle.settings.specs.Versions.{version_known, finishing, turn_bound};
 
 // u8 fields: no threshold can wrap, so none has a `requires`. `whole` is the sum of the weights, which are one word.
-#[derive(Drop)]
+#[derive(Clone, Copy)]
 pub struct Settings {
     pub n: u8,
     pub ta: u8,
@@ -17,7 +18,7 @@ pub struct Settings {
     pub weights: u64,
 }
 
-#[derive(Drop)]
+#[derive(Clone, Copy)]
 pub enum Checked {
     Valid(Settings),
     Invalid,

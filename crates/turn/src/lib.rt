@@ -15,7 +15,7 @@ use settings::{Settings, refusal};
 use wire::Message;
 
 // The answer of a turn.
-#[derive(Drop)]
+#[derive(Clone, Copy)]
 pub enum Outcome {
     Refused(u64),
     Idle,
@@ -26,7 +26,7 @@ pub enum Outcome {
 }
 
 // Whether a turn is taken: the number of the refusal, or the session.
-#[derive(Drop)]
+#[derive(Clone, Copy)]
 pub enum Admitted {
     Refused(u64),
     Open(Session),

@@ -1,4 +1,5 @@
 // The message bytes, both ways: reading a message that came over a link, and writing one.
+#![tactic(auto)]
 mod bytes;
 mod layout;
 mod reading;
@@ -7,7 +8,7 @@ mod writing;
 pub use reading::{read_message, value_at};
 pub use writing::{message_length, write_message, write_plain};
 
-#[derive(Drop)]
+#[derive(Clone, Copy)]
 pub enum Message {
     Send { instance: u8, value: u64 },
     Echo { instance: u8, value: u64 },
@@ -21,7 +22,7 @@ pub enum Message {
 }
 
 // Bytes 0 to 11; reserved is bytes 6 and 7, high byte first.
-#[derive(Drop)]
+#[derive(Clone, Copy)]
 pub struct Header {
     pub version: u8,
     pub kind: u8,
@@ -34,7 +35,7 @@ pub struct Header {
 }
 
 // What reading a message answers: the number of a refusal, or the message.
-#[derive(Drop)]
+#[derive(Clone, Copy)]
 pub enum Parsed {
     Refused(u64),
     Taken(Message),

@@ -1,0 +1,6 @@
+-- The group of marks in the round's word.
+use Rattle.records.specs.laws.MarkWords.{groups}
+use Rattle.records.proofs.aux_weight.Goals as goal
+
+pub returns : goal.returns
+returns c = search groups

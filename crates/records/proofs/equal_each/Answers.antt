@@ -1,0 +1,18 @@
+use Rattle.quorum.specs.laws.Marking.{marking}
+use Rattle.records.specs.laws.Words.{equal_test}
+use Rattle.records.proofs.equal_each.Goals as goal
+
+pub loop-p-init : goal.loop-p-init
+loop-p-init c = search marking
+
+pub overflow_mul-m : goal.overflow_mul-m
+overflow_mul-m c = search marking
+
+pub overflow_add-m : goal.overflow_add-m
+overflow_add-m c = search marking
+
+pub loop-p-preserved : goal.loop-p-preserved
+loop-p-preserved c = search (marking, equal_test)
+
+pub returns : goal.returns
+returns c = search marking

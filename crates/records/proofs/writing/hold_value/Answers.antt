@@ -1,0 +1,5 @@
+-- A store, then a mark.
+use Rattle.records.proofs.writing.hold_value.Goals as goal
+
+pub returns : goal.returns
+returns c = cc
