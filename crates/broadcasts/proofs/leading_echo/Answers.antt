@@ -1,0 +1,13 @@
+-- The ECHOs of an instance stand at their own marks and values; where too few are held nobody leads.
+use Rattle.records.specs.Records.{echo_held, echo_value}
+use Rattle.broadcasts.specs.laws.Leading.{held_count}
+use Rattle.broadcasts.specs.laws.Cases.{leading_few, leading_counted}
+use Rattle.broadcasts.proofs.leading_echo.Goals as goal
+
+pub returns-then-held_count-q : goal.returns-then-held_count-q
+unfolding held_count echo_held echo_value
+returns-then-held_count-q c = search leading_few
+
+pub returns : goal.returns
+unfolding echo_held echo_value
+returns c = search leading_counted

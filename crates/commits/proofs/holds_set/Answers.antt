@@ -1,0 +1,9 @@
+-- A held set is compared.
+use Rattle.commits.specs.laws.Cases.{commit_cases}
+use Rattle.commits.proofs.holds_set.Goals as goal
+
+pub returns-then-commit_held : goal.returns-then-commit_held
+returns-then-commit_held c = search commit_cases
+
+pub returns-else-commit_held : goal.returns-else-commit_held
+returns-else-commit_held c = search commit_cases
