@@ -1,4 +1,5 @@
 // Opening: the verdict, then the words of a new state.
+#![tactic(auto)]
 pub mod coins;
 pub mod weights;
 
