@@ -1,4 +1,5 @@
 // A turn: what is due, then the message and the records of it.
+#![tactic(auto)]
 mod apply;
 mod due;
 

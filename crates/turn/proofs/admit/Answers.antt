@@ -1,0 +1,18 @@
+-- No state, closed, too short, or open.
+use Rattle.turn.specs.laws.Taking.{admit_cases}
+use Rattle.turn.proofs.admit.Goals as goal
+
+pub returns-then-s-ne-STATE_WORDS : goal.returns-then-s-ne-STATE_WORDS
+returns-then-s-ne-STATE_WORDS c = search admit_cases
+
+pub returns-then-closed : goal.returns-then-closed
+returns-then-closed c = search admit_cases
+
+pub returns-then-room-lt-MESSAGE_BYTES : goal.returns-then-room-lt-MESSAGE_BYTES
+returns-then-room-lt-MESSAGE_BYTES c = search admit_cases
+
+pub returns-in-NoState : goal.returns-in-NoState
+returns-in-NoState c = search admit_cases
+
+pub returns-else-room-lt-MESSAGE_BYTES : goal.returns-else-room-lt-MESSAGE_BYTES
+returns-else-room-lt-MESSAGE_BYTES c = search admit_cases
