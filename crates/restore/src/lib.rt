@@ -1,4 +1,5 @@
 // Restoring a state from the lines of its journal.
+#![tactic(auto)]
 mod fields;
 mod first;
 mod lines;

@@ -1,5 +1,4 @@
-// A journal and a place in it. The borrow checker covers no function over such a struct, so each is proved by hand, and all other code calls
-// `line_end`, which has plain parameters.
+// A journal and a place in it. All other code calls `line_end`, which has plain parameters.
 ghost use Rattle.std.specs.Prelude.{◌≡◌};
 ghost use Rattle.restore.specs.laws.Places.{place_of, line_end};
 

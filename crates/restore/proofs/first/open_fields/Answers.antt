@@ -1,0 +1,15 @@
+-- All fields are numbers of their forms, or the line cannot be applied.
+use Rattle.restore.specs.laws.First.{read_cases}
+use Rattle.restore.proofs.first.open_fields.Goals as goal
+
+pub returns-then-n-gt16 : goal.returns-then-n-gt16
+returns-then-n-gt16 c = search read_cases
+
+pub open_counted-requires : goal.open_counted-requires
+open_counted-requires c = search read_cases
+
+pub returns-in-Wrong : goal.returns-in-Wrong
+returns-in-Wrong c = search read_cases
+
+pub returns-in-Count : goal.returns-in-Count
+returns-in-Count c = search read_cases

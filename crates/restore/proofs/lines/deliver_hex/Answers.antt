@@ -1,0 +1,15 @@
+-- The field is wrong, or too long for a message, or its bytes are delivered.
+use Rattle.restore.specs.laws.Applying.{hex_cases}
+use Rattle.restore.proofs.lines.deliver_hex.Goals as goal
+
+pub slice_bounds-bytes-end : goal.slice_bounds-bytes-end
+slice_bounds-bytes-end c = search hex_cases
+
+pub slice_bounds-deliver-end : goal.slice_bounds-deliver-end
+slice_bounds-deliver-end c = search hex_cases
+
+pub returns-in-Wrong : goal.returns-in-Wrong
+returns-in-Wrong c = search hex_cases
+
+pub returns-in-Is : goal.returns-in-Is
+returns-in-Is c = search hex_cases
