@@ -1,0 +1,9 @@
+-- A minute of 32 bits fits above bit 31.
+use Rattle.cabi.specs.laws.Starts.{minutes}
+use Rattle.cabi.proofs.start_number.Goals as goal
+
+pub overflow_mul-result : goal.overflow_mul-result
+overflow_mul-result c = search minutes
+
+pub returns-in-Minute : goal.returns-in-Minute
+returns-in-Minute c = search minutes
