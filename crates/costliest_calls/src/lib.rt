@@ -1,4 +1,5 @@
 // The opening and the calls of the costliest session, one by one, for a program in C that makes them.
+#![tactic(auto)]
 mod sections;
 
 ghost use Rattle.std.specs.Prelude.{◌≡◌, ◌≤◌, length};

@@ -69,7 +69,7 @@ Past w us = (i r : ℕ) → 1 ≤ i → i ≤ 16 → 1 ≤ r → r ≤ 32 → To
 past_next : (w t : List ℕ) (us : List (List ℕ)) → Past w us → Onward w t → Past t (w ∷ us)
 unfolding sometime alone
 past_next w t us h x i r lo hi rl rh =
-    rw x.settings
+    subst (λ (g : Settings). Facts (accepted g t i r 0) (accepted g t i r 1) (one_first t i r) (sometime (alone g i r 0) (t ∷ w ∷ us)) (sometime (alone g i r 1) (t ∷ w ∷ us))) (sym x.settings)
     (facts_next _ _ _ _ _ _ (h i r lo hi rl rh) (accepted (settings_of w) t i r 0) (accepted (settings_of w) t i r 1) (x.changes i r lo hi rl rh))
 
 -- ---- an opening

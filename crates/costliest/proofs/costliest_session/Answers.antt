@@ -1,0 +1,6 @@
+-- `costliest_session` states the theorem of specs/laws/Costliest.antt.
+use Rattle.costliest.proofs.laws.Costliest.{costliest}
+use Rattle.costliest.proofs.costliest_session.Goals as goal
+
+pub returns : goal.returns
+returns c = costliest

@@ -1,0 +1,6 @@
+-- `turn_count` states the theorem of specs/laws/CallCount.antt.
+use Rattle.turn_bound.proofs.laws.CallCount.{turn_count_lem}
+use Rattle.turn_bound.proofs.turn_count.Goals as goal
+
+pub returns : goal.returns
+returns c = turn_count_lem

@@ -1,0 +1,6 @@
+-- `all_ones` states the theorem of specs/laws/Lists.antt.
+use Rattle.unweighted.proofs.laws.Lists.{all_ones}
+use Rattle.unweighted.proofs.all_ones.Goals as goal
+
+pub returns : goal.returns
+returns c = all_ones
