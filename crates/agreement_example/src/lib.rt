@@ -2,6 +2,7 @@
 // They differ in how the set comes about (each exit, weights, boxed coins, restores), in the liars (of up to ta, or of up to ts), and in what the
 // conditions leave open (calls before the own opening, honest ones that are never opened).
 // The functions do nothing: their contracts state what is proved in specs/.
+#![tactic(auto)]
 ghost use Rattle.agreement_example.specs.One.{OneMeets};
 ghost use Rattle.agreement_example.specs.Four.{FourMeet};
 ghost use Rattle.agreement_example.specs.Weighted.{WeightedMeet};

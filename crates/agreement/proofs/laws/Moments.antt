@@ -23,7 +23,7 @@ module _ {A : Type 0} where
   before_after c b = record { next = b.next; within = after c b.within }
 
   -- the newest moment, or an earlier one
-  pub within_cases : {ds : List A} (c : A) (cs : List A) → Within ds (c ∷ cs) → (ds ≡ c ∷ cs) ⊎ Within ds cs
+  pub within_cases : (c : A) (cs : List A) {ds : List A} → Within ds (c ∷ cs) → (ds ≡ c ∷ cs) ⊎ Within ds cs
   within_cases c cs now = inl refl
   within_cases c cs (after d w) = inr w
 

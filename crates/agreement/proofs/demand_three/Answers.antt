@@ -1,0 +1,6 @@
+-- `agreement::demand_three` states the theorem of specs/laws/EngineDemand.antt.
+use Rattle.agreement.proofs.laws.EngineDemand.{engine_agrees}
+use Rattle.agreement.proofs.demand_three.Goals as goal
+
+pub returns : goal.returns
+returns c = engine_agrees
