@@ -30,7 +30,7 @@ module _ (M : Machine) (start : ℕ → M.Words) where
   NoOpening (restore p v r) = Unit
   NoOpening (recording p y) = Unit
 
-  within_before : {c : Call M} {p : ℕ} {o : M.Opening} {ds cs : List (Call M)} → NoOpening c → Within (opening p o ∷ ds) (c ∷ cs) → Within (opening p o ∷ ds) cs
+  within_before : {p : ℕ} {o : M.Opening} {ds : List (Call M)} {c : Call M} {cs : List (Call M)} → NoOpening c → Within (opening p o ∷ ds) (c ∷ cs) → Within (opening p o ∷ ds) cs
   within_before n now = absurd n
   within_before n (after c w) = w
 
@@ -55,7 +55,7 @@ module _ (M : Machine) (start : ℕ → M.Words) where
   NoDelivery (restore p v r) = Unit
   NoDelivery (recording p y) = Unit
 
-  got_before : {c : Call M} {q m : ℕ} {b : M.Bytes} {ds cs : List (Call M)} → NoDelivery c → Within (delivery q m b ∷ ds) (c ∷ cs) → Within (delivery q m b ∷ ds) cs
+  got_before : {q m : ℕ} {b : M.Bytes} {ds : List (Call M)} {c : Call M} {cs : List (Call M)} → NoDelivery c → Within (delivery q m b ∷ ds) (c ∷ cs) → Within (delivery q m b ∷ ds) cs
   got_before n now = absurd n
   got_before n (after c w) = w
 
