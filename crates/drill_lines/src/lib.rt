@@ -1,4 +1,5 @@
 // The lines of the drill program: what a line of its input is taken as, and the bytes that it prints.
+#![tactic(auto)]
 mod printing;
 mod reading;
 

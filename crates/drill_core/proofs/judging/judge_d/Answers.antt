@@ -1,0 +1,28 @@
+-- One test after the other.
+use Rattle.drill_core.specs.laws.Tests.{tests}
+use Rattle.drill_core.specs.laws.JudgingCases.{sent_fits, honest_fits}
+use Rattle.drill_core.specs.Judging.{judged_d}
+use Rattle.std.proofs.Common.{rules}
+use Rattle.drill_core.proofs.judging.judge_d.Goals as goal
+
+pub returns-then-not-after_settings : goal.returns-then-not-after_settings
+unfolding judged_d
+returns-then-not-after_settings c = search tests
+
+pub returns-then-not-numbered : goal.returns-then-not-numbered
+unfolding judged_d
+returns-then-not-numbered c = search tests
+
+pub overflow_cast-message : goal.overflow_cast-message
+overflow_cast-message c = sent_fits _ _ _ c.before.numbered.ensures c.if2.false (search rules)
+
+pub returns-then-not-is_honest : goal.returns-then-not-is_honest
+unfolding judged_d
+returns-then-not-is_honest c = search tests
+
+pub overflow_cast-result : goal.overflow_cast-result
+overflow_cast-result c = honest_fits _ _ _ c.before.is-honest.ensures c.if3.false (search rules)
+
+pub returns : goal.returns
+unfolding judged_d
+returns c = search tests

@@ -1,0 +1,7 @@
+-- With enough bytes for its line it is the delivery without.
+use Rattle.drill_feeder.specs.laws.Lined.{lined_cases}
+use borrow.Author.Rules.{rules}
+use Rattle.drill_feeder.proofs.calls.deliver.Goals as goal
+
+pub returns : goal.returns
+returns c = search (lined_cases, rules)
