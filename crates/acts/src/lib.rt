@@ -1,5 +1,6 @@
 // What a turn can do, as a reader of the state answers it and a writer carries it out.
 #![tactic(auto)]
+
 ghost use Rattle.std.specs.Prelude.{◌≡◌};
 ghost use Rattle.acts.specs.Acts.{is_due};
 

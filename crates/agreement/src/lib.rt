@@ -1,5 +1,6 @@
 // Agreement (PROTOCOL 16.3 to 16.10), and what sets hold (16.18, 16.19). The functions do nothing: their contracts state what is proved in specs/.
 #![tactic(auto)]
+
 ghost use Rattle.agreement.specs.Agreement.{Agree, Named, Valid};
 ghost use Rattle.agreement.specs.DemandThree.{EngineAgrees};
 ghost use Rattle.agreement.specs.HonestPack.{EngineHonestPack, EngineOutputFirst};

@@ -3,6 +3,7 @@
 // conditions leave open (calls before the own opening, honest ones that are never opened).
 // The functions do nothing: their contracts state what is proved in specs/.
 #![tactic(auto)]
+
 ghost use Rattle.agreement_example.specs.One.{OneMeets};
 ghost use Rattle.agreement_example.specs.Four.{FourMeet};
 ghost use Rattle.agreement_example.specs.Weighted.{WeightedMeet};

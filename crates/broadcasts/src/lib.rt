@@ -1,5 +1,6 @@
 // Broadcasts: the ECHO and the READY that are due, and the output.
 #![tactic(auto)]
+
 ghost use Rattle.std.specs.Prelude.{◌≡◌, ◌+◌, ◌≤◌, leb};
 ghost use Rattle.settings.specs.laws.Counting.{counting};
 ghost use Rattle.acts.specs.Acts.{first_act};

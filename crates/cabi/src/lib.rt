@@ -2,6 +2,7 @@
 // convert delivery lists. Each answers one number: specs/Answers.antt, Restored.antt, Replies.antt, Starts.antt and Conversions.antt have
 // its bits.
 #![tactic(auto)]
+
 ghost use Rattle.std.specs.Prelude.{◌≡◌, ◌<◌, ◌≤◌, length, ltb, cond};
 ghost use Rattle.journal.specs.Journal.{open_entry, opened_words, opened_bytes, deliver_entry, delivered_words, delivered_bytes, record_entry, record_words, record_bytes, turn_room, turned_message, turned_line};
 ghost use Rattle.opening.specs.Given.{weights_word};

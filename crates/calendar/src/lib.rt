@@ -1,5 +1,6 @@
 // The calendar: from which minute a set is in force.
 #![tactic(auto)]
+
 ghost use Rattle.std.specs.Prelude.{◌≡◌, ◌<◌, min, length};
 ghost use Rattle.calendar.specs.Calendar.{window_right, start_of};
 ghost use Rattle.calendar.specs.First.{FirstInWindow};

@@ -1,5 +1,6 @@
 // Laws that hold the definitions of the calls from another side. The functions do nothing: their contracts state what is proved in specs/.
 #![tactic(auto)]
+
 ghost use Rattle.call_laws.specs.FirstVersion.{FirstVersion};
 ghost use Rattle.call_laws.specs.Keeping.{RefusalsKeep};
 ghost use Rattle.call_laws.specs.Places.{HeldAgain, HeldOnce};

@@ -1,5 +1,6 @@
 // The coin box: 552 lent words that tell a coin's bit once more than ta weight has requested it.
 #![tactic(auto)]
+
 ghost use Rattle.std.specs.Prelude.{◌≡◌, min, length};
 ghost use Rattle.records.specs.Layout.{n_at};
 ghost use Rattle.records.specs.Words.{word, set_mark};

@@ -1,5 +1,6 @@
 // COMMITs: the sets that senders hold, and the lowest sender whose set enough of them hold.
 #![tactic(auto)]
+
 ghost use Rattle.std.specs.Prelude.{◌≡◌, ◌&&◌, eqb};
 ghost use Rattle.settings.specs.laws.Counting.{counting};
 ghost use Rattle.records.specs.Records.{commit_value};

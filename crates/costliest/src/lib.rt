@@ -1,5 +1,6 @@
 // The costliest session. The functions do nothing: their contracts state what is proved in specs/.
 #![tactic(auto)]
+
 ghost use Rattle.costliest.specs.Statement.{Costliest, FiveTurns, AtMostFive, AtMostSent};
 
 // In version 1, for n from 2 to 16, the calls of the session bring exactly 99·n+3 turns; no calls bring more, by `turn_bound::turn_count`.

@@ -1,5 +1,6 @@
 // The opening and the calls of the costliest session, one by one, for a program in C that makes them.
 #![tactic(auto)]
+
 mod sections;
 
 ghost use Rattle.std.specs.Prelude.{◌≡◌, ◌≤◌, length};

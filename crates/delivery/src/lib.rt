@@ -1,5 +1,6 @@
 // Delivery: the verdict on a message, then its record.
 #![tactic(auto)]
+
 ghost use Rattle.std.specs.Prelude.{◌≡◌, true};
 ghost use Rattle.records.specs.Writing.{with_est, with_finish, with_commit_values, with_commit};
 ghost use Rattle.wire.specs.Bytes.{value_at};

@@ -1,5 +1,6 @@
 // Delivery lists: RFC 4180 records as drill lines, field by field, and back.
 #![tactic(auto)]
+
 mod lines;
 mod parts;
 mod records;

@@ -1,5 +1,6 @@
 // The drill: lines are judged, then acted on, from the bytes of the input to those of the output.
 #![tactic(auto)]
+
 mod acting;
 mod feeding;
 mod judging;

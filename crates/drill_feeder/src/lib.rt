@@ -1,5 +1,6 @@
 // What the lines of a drill do: openings, turns, deliveries, a liar's messages and R, on memory that the caller lends.
 #![tactic(auto)]
+
 mod calls;
 mod messages;
 mod parts;

@@ -1,5 +1,6 @@
 // Laws of the drill. The functions do nothing: their contracts state what is proved in specs/.
 #![tactic(auto)]
+
 ghost use Rattle.drill_core.specs.Parts.{PartsJoined};
 ghost use Rattle.drill_laws.specs.ByLines.{ByLines};
 ghost use Rattle.drill_laws.specs.Demands.{OpeningsAccepted, MessagesKept, RoundsEnd};

@@ -1,5 +1,6 @@
 // The lines of the drill program: what a line of its input is taken as, and the bytes that it prints.
 #![tactic(auto)]
+
 mod printing;
 mod reading;
 

@@ -1,6 +1,7 @@
 // The six calls of the code are those of the machine `engine`, of which agreement is proved. Each function only makes one of them; its contract
 // says what came of it by the machine, and, where the machine bounds what it takes, that every call of the code is within that.
 #![tactic(auto)]
+
 ghost use Rattle.std.specs.Prelude.{◌≡◌, ℕ, length, take};
 ghost use Rattle.opening.specs.Arguments.{arguments};
 ghost use Rattle.calls.specs.Engine.{OpeningGiven, Bytes, TurnLent, BitGiven, RestoreLent};

@@ -1,5 +1,6 @@
 // Opening, delivery, recording and turn, each with its line of the journal. The line's bytes are asked for last.
 #![tactic(auto)]
+
 mod lines;
 
 ghost use Rattle.std.specs.Prelude.{◌≡◌, length};

@@ -1,5 +1,6 @@
 // Opening: the verdict, then the words of a new state.
 #![tactic(auto)]
+
 pub mod coins;
 pub mod weights;
 

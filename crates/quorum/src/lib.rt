@@ -1,5 +1,6 @@
 // Marks of concentrators in a word, weights in a word, and what the senders 1 to n that have their mark weigh.
 #![tactic(auto)]
+
 ghost use Rattle.std.specs.Prelude.{◌≡◌, ◌+◌, ◌/◌, ◌%◌, ◌^◌, min};
 ghost use Rattle.quorum.specs.Marks.{mark, with_mark};
 ghost use Rattle.quorum.specs.Total.{share};

@@ -1,5 +1,6 @@
 // Recording a bit of the coin box in the state of a boxed session.
 #![tactic(auto)]
+
 ghost use Rattle.std.specs.Prelude.{◌≡◌};
 ghost use Rattle.recording.specs.Recording.{bit_mark, other_mark, in_layout, unopposed, recordable, record_answer, with_bit, recorded_words};
 ghost use Rattle.recording.specs.laws.Cases.{running_answer};

@@ -1,5 +1,6 @@
 // The state: 2,048 lent words, the place of each record among them, and total readers and writers.
 #![tactic(auto)]
+
 pub mod layout;
 pub mod writing;
 

@@ -1,5 +1,6 @@
 // The report: whether it is given, then the exit, its set, the turn count and the set in force.
 #![tactic(auto)]
+
 ghost use Rattle.std.specs.Prelude.{◌≡◌, ◌≤◌, length};
 ghost use Rattle.settings.specs.Rules.{Ruled};
 ghost use Rattle.records.specs.Words.{copied};

@@ -1,5 +1,6 @@
 // Restoring a state from the lines of its journal.
 #![tactic(auto)]
+
 mod fields;
 mod first;
 mod lines;

@@ -1,5 +1,6 @@
 // Whether a lent buffer holds a state, and what is read of it once.
 #![tactic(auto)]
+
 ghost use Rattle.std.specs.Prelude.{◌≡◌, ◌+◌, ◌<◌, true, ◌&&◌, leb, length};
 ghost use Rattle.session.specs.Session.{numbered, numbers_right, settings_of, is_state, session_with, stored};
 ghost use Rattle.session.specs.laws.Session.{place_right, stored_with};

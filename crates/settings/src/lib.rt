@@ -1,5 +1,6 @@
 // A session's settings, the thresholds worked out from them, and the numbers of the refusals.
 #![tactic(auto)]
+
 pub mod refusal;
 
 ghost use Rattle.std.specs.Prelude.{◌≡◌, ◌-◌};

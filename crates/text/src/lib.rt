@@ -1,5 +1,6 @@
 // Fields and numbers as text, for the lines of the journal and of the drill.
 #![tactic(auto)]
+
 mod digits;
 mod writing;
 

@@ -1,5 +1,6 @@
 // A turn: what is due, then the message and the records of it.
 #![tactic(auto)]
+
 mod apply;
 mod due;
 

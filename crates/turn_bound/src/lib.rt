@@ -1,5 +1,6 @@
 // The count of turns and its bound. The function does nothing: its contract states what is proved in specs/.
 #![tactic(auto)]
+
 ghost use Rattle.turn_bound.specs.TurnBound.{TurnCount};
 
 // Once a session was opened or restored, its coins printed or boxed, the stored and the reported count are the number of turns that acted since, of

@@ -1,5 +1,6 @@
 // Votes, rule 6 of the turn order: the start, relay, AUX or move that is due, and in version 2 the FINISH before them.
 #![tactic(auto)]
+
 mod finish;
 
 ghost use Rattle.std.specs.Prelude.{◌≡◌, min};

@@ -1,5 +1,6 @@
 // The message bytes, both ways: reading a message that came over a link, and writing one.
 #![tactic(auto)]
+
 mod bytes;
 mod layout;
 mod reading;

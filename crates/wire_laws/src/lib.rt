@@ -1,5 +1,6 @@
 // The theorems of the message bytes; their statements are in specs/.
 #![tactic(auto)]
+
 ghost use Rattle.wire_laws.specs.RoundTrip.{RoundTrip, OnlyEncodings};
 
 // What is written is read back, message and values.

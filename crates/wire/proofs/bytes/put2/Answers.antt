@@ -11,6 +11,5 @@ stored : (l : List ℕ) (x a b : ℕ) → 2 ≤ length l → a ≡ x / 256 % 256
 unfolding bytes2
 stored l x a b h p q = rw (← p, ← q) (sets-eq (a ∷ b ∷ []) l 0 h)
 
-
 pub returns : goal.returns
 returns c = search stored

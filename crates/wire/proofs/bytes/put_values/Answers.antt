@@ -37,7 +37,6 @@ start : (o : List ℕ) → o ≡ value_bytes [] ++ o
 unfolding value_bytes
 start o = refl
 
-
 pub loop-k-init : goal.loop-k-init
 loop-k-init c = (search rules, refl, start _)
 

@@ -10,6 +10,5 @@ use Rattle.wire.proofs.reading.kind_known.Goals as goal
 known : (own version kind last : ℕ) → last ≡ last_kind own → (eqb version own && (leb 1 kind && leb kind last)) ≡ kind_known own version kind
 known own version kind last e = rw e
 
-
 pub returns : goal.returns
 returns c = search known

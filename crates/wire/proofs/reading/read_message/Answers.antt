@@ -19,7 +19,6 @@ use Rattle.wire.proofs.reading.read_message.Goals as goal
 part : (b : List ℕ) → take (length b - 12) (drop 12 b) ≡ drop 12 b
 part b = take_all (length b - 12) (drop 12 b) (omega (arith, length-drop 12 b))
 
-
 module _ (b : List ℕ) (t : Bool) (q : t ≡ length_right b) where
   length-wrong : (v n session link : ℕ) → not t ≡ true → Refused LENGTH ≡ read_message v n session link b
   unfolding read_message

@@ -17,7 +17,6 @@ unfolding front_bytes bytes2
 stored l h a b k p q =
     rw (← p, ← q) (sets-eq (h.version ∷ h.kind ∷ h.sender ∷ h.instance ∷ h.round ∷ h.count ∷ a ∷ b ∷ []) l 0 k)
 
-
 pub bounds-out-1 : goal.bounds-out-1
 bounds-out-1 c = simp length-set (omega arith)
 
