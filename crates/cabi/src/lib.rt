@@ -66,8 +66,7 @@ fn entry_number(e: Entry) -> u64
 }
 
 // Opens a session in the lent words; its line of the journal stands at the front of the last lent bytes.
-#[unsafe(no_mangle)]
-pub extern "C" fn pack_open(
+pub fn pack_open(
     state: &mut [u64],
     version: u64,
     n: u64,
@@ -91,8 +90,7 @@ pub extern "C" fn pack_open(
 }
 
 // Delivers a message that came over the link of a concentrator; its line stands at the front of the last lent bytes.
-#[unsafe(no_mangle)]
-pub extern "C" fn pack_deliver(state: &mut [u64], link: u64, message: &[u8], line: &mut [u8]) -> u64
+pub fn pack_deliver(state: &mut [u64], link: u64, message: &[u8], line: &mut [u8]) -> u64
     ensures answer { result ≡ entry_number (deliver_entry state.old link message.now (length line.old)) }
     ensures words { state.new ≡ delivered_words state.old link message.now (length line.old) }
     ensures bytes { line.new ≡ delivered_bytes state.old link message.now line.old }
@@ -101,14 +99,7 @@ pub extern "C" fn pack_deliver(state: &mut [u64], link: u64, message: &[u8], lin
 }
 
 // Records a bit of the coin box; its line stands at the front of the last lent bytes.
-#[unsafe(no_mangle)]
-pub extern "C" fn pack_record(
-    state: &mut [u64],
-    vote: u64,
-    round: u64,
-    bit: u64,
-    line: &mut [u8],
-) -> u64
+pub fn pack_record(state: &mut [u64], vote: u64, round: u64, bit: u64, line: &mut [u8]) -> u64
     ensures answer { result ≡ entry_number (record_entry state.old vote round bit (length line.old)) }
     ensures words { state.new ≡ record_words state.old vote round bit (length line.old) }
     ensures bytes { line.new ≡ record_bytes state.old vote round bit line.old }
@@ -130,8 +121,7 @@ fn outcome_number(o: Outcome) -> u64
 }
 
 // Takes a turn: a message that is sent stands at the front of the lent bytes, its line at the front of the last ones.
-#[unsafe(no_mangle)]
-pub extern "C" fn pack_turn(state: &mut [u64], message: &mut [u8], line: &mut [u8]) -> u64
+pub fn pack_turn(state: &mut [u64], message: &mut [u8], line: &mut [u8]) -> u64
     ensures answer { result ≡ outcome_number (turn_outcome state.old (turn_room (length message.old) (length line.old))) }
     ensures words { state.new ≡ turn_words state.old (turn_room (length message.old) (length line.old)) }
     ensures bytes { message.new ≡ turned_message state.old message.old (length line.old) }
@@ -148,8 +138,7 @@ fn figures_number(f: Figures) -> u64
 }
 
 // Reports on a state: the sets stand at the front of the lent words.
-#[unsafe(no_mangle)]
-pub extern "C" fn pack_report(state: &[u64], named: &mut [u64], in_force: &mut [u64]) -> u64
+pub fn pack_report(state: &[u64], named: &mut [u64], in_force: &mut [u64]) -> u64
     ensures answer { result ≡ report_number (report_answer state.now (length named.old) (length in_force.old)) }
     ensures named_words { named.new ≡ report_named state.now named.old (length in_force.old) }
     ensures in_force_words { in_force.new ≡ report_in_force state.now (length named.old) in_force.old }
@@ -182,8 +171,7 @@ fn restored_number(a: Restored) -> u64
 }
 
 // Restores a state from its journal; the message of the last line, if it sent one, stands at the front of the lent bytes.
-#[unsafe(no_mangle)]
-pub extern "C" fn pack_restore(state: &mut [u64], journal: &[u8], message: &mut [u8]) -> u64
+pub fn pack_restore(state: &mut [u64], journal: &[u8], message: &mut [u8]) -> u64
     ensures answer { result ≡ restored_number (restore_answer state.old journal.now (length message.old)) }
     ensures words { state.new ≡ restored_words state.old journal.now (length message.old) }
     ensures bytes { message.new ≡ restored_bytes (length state.old) journal.now message.old }
@@ -192,8 +180,7 @@ pub extern "C" fn pack_restore(state: &mut [u64], journal: &[u8], message: &mut 
 }
 
 // Opens a coin box in the lent words.
-#[unsafe(no_mangle)]
-pub extern "C" fn pack_box_open(
+pub fn pack_box_open(
     words: &mut [u64],
     n: u64,
     ta: u64,
@@ -224,8 +211,7 @@ fn reply_number(x: Reply) -> u64
 }
 
 // Asks the coin box for the coin of a vote in a round.
-#[unsafe(no_mangle)]
-pub extern "C" fn pack_box_request(words: &mut [u64], requester: u64, vote: u64, round: u64) -> u64
+pub fn pack_box_request(words: &mut [u64], requester: u64, vote: u64, round: u64) -> u64
     ensures answer { result ≡ reply_number (request_reply words.old requester vote round) }
     ensures words { words.new ≡ request_words words.old requester vote round }
 {
@@ -243,8 +229,7 @@ fn start_number(x: Start) -> u64
 }
 
 // Names the minute from which a set is in force: the first in a window, not before the closing minute and the lead together.
-#[unsafe(no_mangle)]
-pub extern "C" fn pack_start_minute(windows: &[u32], closing: u64, lead: u64) -> u64
+pub fn pack_start_minute(windows: &[u32], closing: u64, lead: u64) -> u64
     ensures { result ≡ start_number (start_of windows.now closing lead) }
 {
     start_number(calendar::start_minute(windows, closing, lead))
@@ -261,8 +246,7 @@ fn conversion_number(x: Conversion) -> u64
 }
 
 // Turns RFC 4180 records into drill lines.
-#[unsafe(no_mangle)]
-pub extern "C" fn pack_csv_to_drill(records: &[u8], lines: &mut [u8]) -> u64
+pub fn pack_csv_to_drill(records: &[u8], lines: &mut [u8]) -> u64
     ensures answer { result ≡ conversion_number (conversion (drill_of_csv records.now) (length lines.old)) }
     ensures bytes { lines.new ≡ bytes_after (drill_of_csv records.now) lines.old }
 {
@@ -270,8 +254,7 @@ pub extern "C" fn pack_csv_to_drill(records: &[u8], lines: &mut [u8]) -> u64
 }
 
 // Turns drill lines into RFC 4180 records.
-#[unsafe(no_mangle)]
-pub extern "C" fn pack_drill_to_csv(lines: &[u8], records: &mut [u8]) -> u64
+pub fn pack_drill_to_csv(lines: &[u8], records: &mut [u8]) -> u64
     ensures answer { result ≡ conversion_number (conversion (csv_of_drill lines.now) (length records.old)) }
     ensures bytes { records.new ≡ bytes_after (csv_of_drill lines.now) records.old }
 {
