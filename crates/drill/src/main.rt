@@ -1,6 +1,8 @@
 // The drill program: its input is standard input, its output goes to standard output.
+#![tactic(auto)]
+
 use drill_core::Drill;
-use libc::{STDIN_FILENO, STDOUT_FILENO};
+use std::io::{Read, Result, Write};
 
 // A drill after a read, and whether there may be more input.
 #[derive(Clone, Copy)]
@@ -10,28 +12,25 @@ pub struct Fed {
 }
 
 // Reads once, and feeds what came; a read that fails ends the input.
-fn feed_some(d: Drill, words: &mut [u64], store: &mut [u8]) -> Fed {
-    let mut buf = io::buffer();
-    let got = libc::read(STDIN_FILENO, &mut buf);
-    if got <= 0 {
+fn feed_some<R: Read>(input: &mut R, d: Drill, words: &mut [u64], store: &mut [u8]) -> Fed {
+    let mut buf = [0u8; 4096];
+    let n = input.read(&mut buf).unwrap_or(0);
+    if n == 0 {
         return Fed {
             drill: d,
             more: false,
         };
     }
-    let n = io::count(got, &buf);
     let drill = drill_core::feed_all(d, &buf[..n], words, store);
     Fed { drill, more: true }
 }
 
-// A proved loop has to end, and nothing says that an input does. So the loop counts its turns down, from a number that no run
-// uses up.
-fn feed_input(d: Drill, words: &mut [u64], store: &mut [u8]) -> Drill {
+// A proved loop has to end, and nothing says that an input does. So the loop counts its turns, up to a number that no run uses
+// up.
+fn feed_input<R: Read>(input: &mut R, d: Drill, words: &mut [u64], store: &mut [u8]) -> Drill {
     let mut drill = d;
-    let mut left = u64::MAX;
-    while left > 0 {
-        left -= 1;
-        let f = feed_some(drill, words, store);
+    for _ in 0..u64::MAX {
+        let f = feed_some(input, drill, words, store);
         drill = f.drill;
         if !f.more {
             return drill;
@@ -41,15 +40,17 @@ fn feed_input(d: Drill, words: &mut [u64], store: &mut [u8]) -> Drill {
 }
 
 // Writes the output of a drill whose input is over: the lent bytes hold all of it (drill_laws::output_whole).
-fn print(d: Drill, words: &mut [u64], store: &mut [u8]) {
+fn print<W: Write>(to: &mut W, d: Drill, words: &mut [u64], store: &mut [u8]) -> Result<()> {
     let mut out = [0u8; 2048];
     let n = drill_core::finish(d, words, store, &mut out);
-    io::write_all(STDOUT_FILENO, &out[..n]);
+    to.write_all(&out[..n])
 }
 
-fn main() {
+fn main(rt: HostRuntime) -> Result<()> {
     let mut words = [0u64; 8192];
     let mut store = [0u8; 70496];
-    let d = feed_input(drill_core::start(), &mut words, &mut store);
-    print(d, &mut words, &mut store);
+    let mut input = rt.reader();
+    let d = feed_input(&mut input, drill_core::start(), &mut words, &mut store);
+    let mut output = std::io::writer(&rt);
+    print(&mut output, d, &mut words, &mut store)
 }

@@ -1,16 +1,17 @@
 // Openings with settings on the edge of the rules: for each a line `n ta ts open`, or `n ta ts 1`. Where weights are named,
 // or the kind of coins and the coin words, the line has them too (PROTOCOL 1.13).
+#![tactic(auto)]
+
 ghost use Rattle.std.specs.Prelude.{◌≤◌};
 
-use libc::STDOUT_FILENO;
+use std::io::Result;
 
 const LARGEST: u64 = 18446744073709551615;
 // Twice this is 2^64, which wraps to 0.
 const HALF: u64 = 9223372036854775808;
 
-fn number(x: u64) {
-    io::print_decimal(STDOUT_FILENO, x);
-    io::write_all(STDOUT_FILENO, b" ");
+fn number(rt: &impl Print, x: u64) -> Result<()> {
+    print!(rt; "{x} ")
 }
 
 // How many of 17 coin words or weights are lent. Above 16 an opening is refused for n.
@@ -40,46 +41,37 @@ fn answer(n: u64, ta: u64, ts: u64, weights: &[u8]) -> u64 {
     )
 }
 
-fn print_answer(answer: u64) {
+fn print_answer(rt: &impl Print, answer: u64) -> Result<()> {
     if answer == 0 {
-        io::write_all(STDOUT_FILENO, b"open");
-    } else {
-        io::print_decimal(STDOUT_FILENO, answer);
+        return println!(rt; "open");
     }
-    io::write_all(STDOUT_FILENO, b"\n");
+    println!(rt; "{answer}")
 }
 
 // With weights of 1.
-fn edge(n: u64, ta: u64, ts: u64) {
+fn edge(rt: &impl Print, n: u64, ta: u64, ts: u64) -> Result<()> {
     let ones = [1u8; 17];
     let count = lent(n);
-    number(n);
-    number(ta);
-    number(ts);
-    print_answer(answer(n, ta, ts, &ones[..count]));
+    number(rt, n)?;
+    number(rt, ta)?;
+    number(rt, ts)?;
+    print_answer(rt, answer(n, ta, ts, &ones[..count]))
 }
 
-fn wide(x: u8) -> u64 {
-    x as u64
-}
-
-fn print_weights(weights: &[u8]) {
-    io::write_all(STDOUT_FILENO, b"weights");
-    let mut k: usize = 0;
-    while k < weights.len() {
-        io::write_all(STDOUT_FILENO, b" ");
-        io::print_decimal(STDOUT_FILENO, wide(weights[k]));
-        k += 1;
+fn print_weights(rt: &impl Print, weights: &[u8]) -> Result<()> {
+    print!(rt; "weights")?;
+    for x in weights {
+        print!(rt; " {x}")?;
     }
-    io::write_all(STDOUT_FILENO, b": ");
+    print!(rt; ": ")
 }
 
-fn weighted(n: u64, ta: u64, ts: u64, weights: &[u8]) {
-    number(n);
-    number(ta);
-    number(ts);
-    print_weights(weights);
-    print_answer(answer(n, ta, ts, weights));
+fn weighted(rt: &impl Print, n: u64, ta: u64, ts: u64, weights: &[u8]) -> Result<()> {
+    number(rt, n)?;
+    number(rt, ta)?;
+    number(rt, ts)?;
+    print_weights(rt, weights)?;
+    print_answer(rt, answer(n, ta, ts, weights))
 }
 
 // What an opening by concentrator 1 with n 4, ta 1, ts 1 and weights of 1 answers.
@@ -89,124 +81,117 @@ fn kind_answer(kind: u64, coins: &[u32]) -> u64 {
     opening::open(&mut state, 1, 4, 1, 1, 1, 7, 5, coins, &ones, kind)
 }
 
-fn wide_coin(x: u32) -> u64 {
-    x as u64
-}
-
-fn print_coins(coins: &[u32]) {
-    io::write_all(STDOUT_FILENO, b"coins");
-    let mut k: usize = 0;
-    while k < coins.len() {
-        io::write_all(STDOUT_FILENO, b" ");
-        io::print_decimal(STDOUT_FILENO, wide_coin(coins[k]));
-        k += 1;
+fn print_coins(rt: &impl Print, coins: &[u32]) -> Result<()> {
+    print!(rt; "coins")?;
+    for x in coins {
+        print!(rt; " {x}")?;
     }
-    io::write_all(STDOUT_FILENO, b": ");
+    print!(rt; ": ")
 }
 
-fn kind(kind: u64, coins: &[u32]) {
-    number(4);
-    number(1);
-    number(1);
-    io::write_all(STDOUT_FILENO, b"boxed ");
-    number(kind);
-    print_coins(coins);
-    print_answer(kind_answer(kind, coins));
+fn kind(rt: &impl Print, kind: u64, coins: &[u32]) -> Result<()> {
+    number(rt, 4)?;
+    number(rt, 1)?;
+    number(rt, 1)?;
+    print!(rt; "boxed ")?;
+    number(rt, kind)?;
+    print_coins(rt, coins)?;
+    print_answer(rt, kind_answer(kind, coins))
 }
 
-fn main() {
-    edge(4, 1, 1);
-    edge(7, 0, 3);
-    edge(1, 0, 0);
-    edge(3, 1, 1);
-    edge(4, 1, 0);
-    edge(0, 0, 0);
-    edge(17, 0, 0);
-    unnamed();
-    unnamed_weighted();
-    huge();
-    heavy();
-    all_four();
-    wrong_weights();
-    boxed();
-    wrong_boxed();
+fn main(rt: HostRuntime) -> Result<()> {
+    edge(&rt, 4, 1, 1)?;
+    edge(&rt, 7, 0, 3)?;
+    edge(&rt, 1, 0, 0)?;
+    edge(&rt, 3, 1, 1)?;
+    edge(&rt, 4, 1, 0)?;
+    edge(&rt, 0, 0, 0)?;
+    edge(&rt, 17, 0, 0)?;
+    unnamed(&rt)?;
+    unnamed_weighted(&rt)?;
+    huge(&rt)?;
+    heavy(&rt)?;
+    all_four(&rt)?;
+    wrong_weights(&rt)?;
+    boxed(&rt)?;
+    wrong_boxed(&rt)
 }
 
 // A ta of 255 is the largest that is left, and refused where 2·ts is n.
-fn unnamed() {
-    edge(4, 255, 1);
-    edge(4, 255, 2);
-    edge(2, 255, 1);
-    edge(16, 255, 7);
-    edge(16, 255, 8);
-    edge(17, 255, 0);
-    edge(4, 255, HALF);
-    edge(4, 255, LARGEST);
-    edge(4, 256, 1);
+fn unnamed(rt: &impl Print) -> Result<()> {
+    edge(rt, 4, 255, 1)?;
+    edge(rt, 4, 255, 2)?;
+    edge(rt, 2, 255, 1)?;
+    edge(rt, 16, 255, 7)?;
+    edge(rt, 16, 255, 8)?;
+    edge(rt, 17, 255, 0)?;
+    edge(rt, 4, 255, HALF)?;
+    edge(rt, 4, 255, LARGEST)?;
+    edge(rt, 4, 256, 1)
 }
 
-fn unnamed_weighted() {
-    weighted(2, 255, 2, &[4, 1]);
-    weighted(2, 255, 3, &[4, 1]);
-    weighted(2, 255, 0, &[0, 1]);
+fn unnamed_weighted(rt: &impl Print) -> Result<()> {
+    weighted(rt, 2, 255, 2, &[4, 1])?;
+    weighted(rt, 2, 255, 3, &[4, 1])?;
+    weighted(rt, 2, 255, 0, &[0, 1])
 }
 
 // Numbers that a sum or a narrower type would wrap.
-fn huge() {
-    edge(LARGEST, 0, 0);
-    edge(4, LARGEST, 1);
-    edge(4, 0, LARGEST);
-    edge(LARGEST, LARGEST, LARGEST);
-    edge(4, 0, HALF);
-    edge(260, 1, 1);
-    edge(4, 257, 257);
+fn huge(rt: &impl Print) -> Result<()> {
+    edge(rt, LARGEST, 0, 0)?;
+    edge(rt, 4, LARGEST, 1)?;
+    edge(rt, 4, 0, LARGEST)?;
+    edge(rt, LARGEST, LARGEST, LARGEST)?;
+    edge(rt, 4, 0, HALF)?;
+    edge(rt, 260, 1, 1)?;
+    edge(rt, 4, 257, 257)
 }
 
 // The sum of the weights stands in the place of n.
-fn heavy() {
-    weighted(1, 1, 1, &[4]);
-    weighted(2, 1, 1, &[4, 1]);
-    weighted(2, 1, 2, &[4, 1]);
-    weighted(2, 1, 1, &[1, 1]);
-    weighted(3, 3, 4, &[4, 4, 4]);
-    weighted(3, 4, 4, &[4, 4, 4]);
+fn heavy(rt: &impl Print) -> Result<()> {
+    weighted(rt, 1, 1, 1, &[4])?;
+    weighted(rt, 2, 1, 1, &[4, 1])?;
+    weighted(rt, 2, 1, 2, &[4, 1])?;
+    weighted(rt, 2, 1, 1, &[1, 1])?;
+    weighted(rt, 3, 3, 4, &[4, 4, 4])?;
+    weighted(rt, 3, 4, 4, &[4, 4, 4])
 }
 
 // The largest sum, 64.
-fn all_four() {
+fn all_four(rt: &impl Print) -> Result<()> {
     let fours = [4u8; 16];
-    weighted(16, 1, 31, &fours);
-    weighted(16, 1, 32, &fours);
-    weighted(16, 21, 21, &fours);
-    weighted(16, 22, 22, &fours);
+    weighted(rt, 16, 1, 31, &fours)?;
+    weighted(rt, 16, 1, 32, &fours)?;
+    weighted(rt, 16, 21, 21, &fours)?;
+    weighted(rt, 16, 22, 22, &fours)
 }
 
 // A weight of 0 or over 4, and not exactly n weights. The lowest three binary digits of 9 are a weight of 1.
-fn wrong_weights() {
-    weighted(2, 0, 0, &[0, 1]);
-    weighted(2, 0, 0, &[1, 5]);
-    weighted(2, 0, 0, &[9, 1]);
-    weighted(2, 0, 0, &[1]);
-    weighted(2, 0, 0, &[1, 1, 1]);
-    weighted(2, 0, 0, &[]);
+fn wrong_weights(rt: &impl Print) -> Result<()> {
+    weighted(rt, 2, 0, 0, &[0, 1])?;
+    weighted(rt, 2, 0, 0, &[1, 5])?;
+    weighted(rt, 2, 0, 0, &[9, 1])?;
+    weighted(rt, 2, 0, 0, &[1])?;
+    weighted(rt, 2, 0, 0, &[1, 1, 1])?;
+    weighted(rt, 2, 0, 0, &[])
 }
 
 // Printed coins are any words, boxed ones are 0.
-fn boxed() {
-    kind(0, &[0, 0, 0, 0]);
-    kind(0, &[1, 2, 3, 4294967295]);
-    kind(1, &[0, 0, 0, 0]);
-    kind(1, &[1, 0, 0, 0]);
-    kind(1, &[0, 0, 0, 1]);
-    kind(1, &[0, 2147483648, 0, 0]);
+fn boxed(rt: &impl Print) -> Result<()> {
+    kind(rt, 0, &[0, 0, 0, 0])?;
+    kind(rt, 0, &[1, 2, 3, 4294967295])?;
+    kind(rt, 1, &[0, 0, 0, 0])?;
+    kind(rt, 1, &[1, 0, 0, 0])?;
+    kind(rt, 1, &[0, 0, 0, 1])?;
+    kind(rt, 1, &[0, 2147483648, 0, 0])
 }
 
 // Neither 0 nor 1, and boxed with not exactly n coin words.
-fn wrong_boxed() {
-    kind(2, &[0, 0, 0, 0]);
-    kind(256, &[0, 0, 0, 0]);
-    kind(LARGEST, &[0, 0, 0, 0]);
-    kind(1, &[0, 0, 0]);
-    kind(1, &[0, 0, 0, 0, 0]);
-    kind(1, &[]);
+fn wrong_boxed(rt: &impl Print) -> Result<()> {
+    kind(rt, 2, &[0, 0, 0, 0])?;
+    kind(rt, 256, &[0, 0, 0, 0])?;
+    kind(rt, LARGEST, &[0, 0, 0, 0])?;
+    kind(rt, 1, &[0, 0, 0])?;
+    kind(rt, 1, &[0, 0, 0, 0, 0])?;
+    kind(rt, 1, &[])
 }
