@@ -1,9 +1,12 @@
 // Delivery lists: records on standard input to drill lines on standard output (`to-drill`), or lines to records (`to-csv`).
-ghost use Rattle.std.specs.Prelude.{◌≡◌, ◌+◌, ◌-◌, ◌*◌, ◌<◌, ◌≤◌, length, take, drop};
+#![tactic(auto)]
+
+ghost use Rattle.std.specs.Prelude.{◌≡◌, ◌+◌, ◌-◌, ◌*◌, ◌<◌, ◌≤◌, length, take, drop, IfSome};
 ghost use Rattle.delivery_lists.specs.laws.Bounds.{Bounded};
 
 use delivery_csv::Progress;
-use libc::{STDERR_FILENO, STDIN_FILENO, STDOUT_FILENO};
+use std::env;
+use std::io::{Error, Read, Result, Write};
 
 // What is kept from read to read.
 #[derive(Clone, Copy)]
@@ -33,13 +36,21 @@ fn room() -> [u8; 200000]
     [0; 200000]
 }
 
+// Says what failed and why, as far as standard error takes it.
+fn fail(rt: &HostRuntime, what: &str, error: &Error) {
+    let _ = eprintln!(rt; "{what}: {error}");
+}
+
 // Writes all bytes, or says why not.
-fn write(bytes: &[u8]) -> bool {
-    let is_written = io::write_all(STDOUT_FILENO, bytes);
-    if !is_written {
-        os::fail(b"write");
+fn write(rt: &HostRuntime, bytes: &[u8]) -> bool {
+    let mut to = rt.stdout();
+    match to.write_all(bytes) {
+        Ok(()) => true,
+        Err(error) => {
+            fail(rt, "write", &error);
+            false
+        }
     }
-    is_written
 }
 
 // Puts a text into bytes from a place on, and answers the place after it.
@@ -81,11 +92,12 @@ fn put_refusal(line: &mut [u8], quotes: bool, number: u64) -> usize
 }
 
 // The refusal goes to both outputs.
-fn refuse(quotes: bool, number: u64) {
-    let mut line = io::buffer();
+fn refuse(rt: &HostRuntime, quotes: bool, number: u64) {
+    let mut line = [0u8; 4096];
     let n = put_refusal(&mut line, quotes, number);
-    write(&line[..n]);
-    io::write_all(STDERR_FILENO, &line[..n]);
+    write(rt, &line[..n]);
+    let mut to = rt.stderr();
+    let _ = to.write_all(&line[..n]);
 }
 
 // Moves bytes to the front.
@@ -101,21 +113,29 @@ fn move_front(bytes: &mut [u8], from: usize, count: usize)
 }
 
 // Writes the text of what stands before a record or line that is not taken, and refuses that one.
-fn end_refused(quotes: bool, number: u64, text: &[u8]) -> State
+fn end_refused(rt: &HostRuntime, quotes: bool, number: u64, text: &[u8]) -> State
     ensures { result.held ≡ 0 }
 {
-    if write(text) {
-        refuse(quotes, number);
+    if write(rt, text) {
+        refuse(rt, quotes, number);
     }
     over()
 }
 
 // The first `done` of n bytes are converted, and the rest is kept.
-fn keep_rest(s: State, n: usize, done: usize, count: u64, input: &mut [u8], text: &[u8]) -> State
+fn keep_rest(
+    rt: &HostRuntime,
+    s: State,
+    n: usize,
+    done: usize,
+    count: u64,
+    input: &mut [u8],
+    text: &[u8],
+) -> State
     requires { (n ≤ length input.old) × (done ≤ n) × (n - done < 4096) }
     ensures { result.held < 4096 }
 {
-    if !write(text) {
+    if !write(rt, text) {
         return over();
     }
     let held = n - done;
@@ -128,7 +148,15 @@ fn keep_rest(s: State, n: usize, done: usize, count: u64, input: &mut [u8], text
 }
 
 // Writes what was converted of n bytes.
-fn proceed(quotes: bool, s: State, n: usize, x: Progress, input: &mut [u8], out: &[u8]) -> State
+fn proceed(
+    rt: &HostRuntime,
+    quotes: bool,
+    s: State,
+    n: usize,
+    x: Progress,
+    input: &mut [u8],
+    out: &[u8],
+) -> State
     requires { (n ≤ length input.old) × Bounded x n (length out.now) }
     ensures { result.held < 4096 }
 {
@@ -138,6 +166,7 @@ fn proceed(quotes: bool, s: State, n: usize, x: Progress, input: &mut [u8], out:
         Progress::Refused { written, count } => {
             let before = std::num::wrapping_add_u64(s.count, count);
             end_refused(
+                rt,
                 quotes,
                 std::num::wrapping_add_u64(before, 1),
                 &out[..written],
@@ -147,54 +176,76 @@ fn proceed(quotes: bool, s: State, n: usize, x: Progress, input: &mut [u8], out:
             written,
             length,
             count,
-        } => keep_rest(s, n, length, count, input, &out[..written]),
+        } => keep_rest(rt, s, n, length, count, input, &out[..written]),
         Progress::Over { written } => {
-            write(&out[..written]);
+            write(rt, &out[..written]);
             over()
         }
     }
 }
 
 // The input is over: converts its rest.
-fn finish(quotes: bool, s: State, input: &mut [u8], out: &mut [u8]) -> State
+fn finish(rt: &HostRuntime, quotes: bool, s: State, input: &mut [u8], out: &mut [u8]) -> State
     requires { (s.held ≤ length input.old) × (3 * length input.old + 3 ≤ length out.old) }
     ensures { result.held < 4096 }
 {
     let held = s.held;
     let x = delivery_csv::convert_rest(quotes, &input[..held], out);
-    proceed(quotes, s, held, x, input, out)
+    proceed(rt, quotes, s, held, x, input, out)
 }
 
 // There are n bytes: converts what is ended of them.
-fn convert_some(quotes: bool, s: State, n: usize, input: &mut [u8], out: &mut [u8]) -> State
+fn convert_some(
+    rt: &HostRuntime,
+    quotes: bool,
+    s: State,
+    n: usize,
+    input: &mut [u8],
+    out: &mut [u8],
+) -> State
     requires { (n ≤ length input.old) × (3 * length input.old + 3 ≤ length out.old) }
     ensures { result.held < 4096 }
 {
     let x = delivery_csv::convert_ended(quotes, &input[..n], out);
-    proceed(quotes, s, n, x, input, out)
+    proceed(rt, quotes, s, n, x, input, out)
+}
+
+// Reads once, or says why not.
+fn read_some<R: Read>(rt: &HostRuntime, from: &mut R, input: &mut [u8]) -> Option<usize>
+    ensures { IfSome result (λ n. n ≤ length input.new) }
+{
+    match from.read(input) {
+        Ok(n) => Some(n),
+        Err(error) => {
+            fail(rt, "read", &error);
+            None
+        }
+    }
 }
 
 // Reads once, behind the bytes that are held, and converts. There is room for a byte, so that a read of none is the end.
-fn advance(quotes: bool, s: State, input: &mut [u8], out: &mut [u8]) -> State
+fn advance<R: Read>(
+    rt: &HostRuntime,
+    from: &mut R,
+    quotes: bool,
+    s: State,
+    input: &mut [u8],
+    out: &mut [u8],
+) -> State
     requires { (s.held < length input.old) × (3 * length input.old + 3 ≤ length out.old) }
     ensures { result.held < 4096 }
 {
     let held = s.held;
-    let got = libc::read(STDIN_FILENO, &mut input[held..]);
-    if got < 0 {
-        os::fail(b"read");
-        return over();
+    match read_some(rt, from, &mut input[held..]) {
+        None => over(),
+        Some(0) => finish(rt, quotes, s, input, out),
+        Some(got) => convert_some(rt, quotes, s, held + got, input, out),
     }
-    if got == 0 {
-        return finish(quotes, s, input, out);
-    }
-    let n = held + io::count(got, &input[held..]);
-    convert_some(quotes, s, n, input, out)
 }
 
 // A proved loop has to end, and nothing says that an input does. So the loop counts its turns down, from a number that no run
 // uses up.
-fn convert(quotes: bool, input: &mut [u8], out: &mut [u8])
+fn convert<R: Read>(rt: &HostRuntime, from: &mut R, quotes: bool, input: &mut [u8], out: &mut [u8])
     requires { (4096 ≤ length input.old) × (3 * length input.old + 3 ≤ length out.old) }
 {
     let mut s = State {
@@ -205,31 +256,49 @@ fn convert(quotes: bool, input: &mut [u8], out: &mut [u8])
     let mut left = u64::MAX;
     while left > 0 {
         left -= 1;
-        s = advance(quotes, s, input, out);
+        s = advance(rt, from, quotes, s, input, out);
         if !s.more {
             return;
         }
     }
 }
 
-fn run(quotes: bool) {
-    let mut input = io::large_buffer();
+fn run(rt: &HostRuntime, quotes: bool) {
+    let mut from = rt.reader();
+    let mut input = [0u8; 65536];
     let mut out = room();
-    convert(quotes, &mut input, &mut out);
+    convert(rt, &mut from, quotes, &mut input, &mut out);
 }
 
-fn main() {
-    let mut buf = io::buffer();
-    let n = os::arg(1, &mut buf);
-    let name = &buf[..n];
-    let alone = os::arg_count() == 2;
-    if alone & check::same(name, b"to-drill") {
-        run(true);
-        return;
+// The direction that the only argument names: whether records are read.
+fn direction(rt: &HostRuntime) -> Result<Option<bool>> {
+    let mut arguments = env::args(rt)?;
+    let _program = arguments.next();
+    let name = arguments.next();
+    let more = arguments.next();
+    if more.is_some() {
+        return Ok(None);
     }
-    if alone & check::same(name, b"to-csv") {
-        run(false);
-        return;
+    match name {
+        Some(word) => {
+            if word.as_str() == "to-drill" {
+                return Ok(Some(true));
+            }
+            if word.as_str() == "to-csv" {
+                return Ok(Some(false));
+            }
+            Ok(None)
+        }
+        None => Ok(None),
     }
-    io::write_all(STDERR_FILENO, b"usage: delivery_lists to-drill | to-csv\n");
+}
+
+fn main(rt: HostRuntime) -> Result<()> {
+    match direction(&rt)? {
+        Some(quotes) => {
+            run(&rt, quotes);
+            Ok(())
+        }
+        None => eprintln!(rt; "usage: delivery_lists to-drill | to-csv"),
+    }
 }
