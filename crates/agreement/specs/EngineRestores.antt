@@ -8,7 +8,7 @@ use Rattle.turn.specs.Turn.{sent_length, turn_bytes}
 use Rattle.journal.specs.Journal.{turned_outcome}
 use Rattle.restore.specs.Restoring.{MESSAGE_BYTES, restore_answer, restored_words, restored_bytes}
 use Rattle.calls.specs.Machine.{Machine, Call, opening, delivery, turn, report, restore, recording, words}
-use Rattle.agreement.specs.Journals.{Moment, Journal, bytes, complete, journal, line}
+use Rattle.agreement.specs.Journals.{Moment, Journal, bytes, complete, journal}
 use Rattle.agreement.specs.DemandThree.{Opened, Conditions}
 use Rattle.calls.specs.Engine.{engine, Agreed, Bytes, TurnLent, SendsBytes}
 use Rattle.restore.specs.declared.Restored.TheVariants as answer

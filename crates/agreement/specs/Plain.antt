@@ -5,7 +5,7 @@ use Rattle.agreement.specs.Honest.{Honest}
 use Rattle.agreement.specs.Moments.{Within}
 use Rattle.calls.specs.Machine.{Machine, Call, opening, delivery, turn, report, restore, recording, place, words}
 use Rattle.agreement.specs.DemandThree.{Opened, Sent, FallsBack, Conditions}
-use Rattle.calls.specs.Engine.{engine, Agreed, Bytes}
+use Rattle.calls.specs.Engine.{engine, Agreed}
 
 module _ (M : Machine) where
   abbrev pub NoRestore : Call M → Type 0

@@ -1,1 +1,3 @@
+#![tactic(auto)]
+
 // A list of calls checked by computing it, and that a list which passes meets the conditions of agreement: specs/.

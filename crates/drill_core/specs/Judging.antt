@@ -13,7 +13,6 @@ use Rattle.drill_core.specs.declared.Phase.{Phase}
 use Rattle.drill_core.specs.declared.Phase.TheVariants as phase
 use Rattle.drill_core.specs.declared.Given.{Given}
 use Rattle.drill_core.specs.declared.State.{State}
-use Rattle.drill_core.specs.declared.Call.{Call}
 use Rattle.drill_core.specs.declared.Call.TheVariants as call
 use Rattle.drill_core.specs.declared.Verdict.{Verdict}
 use Rattle.drill_core.specs.declared.Verdict.TheVariants as verdict

@@ -1,5 +1,5 @@
 -- A line as its fields, and the texts of the items of a list, one after the other.
-use Rattle.std.specs.Prelude.{ℕ, ◌+◌, cond, List, [], ◌∷◌, ◌++◌, eqb}
+use Rattle.std.specs.Prelude.{ℕ, cond, List, [], ◌∷◌, ◌++◌, eqb}
 
 abbrev pub TAB : ℕ
 TAB = 9

@@ -17,17 +17,16 @@ use Rattle.wire.specs.declared.Message.{Message}
 use Rattle.turn.specs.declared.Outcome.{Outcome}
 use Rattle.turn.specs.declared.Outcome.TheVariants as outcome
 use Rattle.journal.specs.Journal.{turned_outcome, turned_message}
-use Rattle.restore.specs.Restoring.{accepted}
 use Rattle.agreement.specs.Evidence.{Honest}
 use Rattle.agreement.specs.Moments.{now}
 use Rattle.calls.specs.Machine.{Call, opening, delivery, turn, report, restore, recording, words}
 use Rattle.agreement.proofs.laws.Worlds.{world}
-use Rattle.agreement.specs.Journals.{bytes, journal}
+use Rattle.agreement.specs.Journals.{journal}
 use Rattle.agreement.specs.DemandThree.{Opened, Sent, Departed}
 use Rattle.calls.specs.Engine.{engine, OpeningGiven, Agreed, Bytes, TurnLent, BitGiven, agreed, SendsBytes}
 use Rattle.agreement_check.specs.Bits.{box_bit}
 use Rattle.agreement_check.proofs.laws.Lists.{not_opened, not_departed, opened_later, opened_cases, Leaves, departed_before, departed_cases, DeliveryMeets, RecordingMeets}
-use Rattle.agreement_check.specs.Checking.{Line, Entry, Gone, is_opened, words_of, lines_of, same_list, among, was_sent, some, sent_in, sent_by, same_session, opens, first_lines, delivery_lines, turn_lines, recording_lines, states_after, gone_after, restore_right, listed, opening_right, delivery_right, recording_right, call_right, step, run}
+use Rattle.agreement_check.specs.Checking.{Line, Entry, Gone, is_opened, words_of, lines_of, same_list, among, was_sent, sent_in, sent_by, same_session, opens, first_lines, delivery_lines, turn_lines, recording_lines, states_after, gone_after, restore_right, listed, opening_right, delivery_right, recording_right, call_right, step, run}
 use Rattle.agreement_check.proofs.laws.Entries.{or_second, not_of_true, same_list_lem, same_session_lem, lines_none}
 use Rattle.agreement_check.proofs.laws.Tracks.{words_here, journal_here, words_else, journal_else, size_next, opens_sized, opened_sized, Tracks, listed_honest, entry_next, line_next}
 use Rattle.agreement_check.proofs.laws.Restores.{restore_next}

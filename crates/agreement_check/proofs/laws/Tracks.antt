@@ -16,7 +16,7 @@ use Rattle.agreement.specs.DemandThree.{Opened, Departed}
 use Rattle.calls.specs.Engine.{engine, OpeningGiven, Agreed, Bytes}
 use Rattle.agreement.proofs.laws.EngineOpening.{opened_first, open_refused}
 use Rattle.agreement_check.proofs.laws.Lists.{opened_later, opened_before, NoOpening, AllMeet}
-use Rattle.agreement_check.specs.Checking.{Line, Entry, Gone, is_opened, words_of, lines_of, with_entry, some, opens, listed}
+use Rattle.agreement_check.specs.Checking.{Line, Entry, Gone, is_opened, words_of, lines_of, with_entry, opens, listed}
 use Rattle.agreement_check.proofs.laws.Lengths.{length_left}
 use Rattle.agreement_check.proofs.laws.Entries.{opened_with_lem, words_with, lines_with}
 use Rattle.agreement_check.proofs.laws.Journals.{Matches, AllMatch, IsGone}

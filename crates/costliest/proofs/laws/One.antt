@@ -12,7 +12,7 @@ use Rattle.settings.specs.Settings.{quorum, vote_quorum}
 use Rattle.settings.specs.declared.Settings.{Settings}
 use Rattle.quorum.specs.Marks.{mark}
 use Rattle.quorum.specs.laws.Marks.{mark_zero}
-use Rattle.quorum.specs.Total.{share, total, count}
+use Rattle.quorum.specs.Total.{share, total}
 use Rattle.quorum.specs.laws.Total.{total_none, count_le}
 use Rattle.quorum.specs.Lowest.{lowest}
 use Rattle.quorum.specs.Weights.{weight_of}

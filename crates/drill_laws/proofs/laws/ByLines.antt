@@ -7,7 +7,7 @@ use Rattle.text.specs.Fields.{LF}
 use Rattle.drill_lines.specs.laws.Theorem.{reads_lines}
 use Rattle.drill_lines.specs.declared.Reader.{Reader}
 use Rattle.drill_core.specs.Judging.{is_bad}
-use Rattle.drill_core.specs.Acting.{begun, World, world, taken}
+use Rattle.drill_core.specs.Acting.{World, world, taken}
 use Rattle.drill_core.specs.Feeding.{start_drill, next_number, next_line, with_byte, Drilling, drilling, settled, ended, fed_byte, fed_bytes, last_line, all_open, at_end, start_drilling}
 use Rattle.drill_core.specs.Output.{drill_text, printed, drill_output}
 use Rattle.drill_core.specs.declared.State.{State}

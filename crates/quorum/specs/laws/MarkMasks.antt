@@ -7,12 +7,11 @@ use Rattle.std.proofs.Math.Arith.{mod-mul, lt-one}
 use Rattle.std.specs.Int.Bits.{bit_and, bit_or, bit_xor, xor_add_and}
 use Rattle.std.proofs.lemmas.Nat.{and_shr, and_mod, and_mask, or_shr, or_mod, xor_shr, xor_mod}
 use Rattle.std.proofs.Math.Pow.{ones_lt, ones_split, high}
-use Rattle.std.proofs.lemmas.Bool.{not-true}
 use Rattle.quorum.specs.laws.Bools.{same_tests}
 use Rattle.quorum.specs.Every.{every}
 use Rattle.quorum.specs.laws.Every.{each_every, every_each}
 use Rattle.quorum.specs.Marks.{mark}
-use Rattle.quorum.specs.laws.Marks.{mark_digit, mark_low, mark_zero}
+use Rattle.quorum.specs.laws.Marks.{mark_digit, mark_low}
 
 -- ---- the marks of two words at once
 

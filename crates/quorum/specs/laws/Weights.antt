@@ -1,6 +1,6 @@
 -- The weight of marks is one population count: of the marks four times over, among the marks of the weights.
-use Rattle.std.specs.Prelude.{ℕ, zero, suc, ◌+◌, ◌-◌, ◌*◌, ◌/◌, ◌%◌, ◌^◌, min, ◌<◌, ◌≤◌, Bool, true, false, ◌&&◌, ◌≡◌, refl, eqb, leb}
-use Rattle.std.proofs.Common.{sym, ap, ap₂, subst, ◌∙◌, Fits, arith, mod-lt, mod-eq_of_lt, div-one, pow_pos, pow_mono, shr-shr, le-leb}
+use Rattle.std.specs.Prelude.{ℕ, zero, suc, ◌+◌, ◌-◌, ◌*◌, ◌/◌, ◌%◌, ◌^◌, min, ◌<◌, ◌≤◌, Bool, true, false, ◌&&◌, ◌≡◌, refl, eqb}
+use Rattle.std.proofs.Common.{sym, ap, ap₂, ◌∙◌, Fits, arith, mod-lt, mod-eq_of_lt, div-one, pow_pos, pow_mono, shr-shr, le-leb}
 use Rattle.std.specs.Int.{w64}
 use Rattle.std.proofs.Math.Decide.{dec_le}
 use Rattle.std.proofs.Math.Arith.{lt-one}

@@ -1,5 +1,5 @@
 -- Lists of zeros, runs of stores, the front of a list written over, and what the loops that do so keep.
-use Rattle.std.specs.Prelude.{ℕ, zero, suc, ◌+◌, ◌≤◌, ◌<◌, ◌-◌, List, ◌++◌, ◌≢◌, ◌≡◌, refl, length, set, drop, replicate}
+use Rattle.std.specs.Prelude.{ℕ, zero, suc, ◌+◌, ◌≤◌, ◌<◌, List, ◌++◌, ◌≢◌, ◌≡◌, refl, length, set, drop, replicate}
 use Rattle.std.proofs.Common.{append-nil, ap, subst, ◌∙◌, arith, add-one, length-set, drop_of_length-le}
 use Rattle.std.proofs.Math.Decide.{dec_le}
 use Rattle.std.proofs.lemmas.List.{length-replicate, get_or-replicate}

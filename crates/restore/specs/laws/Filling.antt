@@ -10,7 +10,7 @@ use Rattle.std.proofs.Math.ListN.{length, take}
 use Rattle.std.proofs.Math.Seq.{take-suc-set}
 use borrow.Author.Tests.{le-leb, lt-leb, leb-true, leb-false, not-true, not-false}
 use Rattle.text.specs.Fields.{TAB}
-use Rattle.text.specs.Numbers.{value_of, right}
+use Rattle.text.specs.Numbers.{value_of}
 use Rattle.restore.specs.laws.Truth.{and_none}
 use Rattle.restore.specs.Reading.{proper}
 use Rattle.restore.specs.laws.Places.{place_of}

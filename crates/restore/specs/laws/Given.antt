@@ -1,5 +1,5 @@
 -- An opening line as the code takes it: what is asked of its numbers, and what it comes to.
-use Rattle.std.specs.Prelude.{ℕ, ◌+◌, ◌-◌, ◌^◌, ◌≤◌, ◌<◌, Bool, cond, not, List, ◌≡◌, refl, ltb, length, get_or, take, drop, replicate}
+use Rattle.std.specs.Prelude.{ℕ, ◌+◌, ◌^◌, ◌≤◌, ◌<◌, Bool, cond, not, List, ◌≡◌, refl, ltb, length, get_or, take, drop, replicate}
 use Rattle.std.proofs.Math.Bool.{true, false}
 use Rattle.std.proofs.Math.Option.{Option, none}
 use Rattle.std.proofs.Common.{sym, ◌∙◌, arith, length-take-le, get_or-take, Fits, lt-ltb, le-ltb, eqb-true}

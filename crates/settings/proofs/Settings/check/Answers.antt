@@ -1,10 +1,6 @@
 -- src/lib.rt:48:13
 use Rattle.settings.specs.laws.Cases.{check_cases, check_fits}
 use borrow.Author.Rules.{rules}
-use Rattle.settings.proofs.Settings.check.Reads as reads
-use Rattle.settings.proofs.Settings.check.Lts as lts
-use Rattle.quorum.proofs.weights_right.Reads as weights-right-reads
-use Rattle.quorum.proofs.whole.Reads as whole-reads
 use Rattle.settings.proofs.Settings.check.Goals as goal
 
 pub returns-then-n-lt1 : goal.returns-then-n-lt1

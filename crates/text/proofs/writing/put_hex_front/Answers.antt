@@ -1,4 +1,3 @@
-use Prim.Native.Nat.{◌-◌}
 use Rattle.text.specs.laws.Each.{each}
 use Rattle.text.proofs.writing.put_hex_front.Goals as goal
 

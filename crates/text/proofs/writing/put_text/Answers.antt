@@ -1,4 +1,3 @@
-use Prim.Native.Nat.{◌-◌}
 use Rattle.text.specs.laws.Paste.{writing}
 use Rattle.text.proofs.writing.put_text.Goals as goal
 

@@ -1,4 +1,3 @@
-use Prim.Native.Nat.{◌-◌}
 use Rattle.text.specs.laws.Digits.{within}
 use Rattle.text.proofs.writing.set_hex_bytes.Goals as goal
 
