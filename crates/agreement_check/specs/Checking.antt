@@ -1,5 +1,5 @@
 -- A list of calls checked by computing it: whether each call meets the conditions of agreement (PROTOCOL 16.4 to 16.7) after the calls before it.
--- The check is sound (specs/laws/Tracking.antt); it may reject a list that meets them. A restore is taken only at an opened one whose journal
+-- The check is sound (proofs/laws/Tracking.antt); it may reject a list that meets them. A restore is taken only at an opened one whose journal
 -- allows it; whether it is accepted need not be computed (agreement, EngineRestores).
 use Rattle.std.specs.Prelude.{ℕ, Bool, true, false, ◌&&◌, ◌||◌, not, cond, List, [], ◌∷◌, ◌++◌, eqb, leb, length, take}
 use Rattle.records.specs.Layout.{state_words}

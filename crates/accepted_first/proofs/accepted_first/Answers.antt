@@ -1,4 +1,4 @@
--- `accepted_first` states the theorem of specs/laws/Moments.antt.
+-- `accepted_first` states the theorem of proofs/laws/Moments.antt.
 use Rattle.accepted_first.proofs.laws.Moments.{accepted_first_lem}
 use Rattle.accepted_first.proofs.accepted_first.Goals as goal
 

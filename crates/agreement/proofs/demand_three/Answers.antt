@@ -1,4 +1,4 @@
--- `agreement::demand_three` states the theorem of specs/laws/EngineDemand.antt.
+-- `agreement::demand_three` states the theorem of proofs/laws/EngineDemand.antt.
 use Rattle.agreement.proofs.laws.EngineDemand.{engine_agrees}
 use Rattle.agreement.proofs.demand_three.Goals as goal
 

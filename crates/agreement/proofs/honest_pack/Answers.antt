@@ -1,4 +1,4 @@
--- `agreement::honest_pack` states the theorem of specs/laws/EngineDemand.antt.
+-- `agreement::honest_pack` states the theorem of proofs/laws/EngineDemand.antt.
 use Rattle.agreement.proofs.laws.EngineDemand.{engine_honest_pack}
 use Rattle.agreement.proofs.honest_pack.Goals as goal
 

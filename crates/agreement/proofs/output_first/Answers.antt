@@ -1,4 +1,4 @@
--- `agreement::output_first` states the theorem of specs/laws/EngineDemand.antt.
+-- `agreement::output_first` states the theorem of proofs/laws/EngineDemand.antt.
 use Rattle.agreement.proofs.laws.EngineDemand.{engine_output_first}
 use Rattle.agreement.proofs.output_first.Goals as goal
 

@@ -1,4 +1,4 @@
--- `agreement::printed_sessions` states the theorem of specs/laws/EnginePlain.antt.
+-- `agreement::printed_sessions` states the theorem of proofs/laws/EnginePlain.antt.
 use Rattle.agreement.proofs.laws.EnginePlain.{printed_meets}
 use Rattle.agreement.proofs.printed_sessions.Goals as goal
 

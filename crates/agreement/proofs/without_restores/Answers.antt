@@ -1,4 +1,4 @@
--- `agreement::without_restores` states the theorem of specs/laws/EnginePlain.antt.
+-- `agreement::without_restores` states the theorem of proofs/laws/EnginePlain.antt.
 use Rattle.agreement.proofs.laws.EnginePlain.{plain_meets}
 use Rattle.agreement.proofs.without_restores.Goals as goal
 

@@ -1,4 +1,4 @@
--- `agreement_example::foreign_openings` states a theorem of specs/laws/Foreign.antt.
+-- `agreement_example::foreign_openings` states a theorem of proofs/laws/Foreign.antt.
 use Rattle.agreement_example.proofs.laws.Foreign.{foreign_meet}
 use Rattle.agreement_example.proofs.foreign_openings.Goals as goal
 

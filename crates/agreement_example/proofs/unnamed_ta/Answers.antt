@@ -1,4 +1,4 @@
--- `agreement_example::unnamed_ta` states a theorem of specs/laws/LowTa.antt.
+-- `agreement_example::unnamed_ta` states a theorem of proofs/laws/LowTa.antt.
 use Rattle.agreement_example.proofs.laws.LowTa.{unnamed_meet}
 use Rattle.agreement_example.proofs.unnamed_ta.Goals as goal
 

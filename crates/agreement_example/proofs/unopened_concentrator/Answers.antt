@@ -1,4 +1,4 @@
--- `agreement_example::unopened_concentrator` states a theorem of specs/laws/Unopened.antt.
+-- `agreement_example::unopened_concentrator` states a theorem of proofs/laws/Unopened.antt.
 use Rattle.agreement_example.proofs.laws.Unopened.{unopened_meet}
 use Rattle.agreement_example.proofs.unopened_concentrator.Goals as goal
 

@@ -1,4 +1,4 @@
--- `held_again` states a theorem of specs/laws/Places.antt.
+-- `held_again` states a theorem of proofs/laws/Places.antt.
 use Rattle.call_laws.proofs.laws.Places.{held_again}
 use Rattle.call_laws.proofs.held_again.Goals as goal
 

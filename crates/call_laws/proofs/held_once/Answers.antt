@@ -1,4 +1,4 @@
--- `held_once` states a theorem of specs/laws/Places.antt.
+-- `held_once` states a theorem of proofs/laws/Places.antt.
 use Rattle.call_laws.proofs.laws.Places.{held_once}
 use Rattle.call_laws.proofs.held_once.Goals as goal
 

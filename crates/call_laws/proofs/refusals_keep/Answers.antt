@@ -1,4 +1,4 @@
--- `refusals_keep` states the theorem of specs/laws/Keeping.antt.
+-- `refusals_keep` states the theorem of proofs/laws/Keeping.antt.
 use Rattle.call_laws.proofs.laws.Keeping.{refusals_keep}
 use Rattle.call_laws.proofs.refusals_keep.Goals as goal
 

@@ -1,4 +1,4 @@
--- `settings_kept` states the theorem of specs/laws/SettingsKept.antt.
+-- `settings_kept` states the theorem of proofs/laws/SettingsKept.antt.
 use Rattle.call_laws.proofs.laws.SettingsKept.{settings_kept}
 use Rattle.call_laws.proofs.settings_kept.Goals as goal
 

@@ -1,4 +1,4 @@
--- The theorem of specs/laws/Secrecy.antt.
+-- The theorem of proofs/laws/Secrecy.antt.
 use Rattle.coin_box.proofs.laws.Secrecy.{secret}
 use Rattle.coin_box.proofs.secrecy.Goals as goal
 

@@ -1,4 +1,4 @@
--- `at_most_five` states the theorem of specs/laws/One.antt.
+-- `at_most_five` states the theorem of proofs/laws/One.antt.
 use Rattle.costliest.proofs.laws.One.{at_most_five}
 use Rattle.costliest.proofs.at_most_five.Goals as goal
 

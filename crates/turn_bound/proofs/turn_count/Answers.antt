@@ -1,4 +1,4 @@
--- `turn_count` states the theorem of specs/laws/CallCount.antt.
+-- `turn_count` states the theorem of proofs/laws/CallCount.antt.
 use Rattle.turn_bound.proofs.laws.CallCount.{turn_count_lem}
 use Rattle.turn_bound.proofs.turn_count.Goals as goal
 

@@ -1,4 +1,4 @@
--- `relay_value` takes the three cases of `relayValue`.
+-- `relay_value` takes the three cases of `relay_value`.
 use Rattle.votes.specs.laws.Cases.{relays}
 use Rattle.votes.proofs.relay_value.Goals as goal
 

@@ -1,4 +1,4 @@
--- `start_act` takes the four cases of `startAct`.
+-- `start_act` takes the four cases of `start_act`.
 use Rattle.votes.specs.laws.Cases.{starts}
 use Rattle.votes.proofs.start_act.Goals as goal
 
