@@ -293,12 +293,12 @@ fn direction(rt: &HostRuntime) -> Result<Option<bool>> {
     }
 }
 
-fn main(rt: HostRuntime) -> Result<()> {
-    match direction(&rt)? {
-        Some(quotes) => {
-            run(&rt, quotes);
-            Ok(())
+// An argument that is no text names no direction, either.
+fn main(rt: HostRuntime) {
+    match direction(&rt) {
+        Ok(Some(quotes)) => run(&rt, quotes),
+        _ => {
+            let _ = eprintln!(rt; "usage: delivery_lists to-drill | to-csv");
         }
-        None => eprintln!(rt; "usage: delivery_lists to-drill | to-csv"),
     }
 }
