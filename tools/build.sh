@@ -41,21 +41,27 @@ crates_under() {
 fingerprint() {
     {
         rt version
-        crates_under "$1" | sed 's,.*,crates/&,' | xargs -I {} find {} -type f -not -path '*/must-fail/*' |
+        crates_under "$1" | sed 's,.*,crates/&,' |
+            xargs -I {} find {} -type f -not -path 'crates/*/out/*' -not -path '*/must-fail/*' |
             LC_ALL=C sort | xargs sha256sum
     } | sha256sum
 }
 
-# show_progress TOTAL: reads what rt says; on a terminal one line tells how many crates are proved, elsewhere a line for each ten
+# show_progress TOTAL: reads what rt says; on a terminal one line tells how many crates are proved anew, elsewhere a line for each
+# ten
 show_progress() {
-    local total=$1 count=0 seen=' ' line name
+    local total=$1 count=0 seen=' ' line name=
     while IFS= read -r line; do
+        # The verdict on a crate follows the line that names it.
         case $line in
-            'rt: '*' proved ('* | 'rt: target/staticlib/'*) ;;
+            'crate '*': modules '*)
+                name=${line#crate }
+                name=${name%%:*}
+                continue
+                ;;
+            'logic=proved '*) ;;
             *) continue ;;
         esac
-        name=${line#rt: }
-        name=${name%% *}
         case $seen in *" $name "*) continue ;; esac
         seen="$seen$name "
         count=$((count + 1))
@@ -79,7 +85,7 @@ renew() {
     mkdir -p target/build
     rm -f "$stamp"
     total=$(crates_under "$name" | wc -l)
-    echo "proving $total crates to build $out; from nothing this takes some minutes (log: $log)" >&2
+    echo "proving $total crates to build $out; from nothing this takes many minutes (log: $log)" >&2
     if ! "$@" 2>&1 | tee "$log" | show_progress "$total"; then
         tail -n 12 "$log" | cut -c 1-200 >&2
         echo "$0: $out is not built; the whole log is $log" >&2
@@ -88,22 +94,35 @@ renew() {
     echo "$sources" > "$stamp"
 }
 
-# rt staticlib proves what the crate rests on one after the other; rt check proves several at a time.
+# What is built runs on every x86-64 processor; rt's own choice wants a later one.
+cpu=x86-64
+
+# make_archive NAME: a crate is a library or a static library, so NAME_c exports the functions of NAME.
 make_archive() {
-    # shellcheck disable=SC2046
-    rt check $(crates_under "$1" | tail -n +2) && rt staticlib "$1"
+    (cd "crates/$1_c" && rt lib --cpu "$cpu") &&
+        mkdir -p target/staticlib && cp "crates/$1_c/out/lib$1_c.a" "target/staticlib/lib$1.a"
+}
+
+# make_program NAME: rt builds a program only to run it, so it gets the input and arguments that stand beside its sources.
+make_program() {
+    (
+        cd "crates/$1" || exit 1
+        arguments=()
+        [ ! -f args ] || mapfile -t arguments < args
+        rt run --cpu "$cpu" -- "${arguments[@]}" < stdin
+    ) && mkdir -p target/bin && cp "crates/$1/out/$1" "target/bin/$1"
 }
 
 renew_archive() {
-    renew "$1" "target/staticlib/lib$1.a" make_archive "$1"
+    renew "$1_c" "target/staticlib/lib$1.a" make_archive "$1"
 }
 
 renew_drill() {
-    renew drill target/bin/drill rt check drill
+    renew drill target/bin/drill make_program drill
 }
 
 renew_delivery_lists() {
-    renew delivery_lists target/bin/delivery_lists rt check delivery_lists
+    renew delivery_lists target/bin/delivery_lists make_program delivery_lists
 }
 
 # print_result TITLE LINES [COLUMN]: the lines that the drill program or the host printed, with a heading; COLUMN is the name
