@@ -17,7 +17,7 @@
  * runs; calls on different states may run at the same time. A count is a number of elements: 64-bit words, 32-bit coin
  * words, 32-bit numbers of windows or bytes. A null pointer with count 0 is an empty buffer. No call keeps a pointer or
  * allocates; of the C library only memcpy and memset are used. pack_restore has a second state on the stack, 16,384 bytes,
- * and takes some 18,400 bytes of it in all; the other calls take up to 1,300.
+ * and takes some 18,500 bytes of it in all; the other calls take up to 1,350.
  *
  * AGREEMENT rests on more than memory. The engine cannot see whether the following is kept, and takes calls that break it.
  * A concentrator whose host does not keep it counts among those that lie, with its weight:
