@@ -1,5 +1,3 @@
-pub mod Exits
-pub mod Table
 pub mod Votes
 pub mod Leads
 pub mod Early
@@ -7,8 +5,3 @@ pub mod Insert
 pub mod Having
 pub mod Stated
 pub mod Rising
-pub mod Ways
-pub mod Agree
-pub mod Fair
-pub mod Now
-pub mod Exactly

@@ -4,9 +4,5 @@ pub mod Turn
 pub mod Told
 pub mod Choosing
 pub mod Deciding
-pub mod Applying
 pub mod Admitting
 pub mod Taking
-pub mod Frame
-pub mod Marks
-pub mod Decisions

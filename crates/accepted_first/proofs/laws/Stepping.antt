@@ -35,7 +35,7 @@ use Rattle.recording.specs.laws.Recording as recordings
 use Rattle.session.specs.declared.Session.{Session}
 use Rattle.turn.specs.Due.{due}
 use Rattle.turn.specs.Turn.{applied, turn_words}
-use Rattle.turn.specs.laws.Frame.{told_placed, setting, between, beyond, applied_kept}
+use Rattle.turn.proofs.laws.Frame.{told_placed, setting, between, beyond, applied_kept}
 use Rattle.turn.specs.laws.Admitting.{admitted_ruled}
 use Rattle.turn.specs.laws.Turn.{Taken, Way, refused, taken, way}
 use Rattle.held.specs.laws.Recording.{est_place}

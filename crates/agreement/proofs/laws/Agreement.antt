@@ -4,8 +4,8 @@ use Rattle.std.specs.Prelude.{ℕ, ◌≡◌}
 use mathlib.Core.List.{List, [], ◌∷◌, Memᴰ}
 use Rattle.std.proofs.Common.{inl, inr, sym, subst, ◌∙◌, arith}
 use Rattle.exits.specs.Standing.{Standing}
-use Rattle.exits.specs.laws.Agree.{Compatible, exits_agree}
-use Rattle.exits.specs.laws.Fair.{named_only, named_fair}
+use Rattle.exits.proofs.laws.Agree.{Compatible, exits_agree}
+use Rattle.exits.proofs.laws.Fair.{named_only, named_fair}
 use Rattle.agreement.specs.Evidence.{World, Sound, Honest}
 use Rattle.agreement.proofs.laws.Evidence.{Some, backed_map, one_of}
 use Rattle.agreement.specs.History.{Act, send, commit, History, Single, Did, Event, zero, one, Stands, Naming, Guard, Lawful}

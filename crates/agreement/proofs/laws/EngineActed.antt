@@ -19,9 +19,9 @@ use Rattle.votes.specs.Votes.{coin_value, estimate, decides}
 use Rattle.votes.specs.laws.Told.{MoveTold}
 use Rattle.turn.specs.Turn.{new_decision, applied}
 use Rattle.turn.specs.laws.Told.{ActTold}
-use Rattle.turn.specs.laws.Frame.{Placed, told_placed, length_applied, applied_kept}
-use Rattle.turn.specs.laws.Marks.{keeps_applied, echo_marked, aux_marked}
-use Rattle.turn.specs.laws.Decisions.{DecidedBy, decided_zero_came, decided_one_came}
+use Rattle.turn.proofs.laws.Frame.{Placed, told_placed, length_applied, applied_kept}
+use Rattle.turn.proofs.laws.Marks.{keeps_applied, echo_marked, aux_marked}
+use Rattle.turn.proofs.laws.Decisions.{DecidedBy, decided_zero_came, decided_one_came}
 use Rattle.agreement.specs.Evidence.{World}
 use Rattle.agreement.specs.History.{Act, echo, aux, move, Decision, zero, one}
 use Rattle.held.specs.laws.Held.{Numbered}

@@ -16,7 +16,7 @@ use Rattle.votes.specs.Votes.{estimate}
 use Rattle.turn.specs.Turn.{with_turn_counted, entered, new_decision, move_decided, moved, applied}
 use Rattle.turn.specs.Turn as turn
 use Rattle.turn.specs.laws.Told.{ActTold}
-use Rattle.turn.specs.laws.Frame.{Placed, told_placed, setting, coins, between, length_applied, applied_kept}
+use Rattle.turn.proofs.laws.Frame.{Placed, told_placed, setting, coins, between, length_applied, applied_kept}
 use Rattle.calls.specs.Engine.{OpeningGiven}
 use Rattle.agreement.proofs.laws.Runs.{CoinsStay}
 use Rattle.agreement.proofs.laws.EngineSeen.{engine_seen, coins_stay}

@@ -31,9 +31,9 @@ use Rattle.exits.specs.Exits.{Exit, outputs_of_s}
 use Rattle.exits.specs.laws.Stated.{single_exit, outputs_exit}
 use Rattle.exits.specs.Exits.{no_exit}
 use Rattle.exits.specs.laws.Rising.{RisingFrom, Rising, outputs_from}
-use Rattle.exits.specs.laws.Ways.{Way, first, second, third, way}
-use Rattle.exits.specs.laws.Ways as ways
-use Rattle.exits.specs.laws.Exits.{names_rising, names_few}
+use Rattle.exits.proofs.laws.Ways.{Way, first, second, third, way}
+use Rattle.exits.proofs.laws.Ways as ways
+use Rattle.exits.proofs.laws.Exits.{names_rising, names_few}
 use Rattle.exits.specs.Exits.{exit_now}
 use Rattle.commits.specs.laws.Sets.{listed, set_listed, set_length}
 use Rattle.wire.specs.Bytes.{rises_from, rises}

@@ -24,7 +24,7 @@ use Rattle.turn.specs.laws.Due.{due_told}
 use Rattle.turn.specs.Turn.{applied, move_outcome, outcome_of, admits, taking, sent_length, turn_outcome, turn_words, turn_bytes}
 use Rattle.turn.specs.laws.Told.{ActTold}
 use Rattle.turn.specs.laws.Admitting.{Admitting, admitting, admitted_ruled, admitted_turns}
-use Rattle.turn.specs.laws.Frame.{told_placed, length_applied, applied_kept}
+use Rattle.turn.proofs.laws.Frame.{told_placed, length_applied, applied_kept}
 use Rattle.turn.specs.laws.Turn.{Taken}
 use Rattle.turn.specs.declared.Admitted.{Admitted}
 use Rattle.turn.specs.declared.Admitted.TheVariants as admitted

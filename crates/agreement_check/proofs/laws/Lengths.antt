@@ -15,7 +15,7 @@ use Rattle.quorum.specs.Marks.{with_mark}
 use Rattle.recording.specs.Recording.{bit_mark, record_answer, with_bit, recorded_words}
 use Rattle.turn.specs.Due.{due}
 use Rattle.turn.specs.Turn.{admits, taking, turn_words}
-use Rattle.turn.specs.laws.Frame.{length_applied}
+use Rattle.turn.proofs.laws.Frame.{length_applied}
 use Rattle.turn.specs.declared.Admitted.{Admitted}
 use Rattle.turn.specs.declared.Admitted.TheVariants as admitted
 use Rattle.journal.specs.Journal.{LINE_BYTES, line_words, opened_words, delivered_words, record_words, turn_room}

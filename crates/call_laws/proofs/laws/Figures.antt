@@ -9,9 +9,9 @@ use Rattle.broadcasts.specs.Broadcasts.{output}
 use Rattle.broadcasts.specs.declared.Output.{Output}
 use Rattle.exits.specs.Exits.{Exit, no_exit, exit_of}
 use Rattle.exits.specs.laws.Stated.{single_exit, outputs_exit}
-use Rattle.exits.specs.laws.Exits.{names_few}
+use Rattle.exits.proofs.laws.Exits.{names_few}
 use Rattle.exits.specs.Exits.{exit_now}
-use Rattle.exits.specs.laws.Ways.{Way, first, second, third, none, way}
+use Rattle.exits.proofs.laws.Ways.{Way, first, second, third, none, way}
 use Rattle.commits.specs.Commits.{set_leader, set_of, leading_set}
 use Rattle.session.specs.Session.{settings_of}
 use Rattle.report.specs.laws.Report.{Reported, turns_few}

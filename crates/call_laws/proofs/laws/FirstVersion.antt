@@ -22,7 +22,7 @@ use Rattle.turn.specs.Turn.{admits, taking, turn_words}
 use Rattle.turn.specs.laws.Admitting.{admitting, admitted_ruled}
 use Rattle.turn.specs.laws.Due.{due_told}
 use Rattle.turn.specs.laws.Told.{ActTold}
-use Rattle.turn.specs.laws.Frame.{Spared, Placed, told_placed, applied_other}
+use Rattle.turn.proofs.laws.Frame.{Spared, Placed, told_placed, applied_other}
 use Rattle.turn.specs.declared.Admitted.{Admitted}
 use Rattle.turn.specs.declared.Admitted.TheVariants as admitted
 use Rattle.call_laws.specs.FirstVersion.{First, FinishWord, FirstVersion}

@@ -20,7 +20,7 @@ use Rattle.turn.specs.Due.{due}
 use Rattle.turn.specs.Turn.{admits, taking, turn_words}
 use Rattle.turn.specs.laws.Admitting.{admitting, admitted_ruled}
 use Rattle.turn.specs.laws.Due.{due_told}
-use Rattle.turn.specs.laws.Frame.{Kept, setting, between, told_placed, applied_kept}
+use Rattle.turn.proofs.laws.Frame.{Kept, setting, between, told_placed, applied_kept}
 use Rattle.turn.specs.declared.Admitted.{Admitted}
 use Rattle.turn.specs.declared.Admitted.TheVariants as admitted
 use Rattle.journal.specs.Journal.{LINE_BYTES, line_words, delivered_words, record_words}

@@ -29,7 +29,7 @@ use Rattle.turn.specs.Due.{due}
 use Rattle.turn.specs.laws.Due.{due_told}
 use Rattle.turn.specs.Turn.{applied, admits, taking, turn_words}
 use Rattle.turn.specs.Turn as turn_specs
-use Rattle.turn.specs.laws.Frame.{Placed, told_placed, Kept, setting, between, length_applied, applied_idle, applied_other, applied_kept, applied_turns}
+use Rattle.turn.proofs.laws.Frame.{Placed, told_placed, Kept, setting, between, length_applied, applied_idle, applied_other, applied_kept, applied_turns}
 use Rattle.turn_bound.proofs.laws.Raising.{counted_mark}
 use Rattle.turn_bound.proofs.laws.Sound.{same_settings, sound_state}
 use Rattle.turn_bound.proofs.laws.Turning.{turn_sound}

@@ -38,7 +38,7 @@ use Rattle.votes.specs.Votes.{est_count, accepted, votes_decided_one, start_act,
 use Rattle.votes.specs.laws.Versions.{first_rule}
 use Rattle.exits.specs.Exits.{Exit, with_output, has_value, every_broadcast, no_exit}
 use Rattle.exits.specs.laws.Stated.{single_exit, outputs_exit}
-use Rattle.exits.specs.laws.Ways.{First, Way, first, second, third, none, way}
+use Rattle.exits.proofs.laws.Ways.{First, Way, first, second, third, none, way}
 use Rattle.exits.specs.Exits.{exit_now}
 use Rattle.turn.specs.Due.{in_force_rule, or_set, commit_due, commit_of, commit_rule, send_rule, votes_rule, due}
 use Rattle.turn.specs.laws.Told.{SetHeld}

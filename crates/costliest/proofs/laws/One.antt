@@ -39,7 +39,7 @@ use Rattle.opening.specs.Opening.{open_answer, opened}
 use Rattle.opening.specs.laws.Opening.{first_zero}
 use Rattle.turn.specs.Due.{in_force_rule, commit_due, commit_of, commit_rule, send_rule, votes_rule, due}
 use Rattle.turn.specs.Turn.{applied, turn_words}
-use Rattle.turn.specs.laws.Frame.{applied_other}
+use Rattle.turn.proofs.laws.Frame.{applied_other}
 use Rattle.turn.specs.laws.Admitting.{admitted_settings}
 use Rattle.turn.specs.laws.Turn.{Way, refused, taken, way}
 use Rattle.session.specs.Session.{settings_of, session_with, session_of}

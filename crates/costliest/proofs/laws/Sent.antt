@@ -17,7 +17,7 @@ use Rattle.records.specs.Layout.{turns_at, flags_at, round_at, est_sent_at, aux_
 use Rattle.records.specs.Words.{word, marked}
 use Rattle.records.specs.Records.{closed, commit_sent, commit_count}
 use Rattle.commits.specs.laws.Sets.{set_length}
-use Rattle.exits.specs.laws.Exits.{names_few}
+use Rattle.exits.proofs.laws.Exits.{names_few}
 use Rattle.exits.specs.Exits.{exit_now}
 use Rattle.broadcasts.specs.Broadcasts.{output}
 use Rattle.records.specs.Records.{decided_zero, decided_one}
@@ -28,8 +28,8 @@ use Rattle.turn.specs.laws.Told.{ActTold, CommitTold, Rests, on_exit, on_copies}
 use Rattle.turn.specs.Due.{due}
 use Rattle.turn.specs.Turn.{outcome_of, move_outcome, sent_length, applied, turn_outcome, turn_words}
 use Rattle.turn.specs.Turn as turn_specs
-use Rattle.turn.specs.laws.Frame.{Spared, told_placed, applied_idle, applied_other, applied_turns}
-use Rattle.turn.specs.laws.Marks.{closed_marked, commit_marked}
+use Rattle.turn.proofs.laws.Frame.{Spared, told_placed, applied_idle, applied_other, applied_turns}
+use Rattle.turn.proofs.laws.Marks.{closed_marked, commit_marked}
 use Rattle.turn.specs.laws.Admitting.{admitted_settings}
 use Rattle.turn.specs.laws.Turn.{Way, refused, taken, way}
 use Rattle.turn.specs.declared.Outcome.{Outcome}

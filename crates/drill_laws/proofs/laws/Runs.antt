@@ -15,7 +15,7 @@ use Rattle.acts.specs.declared.Act.TheVariants.{Idle, InForce, Commit, Send, Ech
 use Rattle.turn.specs.Due.{due}
 use Rattle.turn.specs.Turn.{outcome_of, applied, turn_outcome}
 use Rattle.turn.specs.laws.Admitting.{admitted_ruled}
-use Rattle.turn.specs.laws.Frame.{told_placed, length_applied, applied_turns}
+use Rattle.turn.proofs.laws.Frame.{told_placed, length_applied, applied_turns}
 use Rattle.turn.specs.laws.Turn.{Way, refused, taken, way}
 use Rattle.drill_feeder.specs.Parts.{state_of, room_for, message_at, sender_at}
 use Rattle.drill_feeder.specs.Steps.{steps}

@@ -21,7 +21,7 @@ use Rattle.wire.specs.Message.{count_of, length_of, besides, header_for, front_b
 use Rattle.wire.specs.declared.Message.{Message}
 use Rattle.broadcasts.specs.Broadcasts.{output}
 use Rattle.exits.specs.Exits.{exit_now}
-use Rattle.exits.specs.laws.Exits.{names_few}
+use Rattle.exits.proofs.laws.Exits.{names_few}
 use Rattle.turn.specs.Due.{due, commit_due}
 use Rattle.turn.specs.laws.Told.{ActTold, Rests, on_exit, on_copies}
 use Rattle.turn.specs.Turn.{move_outcome, outcome_of, bytes_after, turn_outcome, turn_bytes}

@@ -26,7 +26,7 @@ use Rattle.turn.specs.laws.Told.{ActTold}
 use Rattle.turn.specs.Turn.{move_outcome, outcome_of, applied, bytes_after, turn_outcome, turn_words, turn_bytes}
 use Rattle.wire.proofs.Laws.{length_encode}
 use Rattle.turn.specs.laws.Admitting.{admitted_ruled}
-use Rattle.turn.specs.laws.Frame.{Placed, told_placed, setting, between, length_applied, applied_idle, applied_kept, applied_turns}
+use Rattle.turn.proofs.laws.Frame.{Placed, told_placed, setting, between, length_applied, applied_idle, applied_kept, applied_turns}
 use Rattle.turn.specs.laws.Turn.{Taken, Way, refused, taken, way}
 use Rattle.turn.specs.declared.Outcome.{Outcome}
 use Rattle.turn.specs.declared.Outcome.TheVariants as outcome

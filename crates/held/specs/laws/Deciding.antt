@@ -20,7 +20,7 @@ use Rattle.wire.specs.declared.Message.TheVariants as wire
 use Rattle.delivery.specs.Delivery.{finish_settled, recorded}
 use Rattle.delivery.specs.laws.Frame.{InLayout, Changed, word_recorded}
 use Rattle.delivery.specs.laws.Settling.{FinishDecided, settled_either, settled_kept}
-use Rattle.turn.specs.laws.Decisions.{decided_at}
+use Rattle.turn.proofs.laws.Decisions.{decided_at}
 use Rattle.held.specs.laws.Held.{FINISH, holds}
 
 -- FINISHes of b that are held in t reach the accept threshold

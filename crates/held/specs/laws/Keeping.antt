@@ -7,7 +7,7 @@ use Rattle.records.specs.Words.{word, marked}
 use Rattle.records.specs.Records.{send_held, send_value, echo_held, echo_value, ready_held, ready_value, est_held, aux_held, finish_held, commit_count, commit_value, commit_set}
 use Rattle.commits.specs.Commits.{commit_held}
 use Rattle.commits.specs.laws.Sets.{set_agree}
-use Rattle.turn.specs.laws.Frame.{Kept, held, between, beyond}
+use Rattle.turn.proofs.laws.Frame.{Kept, held, between, beyond}
 use Rattle.held.specs.laws.Held.{Message, SEND, ECHO, READY, EST, AUX, COMMIT, FINISH, Numbered, Committed, holds}
 
 -- the words that messages are held in, and others that neither a turn nor a recording writes

@@ -9,7 +9,7 @@ use Rattle.wire.specs.declared.Message.{Message}
 use Rattle.delivery.specs.Delivery.{place_held, recorded}
 use Rattle.delivery.specs.laws.Frame.{InLayout, MarkWord}
 use Rattle.delivery.specs.laws.Held.{marks_recorded, commits_recorded}
-use Rattle.turn.specs.laws.Frame.{Kept, held, between, beyond}
+use Rattle.turn.proofs.laws.Frame.{Kept, held, between, beyond}
 use Rattle.held.specs.laws.Keeping.{kept_holding, count_back}
 
 -- what is held in s is held in t

@@ -1,5 +1,5 @@
 -- The array of outputs gives the exit of the records.
-use Rattle.exits.specs.laws.Now.{exit_stated}
+use Rattle.exits.proofs.laws.Now.{exit_stated}
 use Rattle.report.proofs.exit_now.Goals as goal
 
 pub returns : goal.returns

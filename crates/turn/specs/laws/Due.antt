@@ -29,8 +29,8 @@ use Rattle.votes.specs.laws.Told.{StartTold, Told, Among}
 use Rattle.votes.specs.laws.Votes.{vote_told}
 use Rattle.exits.specs.Exits.{Exit, no_exit}
 use Rattle.exits.specs.laws.Stated.{single_exit, outputs_exit}
-use Rattle.exits.specs.laws.Exits.{names_few}
-use Rattle.exits.specs.laws.Ways.{Way, first, second, third, none, way}
+use Rattle.exits.proofs.laws.Exits.{names_few}
+use Rattle.exits.proofs.laws.Ways.{Way, first, second, third, none, way}
 use Rattle.commits.specs.Commits.{commit_held, set_holders, set_leads, set_leader, set_of, leading_set}
 use Rattle.turn.specs.Due.{in_force_rule, or_set, commit_due, commit_of, commit_rule, send_rule, votes_rule, due}
 use Rattle.exits.specs.Exits.{exit_now}

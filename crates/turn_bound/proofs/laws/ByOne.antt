@@ -18,7 +18,7 @@ use Rattle.acts.specs.declared.Act.TheVariants.{Idle, InForce, Commit, Send, Ech
 use Rattle.turn.specs.laws.Told.{ActTold}
 use Rattle.turn.specs.Turn.{applied}
 use Rattle.turn.specs.Turn as turn
-use Rattle.turn.specs.laws.Frame.{Spared, applied_other}
+use Rattle.turn.proofs.laws.Frame.{Spared, applied_other}
 use Rattle.turn_bound.proofs.laws.Sums.{share_few, sum_grows, marks_add, sum_one}
 use Rattle.turn_bound.proofs.laws.Potential.{instance_part, potential}
 use Rattle.turn_bound.proofs.laws.Rounds.{Entry}

@@ -25,7 +25,7 @@ use Rattle.delivery.specs.laws.Kept.{in_layout_lem, Untouched, word_untouched, w
 use Rattle.delivery.specs.laws.Accepting.{accepting}
 use Rattle.delivery.specs.declared.Verdict.{Verdict}
 use Rattle.delivery.specs.declared.Verdict.TheVariants.{Refused, Accepted}
-use Rattle.turn.specs.laws.Marks.{Keeps}
+use Rattle.turn.proofs.laws.Marks.{Keeps}
 use Rattle.turn_bound.proofs.laws.Potential.{Grows, potential_grows}
 use Rattle.turn_bound.proofs.laws.Rounds.{still, orderly_kept}
 use Rattle.turn_bound.specs.TurnBound.{Terms, terms_of}

@@ -19,8 +19,8 @@ use Rattle.acts.specs.declared.Act.TheVariants.{Idle, InForce, Commit, Send, Ech
 use Rattle.turn.specs.laws.Told.{ActTold}
 use Rattle.turn.specs.Turn.{applied}
 use Rattle.turn.specs.Turn as turn
-use Rattle.turn.specs.laws.Frame.{Spared, Placed, told_placed, applied_other}
-use Rattle.turn.specs.laws.Marks.{Keeps, MarkWord, keeps_applied, finish_marked}
+use Rattle.turn.proofs.laws.Frame.{Spared, Placed, told_placed, applied_other}
+use Rattle.turn.proofs.laws.Marks.{Keeps, MarkWord, keeps_applied, finish_marked}
 use Rattle.turn_bound.proofs.laws.Sums.{count_rises, marks_add}
 use Rattle.turn_bound.proofs.laws.Potential.{potential, Grows, potential_grows}
 use Rattle.turn_bound.proofs.laws.Rounds.{Orderly}

@@ -8,7 +8,7 @@ use Rattle.quorum.specs.Total.{share, total, count, everyone}
 use Rattle.quorum.specs.laws.Total.{total_mono, count_le}
 use Rattle.records.specs.Layout.{flags_at, echo_sent_at, ready_sent_at, round_at, est_sent_at, aux_sent_at}
 use Rattle.records.specs.Words.{word}
-use Rattle.turn.specs.laws.Marks.{Keeps}
+use Rattle.turn.proofs.laws.Marks.{Keeps}
 use Rattle.turn_bound.proofs.laws.Sums.{share_few, share_grows, share_rises, sum_few, sum_grows, sum_rises, count_rises}
 
 -- instance i: ECHO sent, READY sent, the ESTs sent of 0 and 1 in 32 rounds, the AUXs sent in 32 rounds, and whether the vote has moved out of round 32

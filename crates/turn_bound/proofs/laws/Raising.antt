@@ -22,8 +22,8 @@ use Rattle.votes.specs.laws.Told.{Shown}
 use Rattle.turn.specs.laws.Told.{ActTold}
 use Rattle.turn.specs.Turn.{with_turn_counted, entered, move_decided, moved, applied}
 use Rattle.turn.specs.Turn as turn
-use Rattle.turn.specs.laws.Frame.{Spared, Placed, told_placed, length_counted, word_counted_other, length_decided, word_decided_other, word_entered_other, applied_other}
-use Rattle.turn.specs.laws.Marks.{MarkWord, keeps_applied, closed_marked, send_marked, commit_marked, echo_marked, ready_marked, relay_marked, aux_marked}
+use Rattle.turn.proofs.laws.Frame.{Spared, Placed, told_placed, length_counted, word_counted_other, length_decided, word_decided_other, word_entered_other, applied_other}
+use Rattle.turn.proofs.laws.Marks.{MarkWord, keeps_applied, closed_marked, send_marked, commit_marked, echo_marked, ready_marked, relay_marked, aux_marked}
 use Rattle.turn_bound.proofs.laws.Potential.{potential, Grows, Gain, flag, of_instance, echo, ready, est, aux, potential_rises}
 use Rattle.turn_bound.proofs.laws.Rounds.{Still, Entry, Change, still, relayed, entry, Orderly, orderly_kept, moved_out_kept, entry_gain}
 

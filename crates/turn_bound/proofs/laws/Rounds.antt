@@ -6,7 +6,7 @@ use Rattle.quorum.specs.Marks.{mark, with_mark}
 use Rattle.quorum.specs.laws.Marks.{mark_same, mark_came}
 use Rattle.records.specs.Layout.{round_at, est_sent_at, est_sent_mark, aux_sent_at}
 use Rattle.records.specs.Words.{word}
-use Rattle.turn.specs.laws.Marks.{Keeps}
+use Rattle.turn.proofs.laws.Marks.{Keeps}
 use Rattle.turn_bound.proofs.laws.Potential.{PartGain, est, moves_out}
 
 -- no round and no EST changes

@@ -17,7 +17,7 @@ use Rattle.wire.specs.declared.Message.TheVariants as message
 use Rattle.turn.specs.Due.{due}
 use Rattle.turn.specs.laws.Told.{ActTold}
 use Rattle.turn.specs.Turn.{move_outcome, outcome_of, applied, turn_outcome, turn_words}
-use Rattle.turn.specs.laws.Frame.{Placed, told_placed, setting, held, between, length_applied, applied_idle, applied_kept, applied_turns}
+use Rattle.turn.proofs.laws.Frame.{Placed, told_placed, setting, held, between, length_applied, applied_idle, applied_kept, applied_turns}
 use Rattle.turn.specs.laws.Admitting.{admitted_settings}
 use Rattle.turn.specs.laws.Turn.{Taken, Way, refused, taken, way}
 use Rattle.turn.specs.declared.Outcome.TheVariants as outcome

@@ -1,5 +1,5 @@
 -- The count, then the marks; nothing where the act is idle.
-use Rattle.turn.specs.laws.Applying.{apply_cases}
+use Rattle.turn.proofs.laws.Applying.{apply_cases}
 use Rattle.turn.proofs.apply.apply.Goals as goal
 
 pub returns-then-is_due : goal.returns-then-is_due

@@ -1,5 +1,5 @@
 -- One more than was stored.
-use Rattle.turn.specs.laws.Applying.{apply_cases}
+use Rattle.turn.proofs.laws.Applying.{apply_cases}
 use Rattle.turn.proofs.apply.count_turn.Goals as goal
 
 pub returns : goal.returns

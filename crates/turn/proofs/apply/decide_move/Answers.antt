@@ -1,5 +1,5 @@
 -- The decision, where the move takes one.
-use Rattle.turn.specs.laws.Applying.{apply_cases}
+use Rattle.turn.proofs.laws.Applying.{apply_cases}
 use Rattle.turn.proofs.apply.decide_move.Goals as goal
 
 pub returns-then-move_decides : goal.returns-then-move_decides

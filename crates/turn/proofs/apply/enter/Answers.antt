@@ -1,5 +1,5 @@
 -- The round, and its EST unless it is round 33.
-use Rattle.turn.specs.laws.Applying.{apply_cases}
+use Rattle.turn.proofs.laws.Applying.{apply_cases}
 use Rattle.turn.proofs.apply.enter.Goals as goal
 
 pub returns-then-r : goal.returns-then-r

@@ -1,5 +1,5 @@
 -- The marks of each act.
-use Rattle.turn.specs.laws.Applying.{mark_cases}
+use Rattle.turn.proofs.laws.Applying.{mark_cases}
 use Rattle.turn.proofs.apply.mark_act.Goals as goal
 
 pub returns-in-Idle : goal.returns-in-Idle

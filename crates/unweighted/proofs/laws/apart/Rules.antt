@@ -23,7 +23,7 @@ use Rattle.votes.specs.Votes.{running}
 use Rattle.votes.specs.Finishing.{finished}
 use Rattle.settings.specs.Versions.{finishing}
 use Rattle.exits.specs.Exits.{Exit}
-use Rattle.exits.specs.laws.Exits.{exit_agree}
+use Rattle.exits.proofs.laws.Exits.{exit_agree}
 use Rattle.commits.specs.Commits.{set_of}
 use Rattle.turn.specs.Due.{or_set, send_rule}
 use Rattle.unweighted.specs.Settings.{Settings}

@@ -19,7 +19,7 @@ use Rattle.session.specs.laws.Session.{is_state_lem}
 use Rattle.acts.specs.declared.Act.{Act}
 use Rattle.turn.specs.Due as weighted_due
 use Rattle.turn.specs.laws.Due.{due_told}
-use Rattle.turn.specs.laws.Frame.{Placed, told_placed}
+use Rattle.turn.proofs.laws.Frame.{Placed, told_placed}
 use Rattle.unweighted.specs.Settings.{Settings, valid_settings}
 use Rattle.unweighted.specs.Session.{settings_of, session_number, numbers_right, is_state}
 use Rattle.unweighted.specs.Due.{due}

@@ -25,7 +25,7 @@ use Rattle.unweighted.specs.Delivery.{first_noted, finish_settled, recorded}
 use Rattle.delivery.specs.laws.Frame.{InLayout}
 use Rattle.records.specs.Writing.{with_est, with_one_first, with_finish, with_decision}
 use Rattle.turn.specs.Turn.{with_turn_counted, entered, new_decision, move_decided, moved, done, applied}
-use Rattle.turn.specs.laws.Frame.{Placed}
+use Rattle.turn.proofs.laws.Frame.{Placed}
 use Rattle.unweighted.proofs.laws.Opening.{put_swap, store_put}
 use Rattle.unweighted.proofs.laws.apart.Records.{word_apart, coin_apart, decided_apart}
 use Rattle.unweighted.proofs.laws.apart.Rules.{one_alone_apart, finish_decides_apart}

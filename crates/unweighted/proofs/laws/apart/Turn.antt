@@ -10,7 +10,7 @@ use Rattle.records.specs.Records.{closed}
 use Rattle.acts.specs.declared.Act.{Act}
 use Rattle.acts.specs.declared.Act.TheVariants as act
 use Rattle.turn.specs.Turn.{move_outcome, outcome_of, applied}
-use Rattle.turn.specs.laws.Frame.{Placed}
+use Rattle.turn.proofs.laws.Frame.{Placed}
 use Rattle.turn.specs.declared.Outcome.{Outcome}
 use Rattle.turn.specs.declared.Outcome.TheVariants as outcome
 use Rattle.unweighted.specs.Settings.{Settings}

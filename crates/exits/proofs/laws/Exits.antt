@@ -21,7 +21,7 @@ use Rattle.broadcasts.specs.declared.Output.TheVariants.{Value, Nothing}
 use Rattle.exits.specs.Exits.{Exit, no_exit, naming, has_value, value_in, every_broadcast, with_output, size_s, exit1_at, exit2_at, exit3_full, exit3, exit_of, votes_done}
 use Rattle.exits.specs.laws.Stated.{single_exit, outputs_exit}
 use Rattle.exits.specs.laws.Rising.{Rising, outputs_rising, outputs_few, outputs_agree}
-use Rattle.exits.specs.laws.Ways.{Way, first, second, third, none, way}
+use Rattle.exits.proofs.laws.Ways.{Way, first, second, third, none, way}
 
 pub number_clash : (x y : Exit) → x ≡ y → (x.number ≡ y.number → ⊥) → ⊥
 number_clash x y e f = f (ap (λ (z : Exit). z.number) e)

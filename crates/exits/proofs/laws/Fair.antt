@@ -13,10 +13,10 @@ use Rattle.quorum.specs.Whole.{whole_of}
 use Rattle.quorum.specs.laws.Total.{Member, total_member, total_meet, total_mono, total_not}
 use Rattle.broadcasts.specs.declared.Output.TheVariants.{Value}
 use Rattle.exits.specs.laws.Rising.{outputs_has}
-use Rattle.exits.specs.laws.Ways.{First, Second}
+use Rattle.exits.proofs.laws.Ways.{First, Second}
 use Rattle.exits.specs.Exits.{value_in, outputs_of_s}
 use Rattle.exits.specs.Standing.{Standing, exit_at}
-use Rattle.exits.specs.laws.Agree.{holding, both, Done, Full, Naming, by1, by2, by3, naming_of, has_value_lem, value_has, first_many, second_more, done_size, full_given, no_majority}
+use Rattle.exits.proofs.laws.Agree.{holding, both, Done, Full, Naming, by1, by2, by3, naming_of, has_value_lem, value_has, first_many, second_more, done_size, full_given, no_majority}
 
 -- a good broadcast with output v
 pub record Fair (g : Settings) (good : ℕ → Bool) (s : Standing) (v : ℕ) : Type 0 where

@@ -18,7 +18,7 @@ use Rattle.acts.specs.declared.View.{View}
 use Rattle.votes.specs.Votes.{estimate}
 use Rattle.turn.specs.Turn.{with_turn_counted, entered, new_decision, move_decided, moved, applied}
 use Rattle.turn.specs.Turn as turn
-use Rattle.turn.specs.laws.Frame.{Placed, length_counted, word_counted_other}
+use Rattle.turn.proofs.laws.Frame.{Placed, length_counted, word_counted_other}
 
 -- every mark of word k in s is one in t
 abbrev pub Keeps : ℕ → List ℕ → List ℕ → Type 0

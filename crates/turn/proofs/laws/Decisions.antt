@@ -18,7 +18,7 @@ use Rattle.acts.specs.declared.View.{View}
 use Rattle.votes.specs.Votes.{estimate}
 use Rattle.turn.specs.Turn.{with_turn_counted, entered, new_decision, move_decided, moved, applied}
 use Rattle.turn.specs.Turn as turn
-use Rattle.turn.specs.laws.Frame.{Placed, Spared, length_counted, word_counted_other, word_entered_other, applied_other}
+use Rattle.turn.proofs.laws.Frame.{Placed, Spared, length_counted, word_counted_other, word_entered_other, applied_other}
 
 -- the word of the votes decided 0, or of those decided 1
 abbrev pub decided_at : Bool → ℕ

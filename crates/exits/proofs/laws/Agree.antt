@@ -25,8 +25,8 @@ use Rattle.exits.specs.Exits.{Exit, no_exit, has_value, value_in, with_output, s
 use Rattle.exits.specs.Standing.{Standing, exit_at}
 use Rattle.exits.specs.laws.Stated.{single_exit, outputs_exit}
 use Rattle.exits.specs.laws.Rising.{outputs_agree}
-use Rattle.exits.specs.laws.Ways.{First, Second, Way, first, second, third, none, way}
-use Rattle.exits.specs.laws.Exits.{given}
+use Rattle.exits.proofs.laws.Ways.{First, Second, Way, first, second, third, none, way}
+use Rattle.exits.proofs.laws.Exits.{given}
 
 -- no output and no decision of one contradicts one of the other
 pub record Compatible (n : ℕ) (s t : Standing) : Type 0 where

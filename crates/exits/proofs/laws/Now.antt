@@ -12,7 +12,7 @@ use Rattle.broadcasts.specs.laws.Broadcasts.{outputs_each}
 use Rattle.exits.specs.declared.Named.{Named}
 use Rattle.exits.specs.Exits.{exit_of, exit_now}
 use Rattle.exits.specs.Stated.{Stated}
-use Rattle.exits.specs.laws.Exits.{exit_agree}
+use Rattle.exits.proofs.laws.Exits.{exit_agree}
 
 -- the array says the outputs of 1 to n, and no others are read; words 138 and 139 are the marks of the votes decided 0 and 1
 pub exit_stated : (g : Settings) (s : List ℕ) (outputs : ℕ) (values : List ℕ) (w0 w1 : ℕ) (r : Named) → Ruled g → Outputs g s g.n outputs values → w0 ≡ word s 138 → w1 ≡ word s 139 → Stated r (exit_of g (output_at outputs values) (mark w0) (mark w1)) → Stated r (exit_now g s)

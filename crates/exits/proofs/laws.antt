@@ -1,0 +1,9 @@
+pub mod Searched
+pub mod StatedExits
+pub mod Ways
+pub mod Exits
+pub mod Agree
+pub mod Fair
+pub mod Now
+pub mod Exactly
+pub mod Table

@@ -1,0 +1,4 @@
+pub mod Applying
+pub mod Frame
+pub mod Decisions
+pub mod Marks
