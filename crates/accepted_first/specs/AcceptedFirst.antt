@@ -1,7 +1,6 @@
 -- An AUX carries the value that was accepted first, as a claim about whole lists of calls (calls/Machine), at every concentrator: about what was
 -- accepted at the moments of its session, not about the mark that the state has of it. Restores and recordings are among the calls (PROTOCOL 16.20).
-use Rattle.std.specs.Prelude.{ℕ, ◌-◌, ◌≤◌, Bool, true, false, cond, ◌&&◌, ◌||◌, not, List, [], ◌∷◌, ◌≡◌}
-use Rattle.std.proofs.Math.Option.{Option, none, some}
+use Rattle.std.specs.Prelude.{ℕ, ◌-◌, ◌≤◌, Bool, true, false, cond, ◌&&◌, ◌||◌, not, List, [], ◌∷◌, ◌≡◌, Option, Some, None, Ok}
 use Rattle.settings.specs.declared.Settings.{Settings}
 use Rattle.votes.specs.Votes.{accepted}
 use Rattle.session.specs.Session.{settings_of}
@@ -21,8 +20,8 @@ another w (u ∷ us) = w ∷ u ∷ us
 
 -- .. after a line of a journal; none where it cannot be applied
 abbrev pub onward : Option Point → List (List ℕ) → List (List ℕ)
-onward none us = []
-onward (some x) us = x.words ∷ us
+onward None us = []
+onward (Some x) us = x.words ∷ us
 
 -- .. after each of some further lines
 unfoldable pub after_lines : List (List ℕ) → List (List ℕ) → List (List ℕ)
@@ -68,7 +67,7 @@ pub record First (g : Settings) (us : List (List ℕ)) (i r b : ℕ) : Type 0 wh
 -- line, and sends an AUX, sends the value accepted first in its vote and round
 pub record Carrying (v w : List ℕ) (us : List (List ℕ)) : Type 0 where
   pub current : v ≡ w
-  pub first : (room line i r b : ℕ) → turned_outcome w room line ≡ Sent (Aux i r b) → First (settings_of w) (w ∷ us) i r b
+  pub first : (room line i r b : ℕ) → turned_outcome w room line ≡ Ok (Sent (Aux i r b)) → First (settings_of w) (w ∷ us) i r b
 
 -- for every buffer, whatever it holds, every list of calls and every concentrator at which a session was opened or restored
 unfoldable pub AcceptedFirst : Type 0

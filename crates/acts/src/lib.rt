@@ -3,15 +3,17 @@
 
 ghost use Rattle.std.specs.Prelude.{◌≡◌};
 ghost use Rattle.acts.specs.Acts.{is_due};
+ghost use Rattle.acts.specs.First.{FirstOf};
 
 // The values that the counted AUXs of a round carry.
-#[derive(Clone, Copy)]
+#[derive(Clone, Copy, PartialEq, Eq)]
 pub enum View {
     Only(u8),
     Both,
 }
 
-#[derive(Clone, Copy)]
+// An idle turn is an answer of its own (01, Turns act), so it is a variant and no None.
+#[derive(Clone, Copy, PartialEq, Eq)]
 pub enum Act {
     Idle,
     InForce,
@@ -36,17 +38,19 @@ pub enum Act {
 pub fn is_due(a: Act) -> bool
     ensures { result ≡ is_due a }
 {
-    match a {
-        Act::Idle => false,
-        Act::InForce => true,
-        Act::Commit(_) => true,
-        Act::Send(_) => true,
-        Act::Echo(_, _) => true,
-        Act::Ready(_, _) => true,
-        Act::Start(_, _) => true,
-        Act::Relay(_, _, _) => true,
-        Act::Aux(_, _, _) => true,
-        Act::Move(_, _, _) => true,
-        Act::Finish(_, _) => true,
+    a != Act::Idle
+}
+
+// The first that is due of what `step` gives at 1 to n.
+pub fn first_due<F: Fn(u8) -> Act>(n: u8, step: F) -> Act
+    requires { F.IsAlwaysCallable step }
+    ensures { FirstOf (F.post step) n result }
+{
+    for k in 0..n {
+        let a = step(k + 1);
+        if is_due(a) {
+            return a;
+        }
     }
+    Act::Idle
 }

@@ -1,8 +1,7 @@
 -- For the author of a firmware: after every list of calls that meets the conditions, an opened honest one's journal, cut at any byte behind its
 -- first line, is taken, whatever the 2,048 words of the buffer are, and gives back the state after its last complete line and the message of
 -- that line (PROTOCOL 16.12).
-use Rattle.std.specs.Prelude.{ℕ, ◌≤◌, Bool, List, [], ◌∷◌, ◌≡◌, length, take}
-use Rattle.std.proofs.Math.Option.{none, some, Option}
+use Rattle.std.specs.Prelude.{ℕ, ◌≤◌, Bool, List, [], ◌∷◌, ◌≡◌, length, take, Option, Some, None, Ok}
 use Rattle.records.specs.Layout.{state_words}
 use Rattle.turn.specs.Turn.{sent_length, turn_bytes}
 use Rattle.journal.specs.Journal.{turned_outcome}
@@ -11,18 +10,17 @@ use Rattle.calls.specs.Machine.{Machine, Call, opening, delivery, turn, report, 
 use Rattle.agreement.specs.Journals.{Moment, Journal, bytes, complete, journal}
 use Rattle.agreement.specs.DemandThree.{Opened, Conditions}
 use Rattle.calls.specs.Engine.{engine, Agreed, Bytes, TurnLent, SendsBytes}
-use Rattle.restore.specs.declared.Restored.TheVariants as answer
 
 module _ (M : Machine) (start : ℕ → M.Words) where
   -- the last call of a moment, where it is a turn: the words before it, and what it was lent
   abbrev pub last_turn : Moment M → Option (M.Words × M.Lent)
-  last_turn [] = none
-  last_turn (opening p o ∷ cs) = none
-  last_turn (delivery p m b ∷ cs) = none
-  last_turn (turn p l ∷ cs) = some (words M start cs p, l)
-  last_turn (report p r ∷ cs) = none
-  last_turn (restore p v r ∷ cs) = none
-  last_turn (recording p x ∷ cs) = none
+  last_turn [] = None
+  last_turn (opening p o ∷ cs) = None
+  last_turn (delivery p m b ∷ cs) = None
+  last_turn (turn p l ∷ cs) = Some (words M start cs p, l)
+  last_turn (report p r ∷ cs) = None
+  last_turn (restore p v r ∷ cs) = None
+  last_turn (recording p x ∷ cs) = None
 
 -- a turn as the last call: the words before it
 abbrev pub Last : Type 0
@@ -30,23 +28,23 @@ Last = Option (List ℕ × TurnLent)
 
 -- of a line's turn, if it is one: the length of the message that it sent, 0 for none, ..
 abbrev pub sent_again : Last → ℕ
-sent_again none = 0
-sent_again (some (w, l)) = sent_length (turned_outcome w (length l.message) l.line)
+sent_again None = 0
+sent_again (Some (w, l)) = sent_length (turned_outcome w (length l.message) l.line)
 
 -- .. the lent bytes with this message, ..
 abbrev pub message_again : Last → List ℕ → List ℕ
-message_again none lent = lent
-message_again (some (w, l)) lent = turn_bytes w lent
+message_again None lent = lent
+message_again (Some (w, l)) lent = turn_bytes w lent
 
 -- .. and that it sent b
 abbrev pub SentLast : Last → Bytes → Type 0
-SentLast none b = ⊥
-SentLast (some (w, l)) b = SendsBytes w l b
+SentLast None b = ⊥
+SentLast (Some (w, l)) b = SendsBytes w l b
 
 -- a restore of `text` onto v, lent `lent` for a message, gives the state of p at d, the moment of a line, and the message of that line; `lines`
 -- are the bytes of the complete lines
 pub record Gives (start : ℕ → List ℕ) (p : ℕ) (d : Moment engine) (lines text v lent : List ℕ) : Type 0 where
-  pub answer : restore_answer v text (length lent) ≡ answer.Given (sent_again (last_turn engine start d)) (length lines)
+  pub answer : restore_answer v text (length lent) ≡ Ok (record { message = sent_again (last_turn engine start d); bytes = length lines })
   pub words : restored_words v text (length lent) ≡ words engine start d p
   pub message : restored_bytes (length v) text lent ≡ message_again (last_turn engine start d) lent
   -- its bytes are those that were sent

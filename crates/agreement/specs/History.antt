@@ -1,11 +1,10 @@
 -- Histories of what the honest concentrators did, and which of them are lawful: each act has its evidence before it.
 -- Only ECHO for each concentrator and instance, and AUX for each concentrator, instance and round, are one value, and only those that left: what
 -- no honest one got binds nobody. All acts are in the history.
-use Rattle.std.specs.Prelude.{ℕ, suc, ◌+◌, ◌*◌, ◌≤◌, true, List, [], ◌∷◌, ◌⊎◌, ◌≡◌}
+use Rattle.std.specs.Prelude.{ℕ, suc, ◌+◌, ◌*◌, ◌≤◌, true, List, [], ◌∷◌, ◌⊎◌, ◌≡◌, Some}
 use Rattle.acts.specs.declared.View.{View}
 use Rattle.acts.specs.declared.View.TheVariants.{Only, Both}
 use Rattle.votes.specs.Votes.{estimate, coin_value}
-use Rattle.broadcasts.specs.declared.Output.TheVariants.{Value}
 use Rattle.exits.specs.Standing.{Standing, exit_at}
 use Rattle.settings.specs.declared.Settings.{Settings}
 use Rattle.agreement.specs.Evidence.{World, whole, Honest, Backed}
@@ -96,7 +95,7 @@ module _ (W : World) where
 
   -- what stands at p after the history h: each output and each decision has its cause there
   pub record Stands (h : History) (p : ℕ) (s : Standing) : Type 0 where
-    pub outs : (i v : ℕ) → 1 ≤ i → i ≤ W.settings.n → s.out i ≡ Value v → Delivers h i v
+    pub outs : (i v : ℕ) → 1 ≤ i → i ≤ W.settings.n → s.out i ≡ Some v → Delivers h i v
     pub decs : (i b : ℕ) → 1 ≤ i → i ≤ W.settings.n → Decision s i b → Decided h p i b
 
   -- the exits name X at p

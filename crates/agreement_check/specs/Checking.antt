@@ -1,17 +1,19 @@
 -- A list of calls checked by computing it: whether each call meets the conditions of agreement (PROTOCOL 16.4 to 16.7) after the calls before it.
 -- The check is sound (proofs/laws/Tracking.antt); it may reject a list that meets them. A restore is taken only at an opened one whose journal
 -- allows it; whether it is accepted need not be computed (agreement, EngineRestores).
-use Rattle.std.specs.Prelude.{ℕ, Bool, true, false, ◌&&◌, ◌||◌, not, cond, List, [], ◌∷◌, ◌++◌, eqb, leb, length, take}
+use Rattle.std.specs.Prelude.{ℕ, Bool, true, false, ◌&&◌, ◌||◌, not, cond, List, [], ◌∷◌, ◌++◌, eqb, leb, length, take, Result, Ok, Err}
 use Rattle.records.specs.Layout.{state_words}
 use Rattle.opening.specs.Opening.{open_words}
 use Rattle.wire.specs.Message.{length_of}
 use Rattle.turn.specs.declared.Outcome.{Outcome}
 use Rattle.turn.specs.declared.Outcome.TheVariants as outcome
-use Rattle.journal.specs.Journal.{open_number, turned_outcome, turned_message}
+use Rattle.journal.specs.Journal.{open_line_answer, turned_outcome, turned_message}
 use Rattle.restore.specs.Restoring.{MESSAGE_BYTES}
 use Rattle.calls.specs.Machine.{Call, opening, delivery, turn, report, restore, recording}
 use Rattle.calls.specs.Engine.{engine, OpeningGiven, Bytes, TurnLent, BitGiven, RestoreLent, Agreed, agreed}
 use Rattle.agreement_check.specs.Bits.{box_bit}
+use Rattle.std.specs.Result.{is_ok}
+use Rattle.settings.specs.declared.refusal.Refusal.{Refusal}
 
 -- a line of a journal: its bytes, the words after it, and the messages that its call sent, one or none
 pub record Line : Type 0 where
@@ -96,12 +98,12 @@ keeps [] p ls = true
 keeps (g ∷ gs) p ls = (not (eqb p g.from) || was_sent ls g.bytes) && keeps gs p ls
 
 -- what a turn with this outcome sent, having left the bytes lent for a message as b
-unfoldable pub sent_in : Outcome → List ℕ → List (List ℕ)
-sent_in (outcome.Refused k) b = []
-sent_in outcome.Idle b = []
-sent_in (outcome.Sent m) b = take (length_of m) b ∷ []
-sent_in outcome.MovedOut b = []
-sent_in outcome.InForce b = []
+unfoldable pub sent_in : Result Outcome Refusal → List ℕ → List (List ℕ)
+sent_in (Err k) b = []
+sent_in (Ok outcome.Idle) b = []
+sent_in (Ok (outcome.Sent m)) b = take (length_of m) b ∷ []
+sent_in (Ok outcome.MovedOut) b = []
+sent_in (Ok outcome.InForce) b = []
 
 unfoldable pub sent_by : List ℕ → TurnLent → List (List ℕ)
 sent_by w l = sent_in (turned_outcome w (length l.message) l.line) (turned_message w l.message l.line)
@@ -120,7 +122,7 @@ same_session a b =
 
 -- an opening of 2,048 words is accepted
 unfoldable pub opens : OpeningGiven → Bool
-opens o = eqb (open_number state_words o.given o.line) 0
+opens o = is_ok (open_line_answer state_words o.given o.line)
 
 -- the journal after an accepted opening, and after a delivery, a turn or a recording at the words w
 unfoldable pub first_lines : OpeningGiven → List Line

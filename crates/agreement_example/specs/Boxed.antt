@@ -1,6 +1,6 @@
 -- The session of specs/Weighted.antt with boxed coins: the openings give coin words of 0, and both honest ones record the bits that the box
 -- tells, which are those that were printed there. Until then their votes wait: in votes 1 and 3 a turn of each is idle, in vote 2 another.
-use Rattle.std.specs.Prelude.{ℕ, ◌+◌, ◌^◌, List, [], ◌∷◌, ◌≡◌}
+use Rattle.std.specs.Prelude.{ℕ, ◌+◌, ◌^◌, List, [], ◌∷◌, ◌≡◌, Ok}
 use Rattle.wire.specs.declared.Message.TheVariants.{Est}
 use Rattle.turn.specs.declared.Outcome.TheVariants.{Idle, Sent}
 use Rattle.journal.specs.Journal.{LINE_BYTES, turned_outcome}
@@ -45,6 +45,6 @@ at_first cs = words_of (run session first_two input_five cs).states 1
 
 -- a turn of 1 before it has the bit, however often it is taken, and after
 pub record Waits : Type 0 where
-  pub before : turned_outcome (at_first (with_auxes openings)) 140 LINE_BYTES ≡ Idle
-  pub again : turned_outcome (at_first waiting) 140 LINE_BYTES ≡ Idle
-  pub after : turned_outcome (at_first told) 140 LINE_BYTES ≡ Sent (Est 1 2 1)
+  pub before : turned_outcome (at_first (with_auxes openings)) 140 LINE_BYTES ≡ Ok Idle
+  pub again : turned_outcome (at_first waiting) 140 LINE_BYTES ≡ Ok Idle
+  pub after : turned_outcome (at_first told) 140 LINE_BYTES ≡ Ok (Sent (Est 1 2 1))

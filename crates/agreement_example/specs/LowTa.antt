@@ -2,10 +2,9 @@
 -- as 0. Both put in 5; 3 lies. So liars weigh more than ta, but not more than ts.
 -- The liar tells 6 to 1 and 8 to 2, in its SEND, ECHO and READY, so that its broadcast has two outputs; liars of up to ta cannot bring that about.
 -- Broadcasts 1 and 2 have the output 5, which is Exit 1 at both.
-use Rattle.std.specs.Prelude.{ℕ, ◌<◌, List, [], ◌∷◌, ◌≡◌}
+use Rattle.std.specs.Prelude.{ℕ, ◌<◌, List, [], ◌∷◌, ◌≡◌, Some}
 use Rattle.records.specs.Words.{blank}
 use Rattle.broadcasts.specs.Broadcasts.{output}
-use Rattle.broadcasts.specs.declared.Output.TheVariants.{Value}
 use Rattle.wire.specs.declared.Message.{Message}
 use Rattle.wire.specs.declared.Message.TheVariants.{Send, Echo, Ready, Commit}
 use Rattle.settings.specs.Settings.{UNNAMED}
@@ -53,8 +52,8 @@ pub record OverTa (start : ℕ → List ℕ) (S : Agreed) (cs : List (Call engin
   pub supposed : Supposed start S first_two input_five cs
   pub shown : (p : ℕ) → Honest S.settings first_two p → Shown start cs p 1 (5 ∷ [])
   -- the two outputs
-  pub at_first : output S.settings (words engine start cs 1) 3 ≡ Value 6
-  pub at_second : output S.settings (words engine start cs 2) 3 ≡ Value 8
+  pub at_first : output S.settings (words engine start cs 1) 3 ≡ Some 6
+  pub at_second : output S.settings (words engine start cs 2) 3 ≡ Some 8
 
 abbrev pub LowTaMeet : Type 0
 LowTaMeet = FromAny session first_two (λ start. OverTa start session low_ta_calls)

@@ -4,4 +4,3 @@ pub mod Cases
 pub mod Outputs
 pub mod Storing
 pub mod Due
-pub mod Rules

@@ -3,26 +3,17 @@
 
 ghost use Rattle.std.specs.Prelude.{◌≡◌, ◌+◌, ◌≤◌, leb};
 ghost use Rattle.settings.specs.laws.Counting.{counting};
-ghost use Rattle.acts.specs.Acts.{first_act};
 ghost use Rattle.records.specs.Records.{ready_held, ready_value, echo_held, echo_value};
 ghost use Rattle.records.specs.Words.{word, marked};
 ghost use Rattle.broadcasts.specs.laws.Leading.{held_count};
 ghost use Rattle.broadcasts.specs.Leading.{holders, leads, leading};
 ghost use Rattle.broadcasts.specs.Broadcasts.{output, echo_act, ready_due, ready_act, echo_rule, ready_rule};
-ghost use Rattle.broadcasts.specs.Outputs.{output_at, Outputs};
+ghost use Rattle.broadcasts.specs.Outputs.{outputs_in, Outputs};
 ghost use Rattle.broadcasts.specs.laws.Outputs.{Stored};
-ghost use Rattle.broadcasts.specs.laws.Rules.{act_of};
 
 use acts::Act;
 use records::layout;
 use settings::Settings;
-
-// A value that enough senders hold, if there is one.
-#[derive(Clone, Copy)]
-pub enum Output {
-    Value(u64),
-    Nothing,
-}
 
 // Whether senders of weight q hold v: the marks of those that do are collected, then weighed at once. Those held have the weight q
 // together, so nothing is weighed where all of them hold v. n and the weights come as numbers, which stay in registers.
@@ -52,18 +43,17 @@ fn leads(s: &[u64], marks: u16, values: u16, n: u8, weights: u64, q: u64, p: u8)
 }
 
 // A value that senders of weight q hold: of several, the lowest sender's. The senders are looked at one by one.
-fn leading_of(s: &[u64], marks: u16, values: u16, n: u8, weights: u64, q: u64) -> Output
+fn leading_of(s: &[u64], marks: u16, values: u16, n: u8, weights: u64, q: u64) -> Option<u64>
     requires { q ≤ held_count (counting n weights) s.now marks }
     ensures { result ≡ leading (counting n weights) (λ k. marked s.now marks k) (λ k. word s.now (values + k)) q }
 {
-    let mut p: u8 = 0;
-    while p < n {
-        p += 1;
+    for k in 0..n {
+        let p = k + 1;
         if leads(s, marks, values, n, weights, q, p) {
-            return Output::Value(records::word(s, values as usize + p as usize));
+            return Some(records::word(s, values as usize + p as usize));
         }
     }
-    Output::Nothing
+    None
 }
 
 // The weight of the senders 1 to n that have their mark in word marks.
@@ -74,79 +64,88 @@ fn held_count(s: &[u64], marks: u16, n: u8, weights: u64) -> u64
 }
 
 // The READYs of instance i: a value that senders of weight q hold. Where less is held, nobody's value is looked at.
-fn leading_ready(s: &[u64], g: Settings, q: u64, i: u8) -> Output
+fn leading_ready(s: &[u64], g: Settings, q: u64, i: u8) -> Option<u64>
     ensures { result ≡ leading g (ready_held s.now i) (ready_value s.now i) q }
 {
     let marks = layout::READY_MARKS as u16 + i as u16;
     let values = layout::READY_VALUES as u16 + 16 * i as u16;
     if held_count(s, marks, g.n, g.weights) < q {
-        return Output::Nothing;
+        return None;
     }
     leading_of(s, marks, values, g.n, g.weights, q)
 }
 
 // The ECHOs of instance i: a value that senders of weight q hold. As one function with `leading_ready`, over the two places, it would not be
 // compiled into its callers, which ask for nothing more than the weight most of the time (docs/PERFORMANCE.md).
-fn leading_echo(s: &[u64], g: Settings, q: u64, i: u8) -> Output
+fn leading_echo(s: &[u64], g: Settings, q: u64, i: u8) -> Option<u64>
     ensures { result ≡ leading g (echo_held s.now i) (echo_value s.now i) q }
 {
     let marks = layout::ECHO_MARKS as u16 + i as u16;
     let values = layout::ECHO_VALUES as u16 + 16 * i as u16;
     if held_count(s, marks, g.n, g.weights) < q {
-        return Output::Nothing;
+        return None;
     }
     leading_of(s, marks, values, g.n, g.weights, q)
 }
 
 // The output of broadcast i.
-pub fn output_of(s: &[u64], g: Settings, i: u8) -> Output
+pub fn output_of(s: &[u64], g: Settings, i: u8) -> Option<u64>
     ensures { result ≡ output g s.now i }
 {
     leading_ready(s, g, g.quorum(), i)
 }
 
-// Broadcast i has output o: its mark in the answer, its value at place i − 1.
-fn store_output(outputs: u64, values: &mut [u64; 16], i: u8, o: Output) -> u64
-    requires { 1 ≤ i }
-    ensures { Stored outputs values.old i o result values.new }
-{
-    let Output::Value(v) = o else {
-        return outputs;
-    };
-    records::put(values, i as usize - 1, v);
-    quorum::with_mark(outputs, i as u64)
+// The outputs of the broadcasts 1 to n, worked out once: mark i is set where broadcast i has output, whose value stands at place i − 1.
+#[derive(Clone, Copy)]
+pub struct OutputTable {
+    pub marks: u64,
+    pub values: [u64; 16],
 }
 
-// The outputs of the broadcasts 1 to n: mark i of the answer where broadcast i has output, and its value at place i − 1 of values.
-pub fn outputs(s: &[u64], g: Settings, values: &mut [u64; 16]) -> u64
-    ensures { Outputs g s.now g.n result values.new }
-{
-    let n = g.n;
-    *values = [0u64; 16];
-    let mut outputs: u64 = 0;
-    let mut i: u8 = 0;
-    while i < n {
-        i += 1;
-        let o = output_of(s, g, i);
-        outputs = store_output(outputs, values, i, o);
+impl OutputTable {
+    // Broadcast i has output o.
+    fn store(&mut self, i: u8, o: Option<u64>)
+        requires { 1 ≤ i }
+        ensures { Stored self.old.marks self.old.values i o self.new.marks self.new.values }
+    {
+        let Some(v) = o else {
+            return;
+        };
+        records::put(&mut self.values, i as usize - 1, v);
+        self.marks = quorum::with_mark(self.marks, i as u64);
     }
-    outputs
-}
 
-// What the marks and the values say of broadcast i.
-pub fn output_at(outputs: u64, values: &[u64], i: u8) -> Output
-    ensures { result ≡ output_at outputs values.now i }
-{
-    if i < 1 {
-        return Output::Nothing;
+    // The outputs of the broadcasts of a state.
+    pub fn of(s: &[u64], g: Settings) -> OutputTable
+        ensures { Outputs g s.now g.n result.marks result.values }
+    {
+        let mut all = OutputTable {
+            marks: 0,
+            values: [0u64; 16],
+        };
+        for k in 0..g.n {
+            let i = k + 1;
+            let o = output_of(s, g, i);
+            all.store(i, o);
+        }
+        all
     }
-    if 16 < i {
-        return Output::Nothing;
+
+    // The output of broadcast i.
+    pub fn at(&self, i: u8) -> Option<u64>
+        ensures { result ≡ outputs_in self.now i }
+    {
+        if i < 1 {
+            return None;
+        }
+        if 16 < i {
+            return None;
+        }
+        if quorum::mark(self.marks, i as u64) {
+            return Some(records::word(&self.values, i as usize - 1));
+        }
+        None
     }
-    if quorum::mark(outputs, i as u64) {
-        return Output::Value(records::word(values, i as usize - 1));
-    }
-    Output::Nothing
 }
 
 // The ECHO of instance i, where it is due.
@@ -163,13 +162,13 @@ pub fn echo_act(s: &[u64], i: u8) -> Act
 }
 
 // The value of the READY of instance i.
-fn ready_due(s: &[u64], g: Settings, i: u8) -> Output
+fn ready_due(s: &[u64], g: Settings, i: u8) -> Option<u64>
     ensures { result ≡ ready_due g s.now i }
 {
     let o = leading_echo(s, g, g.quorum(), i);
     match o {
-        Output::Value(v) => Output::Value(v),
-        Output::Nothing => leading_ready(s, g, g.repeat(), i),
+        Some(v) => Some(v),
+        None => leading_ready(s, g, g.repeat(), i),
     }
 }
 
@@ -182,47 +181,21 @@ pub fn ready_act(s: &[u64], g: Settings, i: u8) -> Act
     }
     let o = ready_due(s, g, i);
     match o {
-        Output::Value(v) => Act::Ready(i, v),
-        Output::Nothing => Act::Idle,
+        Some(v) => Act::Ready(i, v),
+        None => Act::Idle,
     }
-}
-
-// The READY of instance i where readies are asked for, and its ECHO where not, if it is due.
-fn act_of(s: &[u64], g: Settings, readies: bool, i: u8) -> Act
-    ensures { result ≡ act_of g s.now readies i }
-{
-    if readies {
-        return ready_act(s, g, i);
-    }
-    echo_act(s, i)
-}
-
-// The first that is due of the instances 1 to n.
-fn first_due(s: &[u64], g: Settings, readies: bool) -> Act
-    ensures { result ≡ first_act (act_of g s.now readies) g.n }
-{
-    let n = g.n;
-    let mut i: u8 = 0;
-    while i < n {
-        i += 1;
-        let a = act_of(s, g, readies, i);
-        if acts::is_due(a) {
-            return a;
-        }
-    }
-    Act::Idle
 }
 
 // Rule 4: the ECHO that is due.
 pub fn echo_rule(s: &[u64], g: Settings) -> Act
     ensures { result ≡ echo_rule g s.now }
 {
-    first_due(s, g, false)
+    acts::first_due(g.n, |i| echo_act(s, i))
 }
 
 // Rule 5: the READY that is due.
 pub fn ready_rule(s: &[u64], g: Settings) -> Act
     ensures { result ≡ ready_rule g s.now }
 {
-    first_due(s, g, true)
+    acts::first_due(g.n, |i| ready_act(s, g, i))
 }

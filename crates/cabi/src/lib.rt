@@ -13,7 +13,7 @@ ghost use Rattle.coin_box.specs.Box.{box_open_answer, box_opened, request_reply,
 ghost use Rattle.report.specs.Report.{report_answer, report_named, report_in_force};
 ghost use Rattle.restore.specs.Restoring.{restore_answer, restored_words, restored_bytes};
 ghost use Rattle.turn.specs.Turn.{sent_length, turn_outcome, turn_words};
-ghost use Rattle.cabi.specs.Answers.{entry_number, outcome_number, figures_number, report_number};
+ghost use Rattle.cabi.specs.Answers.{taken_number, entry_number, outcome_number, figures_number, report_number};
 ghost use Rattle.cabi.specs.Restored.{restored_number};
 ghost use Rattle.cabi.specs.Replies.{bit_value, reply_number};
 ghost use Rattle.cabi.specs.Starts.{start_number};
@@ -21,13 +21,11 @@ ghost use Rattle.cabi.specs.Conversions.{conversion_number};
 ghost use Rattle.cabi.specs.laws.Cases.{line_length, message_length};
 ghost use Rattle.cabi.specs.laws.Starts.{minute_of};
 
-use calendar::Start;
-use coin_box::Reply;
-use delivery_csv::Conversion;
-use journal::Entry;
-use report::{Answer, Figures};
-use restore::Restored;
-use settings::refusal;
+use delivery_csv::ConversionError;
+use opening::Arguments;
+use report::Figures;
+use restore::{RestoreError, Restored};
+use settings::Refusal;
 use turn::Outcome;
 
 // What the part of an answer is multiplied by that starts at bit 8, ..
@@ -55,17 +53,17 @@ const IN_FORCE: u64 = 768;
 // In bits 8 to 15: the coin box told a bit.
 const TOLD: u64 = 256;
 
-fn entry_number(e: Entry) -> u64
+fn entry_number(e: Result<u64, Refusal>) -> u64
     requires { line_length e ≤ 512 }
     ensures { result ≡ entry_number e }
 {
     match e {
-        Entry::Refused(k) => k,
-        Entry::Line(l) => BIT_16 * l,
+        Err(k) => u64::from(k),
+        Ok(l) => BIT_16 * l,
     }
 }
 
-// Opens a session in the lent words; its line of the journal stands at the front of the last lent bytes.
+// Opens a session in the lent words; its line of the journal stands at the front of the last lent bytes. C gives the arguments one by one.
 pub fn pack_open(
     state: &mut [u64],
     version: u64,
@@ -84,9 +82,19 @@ pub fn pack_open(
     ensures words { state.new ≡ opened_words state.old (arguments version n ta ts own session input coins.now weights.now boxed) (length line.old) }
     ensures bytes { line.new ≡ opened_bytes (length state.old) (arguments version n ta ts own session input coins.now weights.now boxed) line.old }
 {
-    entry_number(journal::open(
-        state, version, n, ta, ts, own, session, input, coins, weights, boxed, line,
-    ))
+    let a = Arguments {
+        version,
+        n,
+        ta,
+        ts,
+        own,
+        session,
+        input,
+        coins,
+        weights,
+        boxed,
+    };
+    entry_number(journal::open(state, a, line))
 }
 
 // Delivers a message that came over the link of a concentrator; its line stands at the front of the last lent bytes.
@@ -107,16 +115,18 @@ pub fn pack_record(state: &mut [u64], vote: u64, round: u64, bit: u64, line: &mu
     entry_number(journal::record(state, vote, round, bit, line))
 }
 
-fn outcome_number(o: Outcome) -> u64
+fn outcome_number(o: Result<Outcome, Refusal>) -> u64
     requires { sent_length o ≤ 140 }
     ensures { result ≡ outcome_number o }
 {
     match o {
-        Outcome::Refused(k) => k,
-        Outcome::Idle => 0,
-        Outcome::Sent(m) => SENT + BIT_16 * wire::message_length(m) as u64,
-        Outcome::MovedOut => MOVED_OUT,
-        Outcome::InForce => IN_FORCE,
+        Err(k) => u64::from(k),
+        Ok(outcome) => match outcome {
+            Outcome::Idle => 0,
+            Outcome::Sent(m) => SENT + BIT_16 * wire::message_length(m) as u64,
+            Outcome::MovedOut => MOVED_OUT,
+            Outcome::InForce => IN_FORCE,
+        },
     }
 }
 
@@ -143,10 +153,9 @@ pub fn pack_report(state: &[u64], named: &mut [u64], in_force: &mut [u64]) -> u6
     ensures named_words { named.new ≡ report_named state.now named.old (length in_force.old) }
     ensures in_force_words { in_force.new ≡ report_in_force state.now (length named.old) in_force.old }
 {
-    let a = report::report(state, named, in_force);
-    match a {
-        Answer::Refused(k) => k,
-        Answer::Given(f) => figures_number(f),
+    match report::report(state, named, in_force) {
+        Err(k) => u64::from(k),
+        Ok(f) => figures_number(f),
     }
 }
 
@@ -157,15 +166,17 @@ fn given_again(length: u64) -> u64
     if 0 < length { 1 } else { 0 }
 }
 
-fn restored_number(a: Restored) -> u64
+fn restored_number(a: Result<Restored, RestoreError>) -> u64
     requires { message_length a ≤ 140 }
     ensures { result ≡ restored_number a }
 {
     match a {
-        Restored::Refused(k) => k,
-        Restored::Journal(line) => refusal::JOURNAL + BIT_8 * (line % BIT_56),
-        Restored::Given(m, bytes) => {
-            BIT_8 * given_again(m) + BIT_16 * m + BIT_32 * (bytes % BIT_32)
+        Err(error) => match error {
+            RestoreError::Lent(k) => u64::from(k),
+            RestoreError::Line(line) => u64::from(Refusal::Journal) + BIT_8 * (line % BIT_56),
+        },
+        Ok(r) => {
+            BIT_8 * given_again(r.message) + BIT_16 * r.message + BIT_32 * (r.bytes % BIT_32)
         }
     }
 }
@@ -179,6 +190,15 @@ pub fn pack_restore(state: &mut [u64], journal: &[u8], message: &mut [u8]) -> u6
     restored_number(restore::restore(state, journal, message))
 }
 
+fn taken_number(taken: Result<(), Refusal>) -> u64
+    ensures { result ≡ taken_number taken }
+{
+    match taken {
+        Err(k) => u64::from(k),
+        Ok(()) => 0,
+    }
+}
+
 // Opens a coin box in the lent words.
 pub fn pack_box_open(
     words: &mut [u64],
@@ -188,25 +208,27 @@ pub fn pack_box_open(
     coins: &[u32],
     weights: &[u8],
 ) -> u64
-    ensures answer { result ≡ box_open_answer (length words.old) n ta ts (weights_word n weights.now) (length coins.now) }
+    ensures answer { result ≡ taken_number (box_open_answer (length words.old) n ta ts (weights_word n weights.now) (length coins.now)) }
     ensures words { words.new ≡ box_opened words.old n ta ts (weights_word n weights.now) coins.now }
 {
-    coin_box::open(words, n, ta, ts, coins, weights)
+    taken_number(coin_box::open(words, n, ta, ts, coins, weights))
 }
 
 fn bit_value(b: bool) -> u64
     ensures { result ≡ bit_value b }
 {
-    if b { 1 } else { 0 }
+    u64::from(b)
 }
 
-fn reply_number(x: Reply) -> u64
+fn reply_number(x: Result<Option<bool>, Refusal>) -> u64
     ensures { result ≡ reply_number x }
 {
     match x {
-        Reply::Refused(k) => k,
-        Reply::Sealed => 0,
-        Reply::Bit(b) => TOLD + BIT_16 * bit_value(b),
+        Err(k) => u64::from(k),
+        Ok(bit) => match bit {
+            None => 0,
+            Some(b) => TOLD + BIT_16 * bit_value(b),
+        },
     }
 }
 
@@ -218,13 +240,13 @@ pub fn pack_box_request(words: &mut [u64], requester: u64, vote: u64, round: u64
     reply_number(coin_box::request(words, requester, vote, round))
 }
 
-fn start_number(x: Start) -> u64
+fn start_number(x: Result<u64, Refusal>) -> u64
     requires { minute_of x < 4294967296 }
     ensures { result ≡ start_number x }
 {
     match x {
-        Start::Refused(k) => k,
-        Start::Minute(m) => BIT_32 * m,
+        Err(k) => u64::from(k),
+        Ok(m) => BIT_32 * m,
     }
 }
 
@@ -235,13 +257,13 @@ pub fn pack_start_minute(windows: &[u32], closing: u64, lead: u64) -> u64
     start_number(calendar::start_minute(windows, closing, lead))
 }
 
-fn conversion_number(x: Conversion) -> u64
+fn conversion_number(x: Result<usize, ConversionError>) -> u64
     ensures { result ≡ conversion_number x }
 {
     match x {
-        Conversion::Record(n) => refusal::RECORD + BIT_8 * (n % BIT_56),
-        Conversion::Short => refusal::SHORT,
-        Conversion::Written(n) => BIT_8 * (n as u64 % BIT_56),
+        Err(ConversionError::Record(n)) => u64::from(Refusal::Record) + BIT_8 * (n % BIT_56),
+        Err(ConversionError::Short) => u64::from(Refusal::Short),
+        Ok(n) => BIT_8 * (n as u64 % BIT_56),
     }
 }
 

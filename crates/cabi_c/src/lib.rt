@@ -11,7 +11,7 @@ ghost use Rattle.coin_box.specs.Box.{box_open_answer, box_opened, request_reply,
 ghost use Rattle.report.specs.Report.{report_answer, report_named, report_in_force};
 ghost use Rattle.restore.specs.Restoring.{restore_answer, restored_words, restored_bytes};
 ghost use Rattle.turn.specs.Turn.{turn_outcome, turn_words};
-ghost use Rattle.cabi.specs.Answers.{entry_number, outcome_number, report_number};
+ghost use Rattle.cabi.specs.Answers.{taken_number, entry_number, outcome_number, report_number};
 ghost use Rattle.cabi.specs.Restored.{restored_number};
 ghost use Rattle.cabi.specs.Replies.{reply_number};
 ghost use Rattle.cabi.specs.Starts.{start_number};
@@ -109,7 +109,7 @@ pub extern "C" fn pack_box_open(
     coins: &[u32],
     weights: &[u8],
 ) -> u64
-    ensures answer { result ≡ box_open_answer (length words.old) n ta ts (weights_word n weights.now) (length coins.now) }
+    ensures answer { result ≡ taken_number (box_open_answer (length words.old) n ta ts (weights_word n weights.now) (length coins.now)) }
     ensures words { words.new ≡ box_opened words.old n ta ts (weights_word n weights.now) coins.now }
 {
     cabi::pack_box_open(words, n, ta, ts, coins, weights)

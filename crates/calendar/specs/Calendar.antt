@@ -1,8 +1,7 @@
 -- In-force windows: PROTOCOL, section 18.
-use Rattle.std.specs.Prelude.{ℕ, zero, suc, ◌+◌, ◌*◌, ◌%◌, Bool, true, false, ◌&&◌, ◌||◌, cond, List, [], ◌∷◌, leb, ltb, length}
-use Rattle.settings.specs.Refusals.{WINDOWS}
-use Rattle.calendar.specs.declared.Start.{Start}
-use Rattle.calendar.specs.declared.Start.TheVariants.{Refused, Minute}
+use Rattle.std.specs.Prelude.{ℕ, zero, suc, ◌+◌, ◌*◌, ◌%◌, Bool, true, false, ◌&&◌, ◌||◌, cond, List, [], ◌∷◌, leb, ltb, length, Result, Ok, Err}
+use Rattle.settings.specs.declared.refusal.Refusal.TheVariants as refusal
+use Rattle.settings.specs.declared.refusal.Refusal.{Refusal}
 
 -- 7 days of 24 hours of 60 minutes (PROTOCOL 18.1)
 abbrev pub week_minutes : ℕ
@@ -51,5 +50,5 @@ taken windows closing lead =
 unfoldable pub start_minute : List ℕ → ℕ → ℕ → ℕ
 start_minute windows closing lead = first_of (allowed windows) (closing + lead) week_minutes
 
-unfoldable pub start_of : List ℕ → ℕ → ℕ → Start
-start_of windows closing lead = cond (taken windows closing lead) (Minute (start_minute windows closing lead)) (Refused WINDOWS)
+unfoldable pub start_of : List ℕ → ℕ → ℕ → Result ℕ Refusal
+start_of windows closing lead = cond (taken windows closing lead) (Ok (start_minute windows closing lead)) (Err refusal.Windows)

@@ -1,26 +1,12 @@
 // The calendar: from which minute a set is in force.
 #![tactic(auto)]
 
-ghost use Rattle.std.specs.Prelude.{◌≡◌, ◌<◌, min, length};
+ghost use Rattle.std.specs.Prelude.{◌≡◌, ◌<◌, length};
 ghost use Rattle.calendar.specs.Calendar.{window_right, start_of};
 ghost use Rattle.calendar.specs.First.{FirstInWindow};
 ghost use Rattle.calendar.specs.laws.Search.{distance, window_at, nearest_from};
 
-use settings::refusal;
-
-// The number of the refusal, or the minute.
-#[derive(Clone, Copy)]
-pub enum Start {
-    Refused(u64),
-    Minute(u64),
-}
-
-// What is found in a list of windows: a bad one, or how many minutes it is to the next minute in a window.
-#[derive(Clone, Copy)]
-pub enum Nearest {
-    Bad,
-    After(u64),
-}
+use settings::Refusal;
 
 const WEEK_MINUTES: u64 = 10080;
 
@@ -50,66 +36,58 @@ fn distance(first: u32, end: u32, from: u64) -> u64
 }
 
 // The window at place k of the list: bad, or its distance.
-fn window_at(windows: &[u32], k: usize, from: u64) -> Nearest
+fn window_at(windows: &[u32], k: usize, from: u64) -> Option<u64>
     requires { (from < 10080) × (k < length windows.now) }
     ensures { result ≡ window_at windows.now k from }
 {
     if windows.len() - k < 2 {
-        return Nearest::Bad;
+        return None;
     }
     let first = windows[k];
     let end = windows[k + 1];
     if window_right(first, end) {
-        return Nearest::After(distance(first, end, from));
+        return Some(distance(first, end, from));
     }
-    Nearest::Bad
-}
-
-fn smaller(x: u64, y: u64) -> u64
-    ensures { result ≡ min x y }
-{
-    if x < y { x } else { y }
+    None
 }
 
 // The nearest of all windows, each looked at once.
-fn nearest_window(windows: &[u32], from: u64) -> Nearest
+fn nearest_window(windows: &[u32], from: u64) -> Option<u64>
     requires { from < 10080 }
     ensures { result ≡ nearest_from 10080 windows.now from }
 {
     let mut best = WEEK_MINUTES;
-    let mut k: usize = 0;
-    while k < windows.len() {
+    for k in (0..windows.len()).step_by(2) {
         let x = window_at(windows, k, from);
-        let Nearest::After(d) = x else {
-            return Nearest::Bad;
+        let Some(d) = x else {
+            return None;
         };
-        best = smaller(best, d);
-        k += 2;
+        best = best.min(d);
     }
-    Nearest::After(best)
+    Some(best)
 }
 
 // The first minute, from closing and lead on, that lies in a window.
-pub fn start_minute(windows: &[u32], closing: u64, lead: u64) -> Start
+pub fn start_minute(windows: &[u32], closing: u64, lead: u64) -> Result<u64, Refusal>
     ensures { result ≡ start_of windows.now closing lead }
 {
     if windows.len() == 0 {
-        return Start::Refused(refusal::WINDOWS);
+        return Err(Refusal::Windows);
     }
     if MAX_NUMBERS < windows.len() {
-        return Start::Refused(refusal::WINDOWS);
+        return Err(Refusal::Windows);
     }
     if MAX_CLOSING < closing {
-        return Start::Refused(refusal::WINDOWS);
+        return Err(Refusal::Windows);
     }
     if WEEK_MINUTES < lead {
-        return Start::Refused(refusal::WINDOWS);
+        return Err(Refusal::Windows);
     }
     let earliest = closing + lead;
     let x = nearest_window(windows, earliest % WEEK_MINUTES);
     match x {
-        Nearest::Bad => Start::Refused(refusal::WINDOWS),
-        Nearest::After(d) => Start::Minute(earliest + d),
+        None => Err(Refusal::Windows),
+        Some(d) => Ok(earliest + d),
     }
 }
 

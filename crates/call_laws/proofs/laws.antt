@@ -1,6 +1,4 @@
-pub mod Turns
 pub mod Keeping
-pub mod Refusals
 pub mod Figures
 pub mod Journals
 pub mod ReadBack

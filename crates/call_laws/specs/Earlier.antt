@@ -1,7 +1,7 @@
 -- The definitions that ask for the version, or cite one that does, as they are without versions: what sessions would be if none had FINISHes.
 -- All else that the calls are defined by asks nothing of the version, and is cited here.
-use Rattle.std.specs.Prelude.{ℕ, ◌+◌, ◌*◌, Bool, false, ◌&&◌, ◌||◌, not, cond, List, ◌∷◌, ◌++◌, eqb, leb, ltb, length, drop}
-use Rattle.settings.specs.Refusals.{SETTINGS, LENGTH, KIND, SESSION, SENDER, FIELD, SHORT, NO_STATE, CLOSED, COIN}
+use Rattle.std.specs.Prelude.{ℕ, ◌+◌, ◌*◌, Bool, false, ◌&&◌, ◌||◌, not, cond, List, ◌∷◌, ◌++◌, eqb, leb, ltb, length, drop, Result, Ok, Err}
+use Rattle.settings.specs.declared.refusal.Refusal.TheVariants as refusal
 use Rattle.settings.specs.Settings.{valid_settings}
 use Rattle.settings.specs.declared.Settings.{Settings}
 use Rattle.records.specs.Layout.{state_words, n_at, ta_at, ts_at, own_at, session_at, input_at, weights_at, boxed_at, turns_at}
@@ -21,27 +21,21 @@ use Rattle.wire.specs.Message.{SEND, ECHO, READY, EST, AUX, COMMIT, encode, at_f
 use Rattle.wire.specs.Reading.{within, length_right, header_of, sender_right, broadcast_fields, vote_fields, commit_fields, taken_if}
 use Rattle.wire.specs.declared.Header.{Header}
 use Rattle.wire.specs.declared.Message.TheVariants.{Send, Echo, Ready, Est, Aux, Commit}
-use Rattle.wire.specs.declared.Parsed.{Parsed}
-use Rattle.wire.specs.declared.Parsed.TheVariants as parsed
 use Rattle.opening.specs.Given.{coins_given}
 use Rattle.opening.specs.Arguments.{Arguments, weights_by, ta_by}
 use Rattle.opening.specs.Opening.{with_coins}
 use Rattle.recording.specs.Recording.{recordable, with_bit}
 use Rattle.delivery.specs.Delivery.{judged, answer_of, words_after}
-use Rattle.delivery.specs.declared.Verdict.{Verdict}
-use Rattle.delivery.specs.declared.Verdict.TheVariants as verdicts
 use Rattle.turn.specs.Due.{in_force_rule, commit_due, commit_rule, send_rule}
 use Rattle.turn.specs.Turn.{outcome_of, applied, taking}
-use Rattle.turn.specs.declared.Admitted as turn
-use Rattle.turn.specs.declared.Admitted.TheVariants as turns
 use Rattle.turn.specs.declared.Outcome.{Outcome}
 use Rattle.turn.specs.declared.Outcome.TheVariants as outcome
 use Rattle.journal.specs.Lines.{figures}
 use Rattle.report.specs.Report.{in_force_set, figures_of, set_words, giving}
-use Rattle.report.specs.declared.Admitted as report
-use Rattle.report.specs.declared.Admitted.TheVariants as reports
-use Rattle.report.specs.declared.Answer.{Answer}
-use Rattle.report.specs.declared.Answer.TheVariants as answer
+use Rattle.wire.specs.declared.Message.{Message}
+use Rattle.settings.specs.declared.refusal.Refusal.{Refusal}
+use Rattle.report.specs.declared.Figures.{Figures}
+use Rattle.std.specs.Result.{is_ok}
 
 -- the version of every session
 abbrev pub VERSION : ℕ
@@ -63,13 +57,13 @@ is_state s =
 
 -- ---- opening (PROTOCOL 9.14 to 9.16)
 
-unfoldable pub open_answer : (words : ℕ) → Arguments → ℕ
+unfoldable pub open_answer : (words : ℕ) → Arguments → Result (Unit {0}) Refusal
 open_answer words o =
-    cond (not (eqb words state_words)) NO_STATE
-    (cond (not (valid_settings o.n (ta_by o) o.ts (weights_by o))) SETTINGS
-    (cond (not (numbered o.n o.own)) SETTINGS
-    (cond (not (coins_given o.n o.coins o.boxed)) SETTINGS
-    0)))
+    cond (not (eqb words state_words)) (Err refusal.NoState)
+    (cond (not (valid_settings o.n (ta_by o) o.ts (weights_by o))) (Err refusal.Settings)
+    (cond (not (numbered o.n o.own)) (Err refusal.Settings)
+    (cond (not (coins_given o.n o.coins o.boxed)) (Err refusal.Settings)
+    (Ok tt))))
 
 unfoldable pub with_settings : List ℕ → Arguments → List ℕ
 with_settings s o =
@@ -87,7 +81,7 @@ unfoldable pub open_words : Arguments → List ℕ
 open_words o = with_coins (with_settings (blank state_words) o) o.coins o.n
 
 unfoldable pub opened : List ℕ → Arguments → List ℕ
-opened s o = cond (eqb (open_answer (length s) o) 0) (open_words o) s
+opened s o = cond (is_ok (open_answer (length s) o)) (open_words o) s
 
 -- the numbers of an opening line (PROTOCOL 11.4)
 abbrev pub numbers_of : Arguments → List ℕ
@@ -123,36 +117,36 @@ fields_right n h =
     false
 
 -- the values (PROTOCOL 2.4 to 2.6)
-unfoldable pub read_values : Header → List ℕ → Parsed
+unfoldable pub read_values : Header → List ℕ → Result Message Refusal
 read_values h v =
     by_kind h.kind
-    (parsed.Taken (Send h.instance (value_at v 1)))
-    (parsed.Taken (Echo h.instance (value_at v 1)))
-    (parsed.Taken (Ready h.instance (value_at v 1)))
+    (Ok (Send h.instance (value_at v 1)))
+    (Ok (Echo h.instance (value_at v 1)))
+    (Ok (Ready h.instance (value_at v 1)))
     (taken_if (leb (value_at v 1) 1) (Est h.instance h.round (value_at v 1)))
     (taken_if (leb (value_at v 1) 1) (Aux h.instance h.round (value_at v 1)))
     (taken_if (rises (values h.count v)) (Commit h.count))
 
-unfoldable pub read_checked : (n session link : ℕ) → Header → List ℕ → Parsed
+unfoldable pub read_checked : (n session link : ℕ) → Header → List ℕ → Result Message Refusal
 read_checked n session link h v =
-    cond (not (kind_known h.version h.kind)) (parsed.Refused KIND)
-    (cond (not (eqb h.session session)) (parsed.Refused SESSION)
-    (cond (not (sender_right n link h.sender)) (parsed.Refused SENDER)
-    (cond (not (fields_right n h)) (parsed.Refused FIELD)
+    cond (not (kind_known h.version h.kind)) (Err refusal.Kind)
+    (cond (not (eqb h.session session)) (Err refusal.Session)
+    (cond (not (sender_right n link h.sender)) (Err refusal.Sender)
+    (cond (not (fields_right n h)) (Err refusal.Field)
     (read_values h v))))
 
-unfoldable pub read_message : (n session link : ℕ) → List ℕ → Parsed
-read_message n session link b = cond (not (length_right b)) (parsed.Refused LENGTH) (read_checked n session link (header_of b) (drop 12 b))
+unfoldable pub read_message : (n session link : ℕ) → List ℕ → Result Message Refusal
+read_message n session link b = cond (not (length_right b)) (Err refusal.Length) (read_checked n session link (header_of b) (drop 12 b))
 
 -- ---- delivery (PROTOCOL 9.17, 10.15)
 
-unfoldable pub verdict : List ℕ → ℕ → List ℕ → Verdict
+unfoldable pub verdict : List ℕ → ℕ → List ℕ → Result Message Refusal
 verdict s link b =
-    cond (not (is_state s)) (verdicts.Refused NO_STATE)
-    (cond (closed s) (verdicts.Refused CLOSED)
+    cond (not (is_state s)) (Err refusal.NoState)
+    (cond (closed s) (Err refusal.Closed)
     (judged s link (read_message (session_of s).settings.n (session_of s).number link b)))
 
-unfoldable pub deliver_answer : List ℕ → ℕ → List ℕ → ℕ
+unfoldable pub deliver_answer : List ℕ → ℕ → List ℕ → Result (Unit {0}) Refusal
 deliver_answer s link b = answer_of (verdict s link b)
 
 unfoldable pub delivered : List ℕ → ℕ → List ℕ → List ℕ
@@ -160,15 +154,15 @@ delivered s link b = words_after (verdict s link b) s link b
 
 -- ---- recording (PROTOCOL 9.21, 10.17)
 
-unfoldable pub record_answer : List ℕ → ℕ → ℕ → ℕ → ℕ
+unfoldable pub record_answer : List ℕ → ℕ → ℕ → ℕ → Result (Unit {0}) Refusal
 record_answer s i r b =
-    cond (not (is_state s)) NO_STATE
-    (cond (closed s) CLOSED
-    (cond (not (recordable s (word s n_at) i r b)) COIN
-    0))
+    cond (not (is_state s)) (Err refusal.NoState)
+    (cond (closed s) (Err refusal.Closed)
+    (cond (not (recordable s (word s n_at) i r b)) (Err refusal.Coin)
+    (Ok tt)))
 
 unfoldable pub recorded_words : List ℕ → ℕ → ℕ → ℕ → List ℕ
-recorded_words s i r b = cond (eqb (record_answer s i r b) 0) (with_bit s i r b) s
+recorded_words s i r b = cond (is_ok (record_answer s i r b)) (with_bit s i r b) s
 
 -- ---- turn (PROTOCOL, section 8)
 
@@ -188,23 +182,22 @@ due g s =
     (or_act (ready_rule g s)
     (votes_rule g s)))))
 
-unfoldable pub admits_turn : List ℕ → ℕ → turn.Admitted
+unfoldable pub admits_turn : List ℕ → ℕ → Result Session Refusal
 admits_turn s room =
-    cond (not (is_state s)) (turns.Refused NO_STATE)
-    (cond (closed s) (turns.Refused CLOSED)
-    (cond (ltb room 140) (turns.Refused SHORT)
-    (turns.Open (session_of s))))
+    cond (not (is_state s)) (Err refusal.NoState)
+    (cond (closed s) (Err refusal.Closed)
+    (cond (ltb room 140) (Err refusal.Short)
+    (Ok (session_of s))))
 
 -- byte 0 of a message that is sent is 1 (PROTOCOL 2.7)
 unfoldable pub bytes_after : Session → List ℕ → Outcome → List ℕ → List ℕ
-bytes_after x s (outcome.Refused k) out = out
 bytes_after x s outcome.Idle out = out
 bytes_after x s (outcome.Sent m) out = at_front (encode m VERSION x.own x.number (commit_due x.settings s)) out
 bytes_after x s outcome.MovedOut out = out
 bytes_after x s outcome.InForce out = out
 
-unfoldable pub turn_outcome : List ℕ → ℕ → Outcome
-turn_outcome s room = taking (admits_turn s room) outcome.Refused (λ x. outcome_of x.own s (due x.settings s))
+unfoldable pub turn_outcome : List ℕ → ℕ → Result Outcome Refusal
+turn_outcome s room = taking (admits_turn s room) Err (λ x. Ok (outcome_of x.own s (due x.settings s)))
 
 unfoldable pub turn_words : List ℕ → ℕ → List ℕ
 turn_words s room = taking (admits_turn s room) (λ k. s) (λ x. applied s (due x.settings s))
@@ -214,14 +207,14 @@ turn_bytes s out = taking (admits_turn s (length out)) (λ k. out) (λ x. bytes_
 
 -- ---- report (PROTOCOL 9.24, 9.25)
 
-unfoldable pub admits_report : List ℕ → ℕ → ℕ → report.Admitted
+unfoldable pub admits_report : List ℕ → ℕ → ℕ → Result Settings Refusal
 admits_report s named_words in_force_words =
-    cond (not (is_state s)) (reports.Refused NO_STATE)
-    (cond (ltb named_words set_words || ltb in_force_words set_words) (reports.Refused SHORT)
-    (reports.Open (settings_of s)))
+    cond (not (is_state s)) (Err refusal.NoState)
+    (cond (ltb named_words set_words || ltb in_force_words set_words) (Err refusal.Short)
+    (Ok (settings_of s)))
 
-unfoldable pub report_answer : List ℕ → ℕ → ℕ → Answer
-report_answer s named_words in_force_words = giving (admits_report s named_words in_force_words) answer.Refused (λ g. answer.Given (figures_of g s))
+unfoldable pub report_answer : List ℕ → ℕ → ℕ → Result Figures Refusal
+report_answer s named_words in_force_words = giving (admits_report s named_words in_force_words) Err (λ g. Ok (figures_of g s))
 
 unfoldable pub report_named : List ℕ → List ℕ → ℕ → List ℕ
 report_named s named in_force_words = giving (admits_report s (length named) in_force_words) (λ k. named) (λ g. at_front (exit_now g s).names named)

@@ -1,7 +1,7 @@
 -- Sessions of version 1 are what they would be if there were no other, call by call: on words of version 1 each call gives what it gives by the
 -- definitions of Earlier. So no FINISH is accepted, and deliveries and turns leave the words of FINISHes.
 -- Answers stand without their lines of the journal: the calls with lines are these by journal/Journal, which asks nothing of the version.
-use Rattle.std.specs.Prelude.{ℕ, ◌≤◌, List, ◌≢◌, ◌≡◌, length}
+use Rattle.std.specs.Prelude.{ℕ, ◌≤◌, List, ◌≢◌, ◌≡◌, length, Ok}
 use Rattle.settings.specs.Versions.{FIRST_VERSION}
 use Rattle.records.specs.Layout.{version_at, finish_sent_at, finish_marks_at}
 use Rattle.records.specs.Records.{version}
@@ -12,7 +12,6 @@ use Rattle.opening.specs.Arguments.{Arguments}
 use Rattle.opening.specs.Opening.{open_answer, opened}
 use Rattle.recording.specs.Recording.{record_answer, recorded_words}
 use Rattle.delivery.specs.Delivery.{verdict, deliver_answer, delivered}
-use Rattle.delivery.specs.declared.Verdict.TheVariants.{Accepted}
 use Rattle.turn.specs.Turn.{turn_outcome, turn_words, turn_bytes}
 use Rattle.journal.specs.Lines.{numbers_of}
 use Rattle.report.specs.Report.{report_answer, report_named, report_in_force}
@@ -32,7 +31,7 @@ pub record OpensAsEarlier (o : Arguments) : Type 0 where
   pub answer : (words : ℕ) → open_answer words o ≡ earlier.open_answer words o
   -- all words but that of the version, which is then 1
   pub words : (s : List ℕ) (a : ℕ) → a ≢ version_at → word (opened s o) a ≡ word (earlier.opened s o) a
-  pub first : (s : List ℕ) → open_answer (length s) o ≡ 0 → First (opened s o)
+  pub first : (s : List ℕ) → open_answer (length s) o ≡ Ok tt → First (opened s o)
   -- the numbers of its line
   pub numbers : numbers_of o ≡ earlier.numbers_of o
 
@@ -53,7 +52,7 @@ pub record FirstVersion : Type 0 where
   pub openings : (o : Arguments) → o.version ≡ FIRST_VERSION → OpensAsEarlier o
   pub calls : (s : List ℕ) → First s → CallsAsEarlier s
   -- no FINISH is accepted (PROTOCOL 2.16)
-  pub accepted : (s : List ℕ) (link : ℕ) (b : List ℕ) (m : Message) → First s → verdict s link b ≡ Accepted m → kind_of m ≤ COMMIT
+  pub accepted : (s : List ℕ) (link : ℕ) (b : List ℕ) (m : Message) → First s → verdict s link b ≡ Ok m → kind_of m ≤ COMMIT
   -- the words of FINISHes stay
   pub delivery_words : (s : List ℕ) (link : ℕ) (b : List ℕ) (a : ℕ) → First s → FinishWord a → word (delivered s link b) a ≡ word s a
   pub turn_words_lem : (s : List ℕ) (room a : ℕ) → First s → FinishWord a → word (turn_words s room) a ≡ word s a

@@ -10,7 +10,7 @@ use Rattle.restore.specs.Restoring.{restore_answer, restored_words, restored_byt
 use Rattle.delivery_csv.specs.Fields.{Outcome}
 use Rattle.delivery_csv.specs.Converting.{drill_of_csv, csv_of_drill, conversion, bytes_after}
 use Rattle.report.specs.Report.{report_answer, report_named, report_in_force}
-use Rattle.cabi.specs.Answers.{entry_number, outcome_number, report_number}
+use Rattle.cabi.specs.Answers.{taken_number, entry_number, outcome_number, report_number}
 use Rattle.cabi.specs.Restored.{restored_number}
 use Rattle.cabi.specs.Replies.{reply_number}
 use Rattle.cabi.specs.Conversions.{conversion_number}
@@ -52,7 +52,7 @@ RestoreKeeps =
 abbrev pub BoxOpeningKeeps : Type 0
 BoxOpeningKeeps =
     (s : List ℕ) (n ta ts : ℕ) (coins weights : List ℕ) →
-    Refused (box_open_answer (length s) n ta ts (weights_word n weights) (length coins)) →
+    Refused (taken_number (box_open_answer (length s) n ta ts (weights_word n weights) (length coins))) →
     box_opened s n ta ts (weights_word n weights) coins ≡ s
 
 abbrev pub RequestKeeps : Type 0

@@ -1,6 +1,8 @@
 -- What C reads of the number that a call answers is what the call answered, part by part, for every answer that it can give.
-use Rattle.std.specs.Prelude.{ℕ, ◌≤◌, ◌<◌, ◌^◌, ◌/◌, true, false, cond, List, ◌≡◌, ltb, length}
-use Rattle.settings.specs.Refusals.{SHORT, RECORD, JOURNAL}
+use Rattle.std.specs.Prelude.{ℕ, ◌≤◌, ◌<◌, ◌^◌, ◌/◌, Bool, true, false, cond, List, ◌≡◌, ltb, length, Option, Some, None, Result, Ok, Err}
+use Rattle.settings.specs.declared.refusal.Refusal.{Refusal}
+use Rattle.settings.specs.declared.refusal.Refusal.TheVariants as refusal
+use Rattle.settings.specs.Refusals.{number_of}
 use Rattle.opening.specs.Given.{weights_word}
 use Rattle.opening.specs.Arguments.{Arguments}
 use Rattle.wire.specs.Message as wire
@@ -8,25 +10,18 @@ use Rattle.turn.specs.Turn.{turn_outcome}
 use Rattle.turn.specs.declared.Outcome.{Outcome}
 use Rattle.turn.specs.declared.Outcome.TheVariants as turn
 use Rattle.journal.specs.Journal.{open_entry, deliver_entry, record_entry}
-use Rattle.journal.specs.declared.Entry.{Entry}
-use Rattle.journal.specs.declared.Entry.TheVariants as journal
 use Rattle.restore.specs.Restoring.{restore_answer}
 use Rattle.restore.specs.declared.Restored.{Restored}
-use Rattle.restore.specs.declared.Restored.TheVariants as restore
+use Rattle.restore.specs.declared.RestoreError.{RestoreError}
+use Rattle.restore.specs.declared.RestoreError.TheVariants as failed
 use Rattle.report.specs.Report.{report_answer}
 use Rattle.report.specs.declared.Figures.{Figures}
-use Rattle.report.specs.declared.Answer.{Answer}
-use Rattle.report.specs.declared.Answer.TheVariants as report
 use Rattle.coin_box.specs.Box.{box_open_answer, request_reply}
-use Rattle.coin_box.specs.declared.Reply.{Reply}
-use Rattle.coin_box.specs.declared.Reply.TheVariants as box
 use Rattle.calendar.specs.Calendar.{start_of}
-use Rattle.calendar.specs.declared.Start.{Start}
-use Rattle.calendar.specs.declared.Start.TheVariants as calendar
 use Rattle.delivery_csv.specs.Converting.{drill_of_csv, csv_of_drill, conversion}
-use Rattle.delivery_csv.specs.declared.Conversion.{Conversion}
-use Rattle.delivery_csv.specs.declared.Conversion.TheVariants as csv
-use Rattle.cabi.specs.Answers.{entry_number, outcome_number, report_number}
+use Rattle.cabi.specs.Answers.{taken_number, entry_number, outcome_number, report_number}
+use Rattle.delivery_csv.specs.declared.ConversionError.{ConversionError}
+use Rattle.delivery_csv.specs.declared.ConversionError.TheVariants as csv
 use Rattle.cabi.specs.Restored.{restored_number}
 use Rattle.cabi.specs.Replies.{reply_number}
 use Rattle.cabi.specs.Starts.{start_number}
@@ -34,9 +29,9 @@ use Rattle.cabi.specs.Conversions.{conversion_number}
 use Rattle.call_laws.specs.Parts.{refusal_of, outcome_of, exit_of, told_of, length_of, named_of, bit_of, in_force_of, turns_of, complete_of, line_of, minute_of, record_of, written_of}
 
 -- the number r is read as the refusal k, and as nothing else
-pub record Refusal (r k : ℕ) : Type 0 where
-  pub numbered : 1 ≤ k
-  pub read : refusal_of r ≡ k
+pub record Refuses (r : ℕ) (k : Refusal) : Type 0 where
+  pub numbered : 1 ≤ number_of k
+  pub read : refusal_of r ≡ number_of k
   pub alone : r / 2 ^ 8 ≡ 0
 
 -- as a line of l bytes
@@ -67,7 +62,7 @@ pub record Restores (size r l k : ℕ) : Type 0 where
 
 -- as line k of such a journal, which cannot be applied
 pub record Stops (size r k : ℕ) : Type 0 where
-  pub refused : refusal_of r ≡ JOURNAL
+  pub refused : refusal_of r ≡ number_of refusal.Journal
   pub line : size < 2 ^ 56 → line_of r ≡ k
 
 -- as a coin that is sealed, t = 0, or told, t = 1, and is the bit b
@@ -88,68 +83,68 @@ pub record Writes (size r n : ℕ) : Type 0 where
 
 -- as record or line k of a text of `size` bytes, which is not taken
 pub record NotTaken (size r k : ℕ) : Type 0 where
-  pub refused : refusal_of r ≡ RECORD
+  pub refused : refusal_of r ≡ number_of refusal.Record
   pub number : size < 2 ^ 56 → record_of r ≡ k
 
 -- ---- the number r is read as an answer
 
-abbrev pub EntryAs : ℕ → Entry → Type 0
-EntryAs r (journal.Refused k) = Refusal r k
-EntryAs r (journal.Line l) = Line r l
+abbrev pub EntryAs : ℕ → Result ℕ Refusal → Type 0
+EntryAs r (Err k) = Refuses r k
+EntryAs r (Ok l) = Line r l
 
-abbrev pub OutcomeAs : ℕ → Outcome → Type 0
-OutcomeAs r (turn.Refused k) = Refusal r k
-OutcomeAs r turn.Idle = Turned r 0 0
-OutcomeAs r (turn.Sent m) = Turned r 1 (wire.length_of m)
-OutcomeAs r turn.MovedOut = Turned r 2 0
-OutcomeAs r turn.InForce = Turned r 3 0
+abbrev pub OutcomeAs : ℕ → Result Outcome Refusal → Type 0
+OutcomeAs r (Err k) = Refuses r k
+OutcomeAs r (Ok turn.Idle) = Turned r 0 0
+OutcomeAs r (Ok (turn.Sent m)) = Turned r 1 (wire.length_of m)
+OutcomeAs r (Ok turn.MovedOut) = Turned r 2 0
+OutcomeAs r (Ok turn.InForce) = Turned r 3 0
 
-abbrev pub ReportAs : ℕ → Answer → Type 0
-ReportAs r (report.Refused k) = Refusal r k
-ReportAs r (report.Given f) = Given r f
+abbrev pub ReportAs : ℕ → Result Figures Refusal → Type 0
+ReportAs r (Err k) = Refuses r k
+ReportAs r (Ok f) = Given r f
 
-abbrev pub RestoredAs : ℕ → ℕ → Restored → Type 0
-RestoredAs size r (restore.Refused k) = Refusal r k
-RestoredAs size r (restore.Journal line) = Stops size r line
-RestoredAs size r (restore.Given m bytes) = Restores size r m bytes
+abbrev pub RestoredAs : ℕ → ℕ → Result Restored RestoreError → Type 0
+RestoredAs size r (Err (failed.Lent k)) = Refuses r k
+RestoredAs size r (Err (failed.Line line)) = Stops size r line
+RestoredAs size r (Ok x) = Restores size r x.message x.bytes
 
-abbrev pub ReplyAs : ℕ → Reply → Type 0
-ReplyAs r (box.Refused k) = Refusal r k
-ReplyAs r box.Sealed = Told r 0 0
-ReplyAs r (box.Bit true) = Told r 1 1
-ReplyAs r (box.Bit false) = Told r 1 0
+abbrev pub ReplyAs : ℕ → Result (Option Bool) Refusal → Type 0
+ReplyAs r (Err k) = Refuses r k
+ReplyAs r (Ok None) = Told r 0 0
+ReplyAs r (Ok (Some true)) = Told r 1 1
+ReplyAs r (Ok (Some false)) = Told r 1 0
 
-abbrev pub StartAs : ℕ → Start → Type 0
-StartAs r (calendar.Refused k) = Refusal r k
-StartAs r (calendar.Minute m) = Starts r m
+abbrev pub StartAs : ℕ → Result ℕ Refusal → Type 0
+StartAs r (Err k) = Refuses r k
+StartAs r (Ok m) = Starts r m
 
 -- a text of `text` bytes into `lent` ones
-abbrev pub ConversionAs : (text lent : ℕ) → ℕ → Conversion → Type 0
-ConversionAs text lent r (csv.Record k) = NotTaken text r k
-ConversionAs text lent r csv.Short = Refusal r SHORT
-ConversionAs text lent r (csv.Written n) = Writes lent r n
+abbrev pub ConversionAs : (text lent : ℕ) → ℕ → Result ℕ ConversionError → Type 0
+ConversionAs text lent r (Err (csv.Record k)) = NotTaken text r k
+ConversionAs text lent r (Err csv.Short) = Refuses r refusal.Short
+ConversionAs text lent r (Ok n) = Writes lent r n
 
 -- ---- the number of an answer is read as that answer
 
-abbrev pub EntryBack : Entry → Type 0
+abbrev pub EntryBack : Result ℕ Refusal → Type 0
 EntryBack e = EntryAs (entry_number e) e
 
-abbrev pub OutcomeBack : Outcome → Type 0
+abbrev pub OutcomeBack : Result Outcome Refusal → Type 0
 OutcomeBack o = OutcomeAs (outcome_number o) o
 
-abbrev pub ReportBack : Answer → Type 0
+abbrev pub ReportBack : Result Figures Refusal → Type 0
 ReportBack a = ReportAs (report_number a) a
 
-abbrev pub RestoredBack : ℕ → Restored → Type 0
+abbrev pub RestoredBack : ℕ → Result Restored RestoreError → Type 0
 RestoredBack size a = RestoredAs size (restored_number a) a
 
-abbrev pub ReplyBack : Reply → Type 0
+abbrev pub ReplyBack : Result (Option Bool) Refusal → Type 0
 ReplyBack x = ReplyAs (reply_number x) x
 
-abbrev pub StartBack : Start → Type 0
+abbrev pub StartBack : Result ℕ Refusal → Type 0
 StartBack x = StartAs (start_number x) x
 
-abbrev pub ConversionBack : (text lent : ℕ) → Conversion → Type 0
+abbrev pub ConversionBack : (text lent : ℕ) → Result ℕ ConversionError → Type 0
 ConversionBack text lent x = ConversionAs text lent (conversion_number x) x
 
 -- opening a box answers 0 or its refusal
@@ -164,7 +159,7 @@ pub record AnswersReadBack : Type 0 where
   pub turn : (s : List ℕ) (room : ℕ) → OutcomeBack (turn_outcome s room)
   pub report : (s : List ℕ) (named set_in_force : ℕ) → ReportBack (report_answer s named set_in_force)
   pub restore : (s journal : List ℕ) (room : ℕ) → RestoredBack (length journal) (restore_answer s journal room)
-  pub box_opening : (words n ta ts : ℕ) (weights : List ℕ) (coins : ℕ) → NumberBack (box_open_answer words n ta ts (weights_word n weights) coins)
+  pub box_opening : (words n ta ts : ℕ) (weights : List ℕ) (coins : ℕ) → NumberBack (taken_number (box_open_answer words n ta ts (weights_word n weights) coins))
   pub request : (s : List ℕ) (requester vote round : ℕ) → ReplyBack (request_reply s requester vote round)
   pub start : (windows : List ℕ) (closing lead : ℕ) → StartBack (start_of windows closing lead)
   pub csv_to_drill : (text : List ℕ) (lent : ℕ) → ConversionBack (length text) lent (conversion (drill_of_csv text) lent)

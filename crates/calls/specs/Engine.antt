@@ -1,17 +1,16 @@
 -- The engine as a machine of six calls, by the definitions that the contracts of the code cite.
-use Rattle.std.specs.Prelude.{ℕ, ◌<◌, ◌^◌, true, List, ◌≢◌, ◌≡◌, eqb, length, take, get_or}
+use Rattle.std.specs.Prelude.{ℕ, ◌<◌, ◌^◌, true, List, ◌≢◌, ◌≡◌, eqb, length, take, get_or, Some, Ok}
 use Rattle.settings.specs.declared.Settings.{Settings}
 use Rattle.quorum.specs.Marks.{mark}
 use Rattle.records.specs.Words.{word}
 use Rattle.records.specs.Records.{decided_one}
 use Rattle.broadcasts.specs.Broadcasts.{output}
-use Rattle.broadcasts.specs.declared.Output.TheVariants.{Value}
 use Rattle.session.specs.Session.{settings_of}
 use Rattle.wire.specs.Message.{length_of}
 use Rattle.opening.specs.Given.{item}
 use Rattle.opening.specs.Arguments.{Arguments, settings_by}
 use Rattle.journal.specs.Lines.{opening_line, delivery_line, turn_line, recording_line}
-use Rattle.journal.specs.Journal.{open_number, opened_words, deliver_number, delivered_words, turned_outcome, turned_words, turned_message, record_number, record_words}
+use Rattle.journal.specs.Journal.{open_line_answer, opened_words, deliver_line_answer, delivered_words, turned_outcome, turned_words, turned_message, record_line_answer, record_words}
 use Rattle.restore.specs.Restoring.{accepted, restore_answer, restored_words}
 use Rattle.report.specs.Report.{report_answer, report_named, report_in_force}
 use Rattle.report.specs.declared.Figures.{Figures}
@@ -19,7 +18,7 @@ use Rattle.calls.specs.Machine.{Machine}
 use Rattle.wire.specs.declared.Message as wire
 use Rattle.journal.specs.Journal as journal_calls
 use Rattle.turn.specs.declared.Outcome.TheVariants as outcome
-use Rattle.report.specs.declared.Answer.TheVariants as answer
+use Rattle.std.specs.Result.{is_ok}
 
 -- the arguments of an opening, and how many bytes it is lent for its line: the code takes 32 bits for the session number and each coin word, and
 -- 64 for the own input; the version, weights, and whether coins are printed or boxed, are any numbers
@@ -62,7 +61,7 @@ pub record TurnLent : Type 0 where
 -- the turn answers that a message is sent, and b are its bytes
 pub record SendsBytes (w : List ℕ) (l : TurnLent) (b : Bytes) : Type 0 where
   pub message : wire.Message
-  pub outcome : turned_outcome w (length l.message) l.line ≡ outcome.Sent message
+  pub outcome : turned_outcome w (length l.message) l.line ≡ Ok (outcome.Sent message)
   pub bytes : b.list ≡ take (length_of message) (turned_message w l.message l.line)
 
 -- the vote, the round and the bit of a recording, and how many bytes it is lent for its line
@@ -82,7 +81,7 @@ pub record ReportNames (w X : List ℕ) : Type 0 where
   pub lent : List ℕ
   pub room : length lent ≡ 16
   pub figures : Figures
-  pub given : report_answer w 16 16 ≡ answer.Given figures
+  pub given : report_answer w 16 16 ≡ Ok figures
   pub exit : figures.exit ≢ 0
   pub set : X ≡ take figures.named (report_named w lent 16)
 
@@ -91,7 +90,7 @@ pub record ReportEnforces (w X : List ℕ) : Type 0 where
   pub lent : List ℕ
   pub room : length lent ≡ 16
   pub figures : Figures
-  pub given : report_answer w 16 16 ≡ answer.Given figures
+  pub given : report_answer w 16 16 ≡ Ok figures
   pub some : figures.in_force ≢ 0
   pub set : X ≡ take figures.in_force (report_in_force w 16 lent)
 
@@ -109,10 +108,10 @@ engine =
       settings = λ S. S.settings;
       boxed = λ S. eqb S.boxed 1;
       coin = λ S i r. mark (item S.coins i) r;
-      opens = λ w o. eqb (open_number (length w) o.given o.line) 0;
+      opens = λ w o. is_ok (open_line_answer (length w) o.given o.line);
       opened = λ w o. opened_words w o.given o.line;
       Bytes = Bytes;
-      accepts = λ w m b. eqb (deliver_number w m b.list b.line) 0;
+      accepts = λ w m b. is_ok (deliver_line_answer w m b.list b.line);
       delivered = λ w m b. delivered_words w m b.list b.line;
       Lent = TurnLent;
       acts = λ w l. journal_calls.acts (turned_outcome w (length l.message) l.line);
@@ -122,7 +121,7 @@ engine =
       vote = λ x. x.vote;
       round = λ x. x.round;
       bit = λ x. x.bit;
-      records = λ w x. eqb (record_number w x.vote x.round x.bit x.line) 0;
+      records = λ w x. is_ok (record_line_answer w x.vote x.round x.bit x.line);
       recorded = λ w x. record_words w x.vote x.round x.bit x.line;
       opening_line_lem = λ o. opening_line o.given;
       delivery_line_lem = λ m b. delivery_line m b.list;
@@ -135,6 +134,6 @@ engine =
       LentSets = List ℕ × List ℕ;
       Names = ReportNames;
       InForce = ReportEnforces;
-      Outputs = λ w i v. output (settings_of w) w i ≡ Value v;
+      Outputs = λ w i v. output (settings_of w) w i ≡ Some v;
       DecidedOne = λ w i. decided_one w i ≡ true;
     }

@@ -8,8 +8,8 @@
 --     8 to 23      coin word of each vote
 --     24 to 39     free
 --     40 to 551    requesters, 32 words for each vote, by round: mark p for requester p
-use Rattle.std.specs.Prelude.{ℕ, ◌+◌, ◌*◌, ◌≤◌, Bool, false, ◌&&◌, cond, not, List, [], ◌∷◌, ◌≢◌, ◌≡◌, length, eqb, ltb}
-use Rattle.settings.specs.Refusals.{SETTINGS, NO_STATE, COIN}
+use Rattle.std.specs.Prelude.{ℕ, ◌+◌, ◌*◌, ◌≤◌, Bool, false, ◌&&◌, cond, not, List, [], ◌∷◌, ◌≢◌, ◌≡◌, length, eqb, ltb, Option, Some, None, Result, Ok, Err}
+use Rattle.settings.specs.declared.refusal.Refusal.TheVariants as refusal
 use Rattle.settings.specs.Settings.{valid_settings, named_ta, round_limit}
 use Rattle.quorum.specs.Marks.{mark}
 use Rattle.quorum.specs.Weights.{weigh}
@@ -20,8 +20,8 @@ use Rattle.records.specs.Records.{coin}
 use Rattle.session.specs.Session.{numbered}
 use Rattle.opening.specs.Given.{item}
 use Rattle.opening.specs.Opening.{with_coins}
-use Rattle.coin_box.specs.declared.Reply.{Reply}
-use Rattle.coin_box.specs.declared.Reply.TheVariants.{Refused, Sealed, Bit}
+use Rattle.std.specs.Result.{is_ok}
+use Rattle.settings.specs.declared.refusal.Refusal.{Refusal}
 
 abbrev pub box_words : ℕ
 box_words = 552
@@ -34,14 +34,14 @@ requests_at i r = 7 + 32 * i + r
 
 -- ---- opening
 
--- a box refuses another number of words than 552, then the settings that an opening refuses and another number of coin words than n; 0 is
--- accepted (PROTOCOL 9.28)
-unfoldable pub box_open_answer : ℕ → ℕ → ℕ → ℕ → ℕ → ℕ → ℕ
+-- a box refuses another number of words than 552, then the settings that an opening refuses and another number of coin words than n
+-- (PROTOCOL 9.28)
+unfoldable pub box_open_answer : ℕ → ℕ → ℕ → ℕ → ℕ → ℕ → Result (Unit {0}) Refusal
 box_open_answer words n ta ts w coin_words =
-    cond (not (eqb words box_words)) NO_STATE
-    (cond (not (valid_settings n (named_ta n ta ts w) ts w)) SETTINGS
-    (cond (not (eqb coin_words n)) SETTINGS
-    0))
+    cond (not (eqb words box_words)) (Err refusal.NoState)
+    (cond (not (valid_settings n (named_ta n ta ts w) ts w)) (Err refusal.Settings)
+    (cond (not (eqb coin_words n)) (Err refusal.Settings)
+    (Ok tt)))
 
 unfoldable pub box_settings : List ℕ → ℕ → ℕ → ℕ → ℕ → List ℕ
 box_settings s n ta ts w = put (put (put (put s n_at n) ta_at ta) ts_at ts) box_weights_at w
@@ -53,7 +53,7 @@ box_open_words n ta ts w coins = with_coins (box_settings (blank box_words) n (n
 -- the words after an opening, accepted or not
 unfoldable pub box_opened : List ℕ → ℕ → ℕ → ℕ → ℕ → List ℕ → List ℕ
 box_opened s n ta ts w coins =
-    cond (eqb (box_open_answer (length s) n ta ts w (length coins)) 0) (box_open_words n ta ts w coins) s
+    cond (is_ok (box_open_answer (length s) n ta ts w (length coins))) (box_open_words n ta ts w coins) s
 
 -- ---- requests: each has a requester, a vote and a round (PROTOCOL 12.4)
 
@@ -77,10 +77,10 @@ unsealed s i r = ltb (word s ta_at) (requested s i r)
 unfoldable pub request_words : List ℕ → ℕ → ℕ → ℕ → List ℕ
 request_words s p i r = cond (asks s p i r) (set_mark s (requests_at i r) p) s
 
--- sealed, and once the requesters weigh enough the bit (PROTOCOL 12.6): the request itself counts, so the one that completes the weight is told
+-- none while the coin is sealed, and once the requesters weigh enough the bit (PROTOCOL 12.6): the request itself counts, so the one that completes the weight is told
 -- the bit
-unfoldable pub request_reply : List ℕ → ℕ → ℕ → ℕ → Reply
-request_reply s p i r = cond (asks s p i r) (cond (unsealed (request_words s p i r) i r) (Bit (coin s i r)) Sealed) (Refused COIN)
+unfoldable pub request_reply : List ℕ → ℕ → ℕ → ℕ → Result (Option Bool) Refusal
+request_reply s p i r = cond (asks s p i r) (cond (unsealed (request_words s p i r) i r) (Ok (Some (coin s i r))) (Ok None)) (Err refusal.Coin)
 
 -- ---- requests one after another, newest first
 
@@ -93,7 +93,7 @@ unfoldable pub after : List ℕ → List Request → List ℕ
 after s [] = s
 after s (q ∷ qs) = request_words (after s qs) q.requester q.vote q.round
 
-unfoldable pub replies : List ℕ → List Request → List Reply
+unfoldable pub replies : List ℕ → List Request → List (Result (Option Bool) Refusal)
 replies s [] = []
 replies s (q ∷ qs) = request_reply (after s qs) q.requester q.vote q.round ∷ replies s qs
 
@@ -107,7 +107,7 @@ coin_of coins i r = mark (item coins i) r
 -- differ only in coins that are sealed after the requests; requests of any kind, refused ones too
 unfoldable pub Secret : Type 0
 Secret =
-    (n ta ts w : ℕ) (s t a b : List ℕ) → box_open_answer (length s) n ta ts w (length a) ≡ 0 → box_open_answer (length t) n ta ts w (length b) ≡ 0 →
+    (n ta ts w : ℕ) (s t a b : List ℕ) → box_open_answer (length s) n ta ts w (length a) ≡ Ok tt → box_open_answer (length t) n ta ts w (length b) ≡ Ok tt →
     (qs : List Request) →
     ((i r : ℕ) → 1 ≤ i → i ≤ n → 1 ≤ r → r ≤ round_limit → coin_of a i r ≢ coin_of b i r → unsealed (after (box_opened s n ta ts w a) qs) i r ≡ false) →
     replies (box_opened s n ta ts w a) qs ≡ replies (box_opened t n ta ts w b) qs

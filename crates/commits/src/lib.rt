@@ -32,25 +32,14 @@ fn same_set(s: &[u64], p: u8, q: u8) -> bool
     if n != records::commit_count(s, q) {
         return false;
     }
-    let mut k: u8 = 0;
-    while k < n {
-        k += 1;
-        if !same_value(s, p, q, k) {
-            return false;
-        }
-    }
-    true
+    (0..n).all(|k| same_value(s, p, q, k + 1))
 }
 
 // Whether sender q holds the set of sender p.
 fn holds_set(s: &[u64], p: u8, q: u8) -> bool
     ensures { result ≡ (commit_held s.now q && same_set s.now p q) }
 {
-    if commit_held(s, q) {
-        same_set(s, p, q)
-    } else {
-        false
-    }
+    commit_held(s, q) && same_set(s, p, q)
 }
 
 // The weight of the senders that hold the set of sender p: their marks are collected, then weighed at once. n and the weights come as
@@ -59,10 +48,8 @@ fn set_holders(s: &[u64], weights: u64, n: u8, p: u8) -> u64
     ensures { result ≡ set_holders (counting n weights) s.now p }
 {
     let mut m: u64 = 0;
-    let mut q = quorum::mark_end(n);
-    while 0 < q {
-        m = 2 * m + holds_set(s, p, q) as u64;
-        q -= 1;
+    for k in (0..quorum::mark_end(n)).rev() {
+        m = 2 * m + u64::from(holds_set(s, p, k + 1));
     }
     quorum::weigh_marks(m, 0, n, weights)
 }
@@ -71,11 +58,7 @@ fn set_holders(s: &[u64], weights: u64, n: u8, p: u8) -> u64
 fn set_leads(s: &[u64], weights: u64, n: u8, k: u64, p: u8) -> bool
     ensures { result ≡ set_leads (counting n weights) s.now k p }
 {
-    if commit_held(s, p) {
-        k <= set_holders(s, weights, n, p)
-    } else {
-        false
-    }
+    commit_held(s, p) && k <= set_holders(s, weights, n, p)
 }
 
 // The weight of the senders of whom a COMMIT is held: those whose count is not 0.
@@ -90,9 +73,8 @@ fn commits_held(s: &[u64], weights: u64, n: u8) -> u64
 fn leader_of(s: &[u64], weights: u64, n: u8, k: u64) -> u8
     ensures { result ≡ set_leader (counting n weights) s.now k }
 {
-    let mut p: u8 = 0;
-    while p < n {
-        p += 1;
+    for q in 0..n {
+        let p = q + 1;
         if set_leads(s, weights, n, k, p) {
             return p;
         }

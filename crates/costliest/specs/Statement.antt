@@ -1,10 +1,10 @@
 -- The costliest session, as claims about lists of calls: PROTOCOL, section 14.
-use Rattle.std.specs.Prelude.{ℕ, ◌+◌, ◌*◌, ◌≤◌, true, cond, List, [], ◌∷◌, ◌++◌, ◌≡◌, length}
-use Rattle.std.proofs.Math.Option.{some}
+use Rattle.std.specs.Prelude.{ℕ, ◌+◌, ◌*◌, ◌≤◌, true, cond, List, [], ◌∷◌, ◌++◌, ◌≡◌, length, Some, Result, Ok, Err}
 use Rattle.settings.specs.Versions.{FIRST_VERSION, finishing}
+use Rattle.settings.specs.declared.refusal.Refusal.{Refusal}
 use Rattle.turn.specs.Turn.{sent_length}
 use Rattle.turn.specs.declared.Outcome.{Outcome}
-use Rattle.turn.specs.declared.Outcome.TheVariants.{Refused, Idle, Sent, MovedOut, InForce}
+use Rattle.turn.specs.declared.Outcome.TheVariants.{Idle, Sent, MovedOut, InForce}
 use Rattle.journal.specs.Journal.{turned_outcome}
 use Rattle.calls.specs.Machine.{Call, opening, delivery, turn, report, restore, recording, traced}
 use Rattle.calls.specs.Engine.{engine}
@@ -19,7 +19,7 @@ whole_session n = costliest_calls n ++ (opening 1 (opening_of (opens n)) ∷ [])
 -- the opening is accepted, and of the calls after it exactly k are turns that act
 pub record Takes (n k : ℕ) (start : ℕ → List ℕ) : Type 0 where
   pub is_opened_lem : engine.opens (start 1) (opening_of (opens n)) ≡ true
-  pub exactly : session_at start (whole_session n) 1 ≡ some (record { terms = terms_by (opens n); turns = k })
+  pub exactly : session_at start (whole_session n) 1 ≡ Some (record { terms = terms_by (opens n); turns = k })
 
 -- for n from 2 to 16 the session takes 99·n+3 turns, whatever its buffer held; that no calls bring more is the bound on turns, `TurnCount`
 unfoldable pub Costliest : Type 0
@@ -33,19 +33,19 @@ FiveTurns = (start : ℕ → List ℕ) → length (start 1) ≡ 2048 → Takes 1
 -- the last accepted opening or restore is of version 1 and has n = 1 and the weight 1, its coins printed or boxed
 unfoldable pub AtMostFive : Type 0
 AtMostFive =
-    (start : ℕ → List ℕ) (cs : Calls) (q : ℕ) (x : Begun) → session_at start cs q ≡ some x → x.terms.version ≡ FIRST_VERSION → x.terms.settings.n ≡ 1 → x.terms.settings.weights ≡ 1 →
+    (start : ℕ → List ℕ) (cs : Calls) (q : ℕ) (x : Begun) → session_at start cs q ≡ Some x → x.terms.version ≡ FIRST_VERSION → x.terms.settings.n ≡ 1 → x.terms.settings.weights ≡ 1 →
     x.turns ≤ 5
 
 -- a turn whose outcome is sent (PROTOCOL 8.9)
-abbrev pub sent_one : Outcome → ℕ
-sent_one (Refused k) = 0
-sent_one Idle = 0
-sent_one (Sent m) = 1
-sent_one MovedOut = 0
-sent_one InForce = 0
+abbrev pub sent_one : Result Outcome Refusal → ℕ
+sent_one (Err k) = 0
+sent_one (Ok Idle) = 0
+sent_one (Ok (Sent m)) = 1
+sent_one (Ok MovedOut) = 0
+sent_one (Ok InForce) = 0
 
 -- what f makes of the turns since the last accepted opening or restore, summed up: k before a call on the words w
-abbrev pub sent_after : (Outcome → ℕ) → Call engine → List ℕ → ℕ → ℕ
+abbrev pub sent_after : (Result Outcome Refusal → ℕ) → Call engine → List ℕ → ℕ → ℕ
 sent_after f (opening p o) w k = cond (engine.opens w o) 0 k
 sent_after f (delivery p m b) w k = k
 sent_after f (turn p l) w k = f (turned_outcome w (length l.message) l.line) + k
@@ -54,7 +54,7 @@ sent_after f (restore p v r) w k = cond (engine.restores v r) 0 k
 sent_after f (recording p b) w k = k
 
 -- .. at q after a list of calls
-unfoldable pub sent_at : (Outcome → ℕ) → (ℕ → List ℕ) → Calls → ℕ → ℕ
+unfoldable pub sent_at : (Result Outcome Refusal → ℕ) → (ℕ → List ℕ) → Calls → ℕ → ℕ
 sent_at f start cs q = traced engine start (sent_after f) 0 cs q
 
 -- the most FINISHes of a session: one for each vote, in version 2
@@ -68,4 +68,4 @@ pub record Sends (k : Terms) (start : ℕ → List ℕ) (cs : Calls) (q : ℕ) :
 
 -- no calls make a concentrator send more
 unfoldable pub AtMostSent : Type 0
-AtMostSent = (start : ℕ → List ℕ) (cs : Calls) (q : ℕ) (x : Begun) → session_at start cs q ≡ some x → Sends x.terms start cs q
+AtMostSent = (start : ℕ → List ℕ) (cs : Calls) (q : ℕ) (x : Begun) → session_at start cs q ≡ Some x → Sends x.terms start cs q

@@ -1,7 +1,7 @@
 -- Delivery: the verdict on a message, and the words after it. A delivery records one message that came over a link, and with an EST of 1 whether 1
 -- was accepted before 0; a FINISH may decide its vote. It does nothing else (PROTOCOL 3.7, 9.17, 9.18).
-use Rattle.std.specs.Prelude.{ℕ, Bool, ◌||◌, ◌&&◌, not, cond, List, eqb, drop}
-use Rattle.settings.specs.Refusals.{NO_STATE, CLOSED, HELD}
+use Rattle.std.specs.Prelude.{ℕ, Bool, ◌||◌, ◌&&◌, not, cond, List, eqb, drop, Result, Ok, Err}
+use Rattle.settings.specs.declared.refusal.Refusal.TheVariants as refusal
 use Rattle.records.specs.Records.{closed, version, send_held, echo_held, ready_held, est_held, aux_held, finish_held}
 use Rattle.records.specs.Writing.{with_send, with_echo, with_ready, with_est, with_aux, with_one_first, with_finish, with_commit, with_decision}
 use Rattle.commits.specs.Commits.{commit_held}
@@ -13,10 +13,7 @@ use Rattle.wire.specs.Bytes.{value_at}
 use Rattle.wire.specs.Reading.{read_message}
 use Rattle.wire.specs.declared.Message.{Message}
 use Rattle.wire.specs.declared.Message.TheVariants.{Send, Echo, Ready, Est, Aux, Commit, Finish}
-use Rattle.wire.specs.declared.Parsed.{Parsed}
-use Rattle.wire.specs.declared.Parsed.TheVariants as parsed
-use Rattle.delivery.specs.declared.Verdict.{Verdict}
-use Rattle.delivery.specs.declared.Verdict.TheVariants.{Refused, Accepted}
+use Rattle.settings.specs.declared.refusal.Refusal.{Refusal}
 
 -- the place of a message of sender p is taken, as the table of places has it (PROTOCOL 3.1 to 3.5, 3.12)
 unfoldable pub place_held : List ℕ → ℕ → Message → Bool
@@ -29,15 +26,15 @@ place_held s p (Commit k) = commit_held s p
 place_held s p (Finish i b) = finish_held s i 0 p || finish_held s i 1 p
 
 -- the refusals 2 to 7, then 11 where the message's place is taken (PROTOCOL 3.6)
-unfoldable pub judged : List ℕ → ℕ → Parsed → Verdict
-judged s p (parsed.Refused k) = Refused k
-judged s p (parsed.Taken m) = cond (place_held s p m) (Refused HELD) (Accepted m)
+unfoldable pub judged : List ℕ → ℕ → Result Message Refusal → Result Message Refusal
+judged s p (Err k) = Err k
+judged s p (Ok m) = cond (place_held s p m) (Err refusal.Held) (Ok m)
 
 -- the refusals of a delivery in their order, apart from 8 for its line: the first one, or the message (PROTOCOL 10.15)
-unfoldable pub verdict : List ℕ → ℕ → List ℕ → Verdict
+unfoldable pub verdict : List ℕ → ℕ → List ℕ → Result Message Refusal
 verdict s link b =
-    cond (not (is_state s)) (Refused NO_STATE)
-    (cond (closed s) (Refused CLOSED)
+    cond (not (is_state s)) (Err refusal.NoState)
+    (cond (closed s) (Err refusal.Closed)
     (judged s link (read_message (version s) (session_of s).settings.n (session_of s).number link b)))
 
 -- where an EST of 1 leaves 1 accepted and 0 not, 1 was complete before 0, and the state records it, for any round (PROTOCOL 5.19)
@@ -59,18 +56,18 @@ recorded s p (Aux i r b) v = with_aux s i r b p
 recorded s p (Commit k) v = with_commit s p (value_at v) k
 recorded s p (Finish i b) v = finish_settled (settings_of s) (with_finish s i b p) i b
 
--- the number of a verdict: 0 is accepted
-unfoldable pub answer_of : Verdict → ℕ
-answer_of (Refused k) = k
-answer_of (Accepted m) = 0
+-- the answer of a verdict
+unfoldable pub answer_of : Result Message Refusal → Result (Unit {0}) Refusal
+answer_of (Err k) = Err k
+answer_of (Ok m) = Ok tt
 
 -- the words after a verdict: a refusal changes none (PROTOCOL 9.3)
-unfoldable pub words_after : Verdict → List ℕ → ℕ → List ℕ → List ℕ
-words_after (Refused k) s link b = s
-words_after (Accepted m) s link b = recorded s link m (drop 12 b)
+unfoldable pub words_after : Result Message Refusal → List ℕ → ℕ → List ℕ → List ℕ
+words_after (Err k) s link b = s
+words_after (Ok m) s link b = recorded s link m (drop 12 b)
 
 -- the answer and the words of a delivery
-unfoldable pub deliver_answer : List ℕ → ℕ → List ℕ → ℕ
+unfoldable pub deliver_answer : List ℕ → ℕ → List ℕ → Result (Unit {0}) Refusal
 deliver_answer s link b = answer_of (verdict s link b)
 
 unfoldable pub delivered : List ℕ → ℕ → List ℕ → List ℕ

@@ -6,29 +6,21 @@ ghost use Rattle.records.specs.Writing.{with_est, with_finish, with_commit_value
 ghost use Rattle.wire.specs.Bytes.{value_at};
 ghost use Rattle.delivery.specs.Delivery.{place_held, judged, verdict, first_noted, finish_settled, recorded, answer_of, deliver_answer, delivered};
 ghost use Rattle.session.specs.Session.{is_state, settings_of};
-ghost use Rattle.session.specs.declared.Stored.TheVariants.{Held};
 ghost use Rattle.delivery.specs.laws.Stored.{verdict_for};
 
 use records::{layout, writing};
-use session::{Session, Stored};
-use settings::{Settings, refusal};
-use wire::{Message, Parsed};
-
-// What a delivery comes to: the number of the refusal, or the message to be recorded.
-#[derive(Clone, Copy)]
-pub enum Verdict {
-    Refused(u64),
-    Accepted(Message),
-}
+use session::Session;
+use settings::{Refusal, Settings};
+use wire::Message;
 
 // Whether the place of a message of sender p is taken.
 fn place_held(s: &[u64], p: u8, m: Message) -> bool
     ensures { result ≡ place_held s.now p m }
 {
     match m {
-        Message::Send { instance, value: _ } => records::send_held(s, instance),
-        Message::Echo { instance, value: _ } => records::echo_held(s, instance, p),
-        Message::Ready { instance, value: _ } => records::ready_held(s, instance, p),
+        Message::Send { instance, .. } => records::send_held(s, instance),
+        Message::Echo { instance, .. } => records::echo_held(s, instance, p),
+        Message::Ready { instance, .. } => records::ready_held(s, instance, p),
         Message::Est {
             instance,
             round,
@@ -37,56 +29,48 @@ fn place_held(s: &[u64], p: u8, m: Message) -> bool
         Message::Aux {
             instance,
             round,
-            value: _,
+            ..
         } => records::aux_held(s, instance, round, p),
-        Message::Commit { count: _ } => commits::commit_held(s, p),
-        Message::Finish { instance, value: _ } => records::finish_held(s, instance, p),
+        Message::Commit { .. } => commits::commit_held(s, p),
+        Message::Finish { instance, .. } => records::finish_held(s, instance, p),
     }
 }
 
 // The verdict in a session.
-fn verdict_in(s: &[u64], x: Session, link: u64, bytes: &[u8]) -> Verdict
-    ensures { result ≡ verdict_for (Held x) s.now link bytes.now }
+fn verdict_in(s: &[u64], x: Session, link: u64, bytes: &[u8]) -> Result<Message, Refusal>
+    ensures { result ≡ verdict_for (Some x) s.now link bytes.now }
 {
     if records::closed(s) {
-        return Verdict::Refused(refusal::CLOSED);
+        return Err(Refusal::Closed);
     }
-    let parsed = wire::read_message(bytes, records::version(s), x.settings.n, x.number, link);
-    match parsed {
-        Parsed::Refused(k) => Verdict::Refused(k),
-        Parsed::Taken(m) => {
-            if place_held(s, link as u8, m) {
-                Verdict::Refused(refusal::HELD)
-            } else {
-                Verdict::Accepted(m)
-            }
-        }
+    let m = wire::read_message(bytes, records::version(s), x.settings.n, x.number, link)?;
+    if place_held(s, link as u8, m) {
+        return Err(Refusal::Held);
     }
+    Ok(m)
 }
 
 // The verdict: 9, 10, 2 to 7, 11 in this order, or the message.
-pub fn judge(s: &[u64], link: u64, bytes: &[u8]) -> Verdict
+pub fn judge(s: &[u64], link: u64, bytes: &[u8]) -> Result<Message, Refusal>
     ensures { result ≡ verdict s.now link bytes.now }
 {
     // `state_of` asks the same: here it tells the compiler for all that is read later.
     if s.len() != layout::STATE_WORDS {
-        return Verdict::Refused(refusal::NO_STATE);
+        return Err(Refusal::NoState);
     }
     // Borrowed afresh: the slice itself would be copied in one piece, right after its two parts were stored (docs/PERFORMANCE.md).
-    let stored = session::state_of(&*s);
-    match stored {
-        Stored::NoState => Verdict::Refused(refusal::NO_STATE),
-        Stored::Held(x) => verdict_in(s, x, link, bytes),
-    }
+    let Some(x) = session::state_of(&*s) else {
+        return Err(Refusal::NoState);
+    };
+    verdict_in(s, x, link, bytes)
 }
 
 // Stores the first count values of a COMMIT of sender p.
 fn record_values(s: &mut [u64], p: u8, count: u8, part: &[u8])
     ensures { s.new ≡ with_commit_values s.old p (value_at part.now) count }
 {
-    let mut k: u8 = 0;
-    while k < count {
-        k += 1;
+    for j in 0..count {
+        let k = j + 1;
         writing::put_commit_value(s, p, k, wire::value_at(part, k));
     }
 }
@@ -162,18 +146,13 @@ fn record(s: &mut [u64], p: u8, m: Message, part: &[u8])
     }
 }
 
-// Delivers a message that came over the link of a concentrator, and answers 0 or the number of the refusal.
-pub fn deliver(state: &mut [u64], link: u64, bytes: &[u8]) -> u64
+// Delivers a message that came over the link of a concentrator; a refusal leaves the words.
+pub fn deliver(state: &mut [u64], link: u64, bytes: &[u8]) -> Result<(), Refusal>
     ensures answer { result ≡ deliver_answer state.old link bytes.now }
     ensures words { state.new ≡ delivered state.old link bytes.now }
 {
     // Borrowed afresh, as in `judge`.
-    let v = judge(state, link, &*bytes);
-    match v {
-        Verdict::Refused(k) => k,
-        Verdict::Accepted(m) => {
-            record(state, link as u8, m, &bytes[12..]);
-            0
-        }
-    }
+    let m = judge(state, link, &*bytes)?;
+    record(state, link as u8, m, &bytes[12..]);
+    Ok(())
 }

@@ -1,10 +1,10 @@
 -- Both directions, and the answer and the lent bytes of a conversion: PROTOCOL 19.6 to 19.8.
-use Rattle.std.specs.Prelude.{ℕ, cond, List, ◌++◌, ltb, length, drop}
+use Rattle.std.specs.Prelude.{ℕ, cond, List, ◌++◌, ltb, length, drop, Result, Ok, Err}
 use Rattle.delivery_csv.specs.Fields.{Outcome, bad, good}
 use Rattle.delivery_csv.specs.Records.{records_read, records_text}
 use Rattle.delivery_csv.specs.Lines.{lines_read, lines_text}
-use Rattle.delivery_csv.specs.declared.Conversion.{Conversion}
-use Rattle.delivery_csv.specs.declared.Conversion.TheVariants.{Record, Short, Written}
+use Rattle.delivery_csv.specs.declared.ConversionError.{ConversionError}
+use Rattle.delivery_csv.specs.declared.ConversionError.TheVariants.{Record, Short}
 
 -- the text of what is read
 unfoldable pub text_of : (List (List (List ℕ)) → List ℕ) → Outcome (List (List (List ℕ))) → Outcome (List ℕ)
@@ -18,9 +18,9 @@ unfoldable pub csv_of_drill : List ℕ → Outcome (List ℕ)
 csv_of_drill t = text_of records_text (lines_read 1 t)
 
 -- a record that is refused goes before too little room
-unfoldable pub conversion : Outcome (List ℕ) → ℕ → Conversion
-conversion (bad n) room = Record n
-conversion (good t) room = cond (ltb room (length t)) Short (Written (length t))
+unfoldable pub conversion : Outcome (List ℕ) → ℕ → Result ℕ ConversionError
+conversion (bad n) room = Err (Record n)
+conversion (good t) room = cond (ltb room (length t)) (Err Short) (Ok (length t))
 
 -- the lent bytes s after it: the text at their front, and nothing where it is refused
 unfoldable pub bytes_after : Outcome (List ℕ) → List ℕ → List ℕ

@@ -1,12 +1,13 @@
 -- An input converted as it comes: what is written does not depend on how reads cut it (PROTOCOL 19.10, 19.11).
-use Rattle.std.specs.Prelude.{ℕ, ◌+◌, ◌*◌, ◌≤◌, Bool, true, false, cond, ◌&&◌, ◌||◌, List, [], ◌∷◌, ◌++◌, ◌≡◌, leb, ltb, length, take, drop}
-use Rattle.delivery_csv.specs.Fields.{record_taken, bad, good}
+use Rattle.std.specs.Prelude.{ℕ, ◌+◌, ◌*◌, ◌≤◌, Bool, true, false, cond, ◌&&◌, ◌||◌, List, [], ◌∷◌, ◌++◌, ◌≡◌, leb, ltb, length, take, drop, Result, Ok, Err}
+use Rattle.delivery_csv.specs.Fields.{record_taken, Outcome, bad, good}
 use Rattle.delivery_csv.specs.Records.{records_in, record_right, record_fields, records_text}
 use Rattle.delivery_csv.specs.Lines.{lines_in, line_right, line_fields, lines_text}
 use Rattle.delivery_csv.specs.Converting.{drill_of_csv, csv_of_drill}
 use Rattle.delivery_csv.specs.Parts.{ended_part}
 use Rattle.delivery_csv.specs.declared.stream.Progress.{Progress}
-use Rattle.delivery_csv.specs.declared.stream.Progress.TheVariants.{Short, Refused, On, Over}
+use Rattle.delivery_csv.specs.declared.stream.Stop.{Stop}
+use Rattle.delivery_csv.specs.declared.stream.Stop.TheVariants.{Short, Refused}
 
 -- records or lines up to the first that is not taken
 unfoldable pub first_taken : (right : List ℕ → Bool) (fields_of : List ℕ → List (List ℕ)) → List (List ℕ) → List (List (List ℕ))
@@ -78,11 +79,17 @@ pub record Streamed : Type 0 where
 
 -- ---- the answers of the functions
 
--- where the lent bytes hold the text of an output, n bytes being converted
-unfoldable pub ended_progress : Output → (n room : ℕ) → Progress
-ended_progress x n room =
-    cond (ltb room (length x.text)) Short (cond x.refused (Refused (length x.text) x.count) (On (length x.text) n x.count))
+-- records to lines where quotes count, else lines to records
+unfoldable pub converted : (quotes : Bool) → List ℕ → Outcome (List ℕ)
+converted true t = drill_of_csv t
+converted false t = csv_of_drill t
 
-unfoldable pub last_progress : Output → (room : ℕ) → Progress
+-- where the lent bytes hold the text of an output, n bytes being converted
+unfoldable pub ended_progress : Output → (n room : ℕ) → Result Progress Stop
+ended_progress x n room =
+    cond (ltb room (length x.text)) (Err Short)
+    (cond x.refused (Err (Refused (length x.text) x.count)) (Ok (record { written = length x.text; length = n; count = x.count })))
+
+unfoldable pub last_progress : Output → (room : ℕ) → Result ℕ Stop
 last_progress x room =
-    cond (ltb room (length x.text)) Short (cond x.refused (Refused (length x.text) x.count) (Over (length x.text)))
+    cond (ltb room (length x.text)) (Err Short) (cond x.refused (Err (Refused (length x.text) x.count)) (Ok (length x.text)))

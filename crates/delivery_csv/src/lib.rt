@@ -1,10 +1,11 @@
 // Delivery lists: RFC 4180 records as drill lines, field by field, and back.
 #![tactic(auto)]
 
+mod direction;
 mod lines;
 mod parts;
 mod records;
-mod spending;
+mod scan;
 mod stream;
 
 ghost use Rattle.std.specs.Prelude.{◌≡◌, length};
@@ -15,18 +16,19 @@ ghost use Rattle.delivery_csv.specs.Blocks.{BlockByBlock};
 ghost use Rattle.delivery_csv.specs.Parts.{PartsEnded};
 ghost use Rattle.delivery_csv.specs.Stream.{Streamed};
 
+pub use direction::{Direction, ToCsv, ToDrill};
 pub use parts::{Part, ended_part};
-pub use stream::{Progress, convert_ended, convert_rest};
+pub use stream::{Progress, Stop, convert_ended, convert_rest};
 
-pub const TAB: u8 = 9;
+pub const TAB: u8 = b'\t';
 
-pub const LF: u8 = 10;
+pub const LF: u8 = b'\n';
 
-pub const CR: u8 = 13;
+pub const CR: u8 = b'\r';
 
-pub const QUOTE: u8 = 34;
+pub const QUOTE: u8 = b'"';
 
-pub const COMMA: u8 = 44;
+pub const COMMA: u8 = b',';
 
 // The most fields of a record.
 pub const MAX_FIELDS: u64 = 16;
@@ -34,22 +36,13 @@ pub const MAX_FIELDS: u64 = 16;
 // The most bytes of a field.
 pub const MAX_FIELD_BYTES: u8 = 64;
 
-// The answer of a conversion.
-#[derive(Clone, Copy)]
-pub enum Conversion {
+// Why a text is not converted.
+#[derive(Clone, Copy, Debug, PartialEq, Eq)]
+pub enum ConversionError {
     // The number, from 1, of the first record or line that cannot be taken.
     Record(u64),
     // The lent bytes are too few.
     Short,
-    // How many bytes were written.
-    Written(usize),
-}
-
-// What is left of the lent bytes: once more was spent than there was, `over` is true and `left` 0.
-#[derive(Clone, Copy)]
-pub struct Room {
-    pub left: usize,
-    pub over: bool,
 }
 
 // Where in a record the next byte stands.
@@ -75,25 +68,6 @@ pub struct RecordReader {
     pub fields: u8,
     // The bytes of the field being read, quotes undone.
     pub length: u8,
-    // Whether the record cannot be taken.
-    pub bad: bool,
-}
-
-// What a byte of a record puts into a drill line.
-#[derive(Clone, Copy)]
-pub enum Shown {
-    Nothing,
-    Byte(u8),
-}
-
-// A text of records of which some bytes are judged.
-#[derive(Clone, Copy)]
-pub struct RecordScan {
-    pub reader: RecordReader,
-    // How many records are over.
-    pub count: u64,
-    // What their lines leave of the lent bytes.
-    pub room: Room,
 }
 
 // A line of which some bytes are read.
@@ -105,50 +79,26 @@ pub struct LineReader {
     pub length: u8,
     // Whether that field is written in quotes.
     pub wraps: bool,
-    // Whether the line cannot be taken.
-    pub bad: bool,
 }
 
-// A text of lines of which some bytes are judged.
-#[derive(Clone, Copy)]
-pub struct LineScan {
-    pub reader: LineReader,
-    // How many lines are over.
-    pub count: u64,
-    // What their records leave of the lent bytes.
-    pub room: Room,
-}
-
-// Turns records into drill lines. A refusal leaves the lent bytes.
-pub fn csv_to_drill(text: &[u8], out: &mut [u8]) -> Conversion
+// Turns records into drill lines, and answers how many bytes were written. A refusal leaves the lent bytes.
+pub fn csv_to_drill(text: &[u8], out: &mut [u8]) -> Result<usize, ConversionError>
     ensures answer { result ≡ conversion (drill_of_csv text.now) (length out.old) }
     ensures bytes { out.new ≡ bytes_after (drill_of_csv text.now) out.old }
 {
-    let x = records::judge(text, out.len());
-    match x {
-        Conversion::Record(n) => Conversion::Record(n),
-        Conversion::Short => Conversion::Short,
-        Conversion::Written(n) => {
-            records::write(text, out);
-            Conversion::Written(n)
-        }
-    }
+    let written = records::judge(text, out.len())?;
+    records::write(text, out);
+    Ok(written)
 }
 
-// Turns drill lines into records. A refusal leaves the lent bytes.
-pub fn drill_to_csv(text: &[u8], out: &mut [u8]) -> Conversion
+// Turns drill lines into records, and answers how many bytes were written. A refusal leaves the lent bytes.
+pub fn drill_to_csv(text: &[u8], out: &mut [u8]) -> Result<usize, ConversionError>
     ensures answer { result ≡ conversion (csv_of_drill text.now) (length out.old) }
     ensures bytes { out.new ≡ bytes_after (csv_of_drill text.now) out.old }
 {
-    let x = lines::judge(text, out.len());
-    match x {
-        Conversion::Record(n) => Conversion::Record(n),
-        Conversion::Short => Conversion::Short,
-        Conversion::Written(n) => {
-            lines::write(text, out);
-            Conversion::Written(n)
-        }
-    }
+    let written = lines::judge(text, out.len())?;
+    lines::write(text, out);
+    Ok(written)
 }
 
 // What one conversion writes the other takes, and turns to the same lines or to the same fields.

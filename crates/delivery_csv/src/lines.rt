@@ -1,15 +1,14 @@
 // Reading drill lines byte by byte, and writing their records.
-ghost use Rattle.std.specs.Prelude.{◌+◌, ◌^◌, ◌<◌, true, [], ◌∷◌, ◌++◌, ◌≡◌, length, drop};
+ghost use Rattle.std.specs.Prelude.{is_none, ◌+◌, ◌^◌, ◌<◌, true, [], ◌∷◌, ◌++◌, ◌≡◌, length, drop};
 ghost use Rattle.text.specs.Paste.{Wrote};
 ghost use Rattle.delivery_csv.specs.Records.{special};
-ghost use Rattle.delivery_csv.specs.laws.LineReader.{field_ends, wraps_in, wraps_after, reading_line, wrong_line, parted_line, extended_line, advanced_line, line_ends, quote_if, end_mark, line_shown, line_untouched, line_end_text, scanned_line, line_scan_answer, start_scan, judged_lines, written_lines};
+ghost use Rattle.delivery_csv.specs.laws.LineReader.{field_ends, wraps_in, wraps_after, reading_line, parted_line, extended_line, fed_line, advanced_line, line_ends, quote_if, end_mark, line_shown, line_untouched, line_end_text, line_wraps, scanned_line, start_scan, judged_lines, written_lines};
 
-use crate::{
-    COMMA, CR, Conversion, LF, LineReader, LineScan, MAX_FIELD_BYTES, MAX_FIELDS, QUOTE, TAB,
-    spending,
-};
+use crate::scan::{Scan, spend};
+use crate::{COMMA, CR, ConversionError, LF, LineReader, MAX_FIELD_BYTES, MAX_FIELDS, QUOTE, TAB};
 
 // Whether a field with the byte needs quotes.
+#[tactic(auto, unfolding(crate::specs::Records::special))]
 fn special(byte: u8) -> bool
     ensures { result ≡ special byte }
 {
@@ -17,123 +16,127 @@ fn special(byte: u8) -> bool
 }
 
 // Whether a field is over at the byte.
+#[tactic(auto, unfolding(crate::specs::laws::LineReader::field_ends))]
 fn field_ends(byte: u8) -> bool
     ensures { result ≡ field_ends byte }
 {
     (byte == TAB) | (byte == LF)
 }
 
-// Whether the field at a place of a text needs quotes.
-fn wraps_at(text: &[u8], place: usize) -> bool
-    ensures { result ≡ wraps_in (drop place text.now) }
+// Whether the field at the front of a text needs quotes.
+#[tactic(auto, unfolding(crate::specs::laws::LineReader::wraps_in))]
+fn wraps(text: &[u8]) -> bool
+    ensures { result ≡ wraps_in text.now }
 {
-    let mut k = place;
-    while k < text.len() {
-        let byte = text[k];
-        if field_ends(byte) {
-            return false;
-        }
-        if special(byte) {
-            return true;
-        }
-        k += 1;
-    }
-    false
+    text.iter()
+        .take_while(|byte| !field_ends(**byte))
+        .any(|byte| special(*byte))
 }
 
-// Whether the field that starts at a place, after the byte, needs quotes, if one starts there.
-fn wraps_after(text: &[u8], place: usize, byte: u8) -> bool
-    ensures { result ≡ wraps_after byte (drop place text.now) }
+// Whether the field that starts after the byte, at the front of the rest of the text, needs quotes, if one starts there.
+#[tactic(auto, using(crate::specs::laws::LineCases::after_cases))]
+fn wraps_after(byte: u8, rest: &[u8]) -> bool
+    ensures { result ≡ wraps_after byte rest.now }
 {
-    if field_ends(byte) {
-        return wraps_at(text, place);
-    }
-    false
+    field_ends(byte) && wraps(rest)
 }
 
 // A line that may still be taken.
-fn reading_line(fields: u8, length: u8, wraps: bool) -> LineReader
+#[tactic(auto, unfolding(crate::specs::laws::LineReader::reading_line))]
+fn reading_line(fields: u8, length: u8, wraps: bool) -> Option<LineReader>
     ensures { result ≡ reading_line fields length wraps }
 {
-    LineReader {
+    Some(LineReader {
         fields,
         length,
         wraps,
-        bad: false,
-    }
-}
-
-// A line that is not taken.
-fn wrong_line() -> LineReader
-    ensures { result ≡ wrong_line }
-{
-    LineReader {
-        fields: 0,
-        length: 0,
-        wraps: false,
-        bad: true,
-    }
+    })
 }
 
 // A tab: the field is over, and another follows.
-fn parted_line(r: LineReader, wraps: bool) -> LineReader
+#[tactic(auto, using(crate::specs::laws::LineCases::parted_cases))]
+fn parted_line(r: LineReader, wraps: bool) -> Option<LineReader>
     ensures { result ≡ parted_line r wraps }
 {
-    if r.fields as u64 + 1 < MAX_FIELDS {
+    if u64::from(r.fields) + 1 < MAX_FIELDS {
         return reading_line(r.fields + 1, 0, wraps);
     }
-    wrong_line()
+    None
 }
 
 // One more byte of a field.
-fn extended_line(r: LineReader) -> LineReader
+#[tactic(auto, using(crate::specs::laws::LineCases::extended_cases))]
+fn extended_line(r: LineReader) -> Option<LineReader>
     ensures { result ≡ extended_line r }
 {
     if r.length < MAX_FIELD_BYTES {
         return reading_line(r.fields, r.length + 1, r.wraps);
     }
-    wrong_line()
+    None
 }
 
 // Reads one more byte; `wraps` says whether a field that starts after it needs quotes.
-fn advanced_line(r: LineReader, byte: u8, wraps: bool) -> LineReader
-    ensures { result ≡ advanced_line r byte wraps }
+#[tactic(auto, using(crate::specs::laws::LineCases::fed_cases))]
+fn fed_line(r: LineReader, byte: u8, wraps: bool) -> Option<LineReader>
+    ensures { result ≡ fed_line r byte wraps }
 {
-    if r.bad {
-        return r;
+    match byte {
+        LF => reading_line(0, 0, wraps),
+        TAB => parted_line(r, wraps),
+        CR => None,
+        _ => extended_line(r),
     }
-    if byte == LF {
-        return reading_line(0, 0, wraps);
-    }
-    if byte == TAB {
-        return parted_line(r, wraps);
-    }
-    if byte == CR {
-        return wrong_line();
-    }
-    extended_line(r)
+}
+
+// A line that is not taken stays so.
+#[tactic(auto, unfolding(crate::specs::laws::LineReader::advanced_line))]
+fn advanced_line(reader: Option<LineReader>, byte: u8, wraps: bool) -> Option<LineReader>
+    ensures { result ≡ advanced_line reader byte wraps }
+{
+    fed_line(reader?, byte, wraps)
 }
 
 // Whether the byte ends the line.
-fn line_ends(r: LineReader, byte: u8) -> bool
-    ensures { result ≡ line_ends r byte }
+#[tactic(auto, unfolding(crate::specs::laws::LineReader::line_ends))]
+fn line_ends(reader: Option<LineReader>, byte: u8) -> bool
+    ensures { result ≡ line_ends reader byte }
 {
-    !r.bad & (byte == LF)
+    match reader {
+        Some(_) => byte == LF,
+        None => false,
+    }
 }
 
-// Whether nothing is read of the line.
-fn untouched(r: LineReader) -> bool
-    ensures { result ≡ line_untouched r }
+// Whether the field being read is written in quotes.
+#[tactic(auto, unfolding(crate::specs::laws::LineReader::line_wraps))]
+fn line_wraps(reader: Option<LineReader>) -> bool
+    ensures { result ≡ line_wraps reader }
 {
-    (r.fields == 0) & (r.length == 0)
+    match reader {
+        Some(r) => r.wraps,
+        None => false,
+    }
 }
 
+// Whether nothing is read of a line that may still be taken.
+#[tactic(auto, unfolding(crate::specs::laws::LineReader::line_untouched))]
+fn untouched(reader: Option<LineReader>) -> bool
+    ensures { result ≡ line_untouched reader }
+{
+    match reader {
+        Some(r) => (r.fields == 0) & (r.length == 0),
+        None => true,
+    }
+}
+
+#[tactic(auto, using(crate::specs::laws::LineCases::quote_lengths))]
 fn quote_length(wraps: bool) -> usize
     ensures { (result ≡ length (quote_if wraps)) × (result < 2) }
 {
     if wraps { 1 } else { 0 }
 }
 
+#[tactic(auto, using(crate::specs::laws::LineCases::mark_lengths))]
 fn mark_length(byte: u8) -> usize
     ensures { (result ≡ length (end_mark byte)) × (result < 3) }
 {
@@ -141,6 +144,7 @@ fn mark_length(byte: u8) -> usize
 }
 
 // How many bytes are written for a byte.
+#[tactic(auto, using(crate::specs::laws::LineCases::shown_lengths))]
 fn shown_length(wraps: bool, byte: u8, next: bool) -> usize
     ensures { result ≡ length (line_shown wraps byte next) }
 {
@@ -151,72 +155,53 @@ fn shown_length(wraps: bool, byte: u8, next: bool) -> usize
 }
 
 // How many bytes are written at the end of the text.
-fn end_length(r: LineReader) -> usize
-    ensures { result ≡ length (line_end_text r) }
+#[tactic(auto, using(crate::specs::laws::LineCases::end_lengths))]
+fn end_length(reader: Option<LineReader>) -> usize
+    ensures { result ≡ length (line_end_text reader) }
 {
-    if untouched(r) {
+    if untouched(reader) {
         return 0;
     }
-    quote_length(r.wraps) + 2
+    quote_length(line_wraps(reader)) + 2
 }
 
 // One more byte is judged.
-fn scanned(x: LineScan, byte: u8, next: bool) -> LineScan
+#[tactic(auto, unfolding(crate::specs::laws::LineReader::scanned_line))]
+fn scanned(x: Scan<LineReader>, byte: u8, next: bool) -> Scan<LineReader>
     requires { x.count + 1 < 2 ^ 64 }
     ensures { result ≡ scanned_line x byte next }
 {
     let reader = x.reader;
-    let room = spending::spend(x.room, shown_length(reader.wraps, byte, next));
-    let after = advanced_line(reader, byte, next);
-    let mut count = x.count;
-    if line_ends(reader, byte) {
-        count += 1;
-    }
-    LineScan {
-        reader: after,
-        count,
-        room,
-    }
-}
-
-// The text is over.
-fn scan_answer(all: usize, x: LineScan) -> Conversion
-    requires { x.reader.bad ≡ true → x.count + 1 < 2 ^ 64 }
-    ensures { result ≡ line_scan_answer all x }
-{
-    let reader = x.reader;
-    if reader.bad {
-        return Conversion::Record(x.count + 1);
-    }
-    let room = spending::spend(x.room, end_length(reader));
-    spending::answer(all, room)
+    let written = shown_length(line_wraps(reader), byte, next);
+    x.passed(
+        advanced_line(reader, byte, next),
+        line_ends(reader, byte),
+        written,
+    )
 }
 
 // Nothing is judged but the quote of the first field, if it has one.
-fn scan_start(all: usize, wraps: bool) -> LineScan
+#[tactic(auto, unfolding(crate::specs::laws::LineReader::start_scan))]
+fn scan_start(all: usize, wraps: bool) -> Scan<LineReader>
     ensures { result ≡ start_scan all wraps }
 {
-    let room = spending::spend(spending::fresh(all), quote_length(wraps));
-    let reader = reading_line(0, 0, wraps);
-    LineScan {
-        reader,
+    Scan {
+        reader: reading_line(0, 0, wraps),
         count: 0,
-        room,
+        room: spend(Some(all), quote_length(wraps)),
     }
 }
 
 // The answer for a text and so many lent bytes.
-pub fn judge(text: &[u8], all: usize) -> Conversion
+// `judge` and `write` are those of records over again: only a line looks at the bytes behind, so a trait of both needs more than the loops.
+pub fn judge(text: &[u8], all: usize) -> Result<usize, ConversionError>
     ensures { result ≡ judged_lines all text.now }
 {
-    let mut x = scan_start(all, wraps_at(text, 0));
-    let mut k: usize = 0;
-    while k < text.len() {
-        let byte = text[k];
-        x = scanned(x, byte, wraps_after(text, k + 1, byte));
-        k += 1;
+    let mut x = scan_start(all, wraps(text));
+    for (k, &byte) in text.iter().enumerate() {
+        x = scanned(x, byte, wraps_after(byte, &text[k + 1..]));
     }
-    scan_answer(all, x)
+    x.answer(all, x.reader.is_none(), end_length(x.reader))
 }
 
 fn put_quote_if(out: &mut [u8], at: usize, wraps: bool) -> usize
@@ -267,13 +252,13 @@ fn put_line_byte(out: &mut [u8], at: usize, wraps: bool, byte: u8, next: bool) -
 }
 
 // What is written at the end of the text.
-fn put_line_end(out: &mut [u8], at: usize, r: LineReader) -> usize
-    ensures { Wrote (line_end_text r) out.old at result out.new }
+fn put_line_end(out: &mut [u8], at: usize, reader: Option<LineReader>) -> usize
+    ensures { Wrote (line_end_text reader) out.old at result out.new }
 {
-    if untouched(r) {
+    if untouched(reader) {
         return at;
     }
-    let place = put_quote_if(out, at, r.wraps);
+    let place = put_quote_if(out, at, line_wraps(reader));
     put_both(out, place, CR, LF)
 }
 
@@ -281,16 +266,13 @@ fn put_line_end(out: &mut [u8], at: usize, r: LineReader) -> usize
 pub fn write(text: &[u8], out: &mut [u8]) -> usize
     ensures { Wrote (written_lines text.now) out.old 0 result out.new }
 {
-    let wraps = wraps_at(text, 0);
+    let wraps = wraps(text);
     let mut reader = reading_line(0, 0, wraps);
     let mut at = put_quote_if(out, 0, wraps);
-    let mut k: usize = 0;
-    while k < text.len() {
-        let byte = text[k];
-        let next = wraps_after(text, k + 1, byte);
-        at = put_line_byte(out, at, reader.wraps, byte, next);
+    for (k, &byte) in text.iter().enumerate() {
+        let next = wraps_after(byte, &text[k + 1..]);
+        at = put_line_byte(out, at, line_wraps(reader), byte, next);
         reader = advanced_line(reader, byte, next);
-        k += 1;
     }
     put_line_end(out, at, reader)
 }

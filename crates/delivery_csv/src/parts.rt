@@ -1,8 +1,9 @@
 // The front of a text that ends with an end of a record or line: it can be converted before the rest is there.
 ghost use Rattle.std.specs.Prelude.{◌≡◌};
-ghost use Rattle.delivery_csv.specs.Parts.{turned_if, part_with, ended_part};
+ghost use Rattle.delivery_csv.specs.Parts.{part_with, ended_part};
 
-use crate::{LF, QUOTE};
+use crate::LF;
+use crate::direction::Direction;
 
 #[derive(Clone, Copy)]
 pub struct Part {
@@ -12,14 +13,8 @@ pub struct Part {
     pub count: u64,
 }
 
-// Whether a text that is within quotes or not goes on within them after a byte.
-fn turned_if(quotes: bool, inside: bool, byte: u8) -> bool
-    ensures { result ≡ turned_if quotes inside byte }
-{
-    quotes & (inside ^ (byte == QUOTE))
-}
-
 // The part once a byte is passed, and `passed` bytes with it.
+#[tactic(auto, using(crate::specs::laws::Walk::part_with_cases))]
 fn part_with(most: u64, inside: bool, passed: usize, part: Part, byte: u8) -> Part
     ensures { result ≡ part_with most inside passed part byte }
 {
@@ -37,20 +32,17 @@ fn part_with(most: u64, inside: bool, passed: usize, part: Part, byte: u8) -> Pa
 }
 
 // The longest front of a text with at most `most` ends of records, or of lines where quotes do not count, and an end last.
-pub fn ended_part(quotes: bool, text: &[u8], most: u64) -> Part
-    ensures { result ≡ ended_part quotes text.now most }
+pub fn ended_part<D: Direction>(text: &[u8], most: u64) -> Part
+    ensures { result ≡ ended_part D.quotes text.now most }
 {
     let mut part = Part {
         length: 0,
         count: 0,
     };
     let mut inside = false;
-    let mut k: usize = 0;
-    while k < text.len() {
-        let byte = text[k];
+    for (k, &byte) in text.iter().enumerate() {
         part = part_with(most, inside, k + 1, part, byte);
-        inside = turned_if(quotes, inside, byte);
-        k += 1;
+        inside = D::turned(inside, byte);
     }
     part
 }

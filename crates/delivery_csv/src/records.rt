@@ -2,310 +2,274 @@
 ghost use Rattle.std.specs.Prelude.{true, ◌≡◌, ◌+◌, ◌<◌, ◌^◌, length};
 ghost use Rattle.text.specs.Paste.{Wrote};
 ghost use Rattle.delivery_csv.specs.Converting.{drill_of_csv, conversion};
-ghost use Rattle.delivery_csv.specs.laws.RecordReader.{reading, start, wrong, extended, parted, plain_fed, quoted_fed, closing_fed, fed, within, ends, advanced, plain_shown, shown_in, shown_text, untouched, broken, scanned, scan_answer, emitted};
+ghost use Rattle.delivery_csv.specs.laws.RecordReader.{reading, start, extended, parted, plain_fed, quoted_fed, closing_fed, fed_in, within, ends, advanced, plain_shown, shown_in, shown, shown_text, untouched, broken, end_text, scanned, emitted};
 
+use crate::scan::Scan;
 use crate::{
-    COMMA, CR, Conversion, LF, MAX_FIELD_BYTES, MAX_FIELDS, Phase, QUOTE, RecordReader, RecordScan,
-    Shown, TAB, spending,
+    COMMA, CR, ConversionError, LF, MAX_FIELD_BYTES, MAX_FIELDS, Phase, QUOTE, RecordReader, TAB,
 };
 
-fn reading(phase: Phase, fields: u8, length: u8) -> RecordReader
+// A record that may still be taken.
+#[tactic(auto, unfolding(crate::specs::laws::RecordReader::reading))]
+fn reading(phase: Phase, fields: u8, length: u8) -> Option<RecordReader>
     ensures { result ≡ reading phase fields length }
 {
-    RecordReader {
+    Some(RecordReader {
         phase,
         fields,
         length,
-        bad: false,
-    }
+    })
 }
 
-fn start() -> RecordReader
+#[tactic(auto, unfolding(crate::specs::laws::RecordReader::start))]
+fn start() -> Option<RecordReader>
     ensures { result ≡ start }
 {
     reading(Phase::Start, 0, 0)
 }
 
-fn wrong() -> RecordReader
-    ensures { result ≡ wrong }
-{
-    RecordReader {
-        phase: Phase::Start,
-        fields: 0,
-        length: 0,
-        bad: true,
-    }
-}
-
 // One more byte of a field.
-fn extended(r: RecordReader, phase: Phase) -> RecordReader
+#[tactic(auto, using(crate::specs::laws::RecordCases::extending))]
+fn extended(r: RecordReader, phase: Phase) -> Option<RecordReader>
     ensures { result ≡ extended r phase }
 {
     if r.length < MAX_FIELD_BYTES {
         return reading(phase, r.fields, r.length + 1);
     }
-    wrong()
+    None
 }
 
 // A comma that ends a field.
-fn parted(r: RecordReader) -> RecordReader
+#[tactic(auto, using(crate::specs::laws::RecordCases::parting))]
+fn parted(r: RecordReader) -> Option<RecordReader>
     ensures { result ≡ parted r }
 {
-    if r.fields as u64 + 1 < MAX_FIELDS {
+    if u64::from(r.fields) + 1 < MAX_FIELDS {
         return reading(Phase::Start, r.fields + 1, 0);
     }
-    wrong()
+    None
 }
 
 // A byte outside quotes.
-fn plain_fed(r: RecordReader, byte: u8) -> RecordReader
+#[tactic(auto, using(crate::specs::laws::RecordCases::plain_cases))]
+fn plain_fed(r: RecordReader, byte: u8) -> Option<RecordReader>
     ensures { result ≡ plain_fed r byte }
 {
-    if byte == COMMA {
-        return parted(r);
+    match byte {
+        COMMA => parted(r),
+        CR => reading(Phase::Return, r.fields, r.length),
+        TAB => None,
+        _ => extended(r, Phase::Plain),
     }
-    if byte == CR {
-        return reading(Phase::Return, r.fields, r.length);
-    }
-    if byte == TAB {
-        return wrong();
-    }
-    extended(r, Phase::Plain)
 }
 
 // A byte within quotes.
-fn quoted_fed(r: RecordReader, byte: u8) -> RecordReader
+#[tactic(auto, using(crate::specs::laws::RecordCases::quoted_cases))]
+fn quoted_fed(r: RecordReader, byte: u8) -> Option<RecordReader>
     ensures { result ≡ quoted_fed r byte }
 {
-    if byte == QUOTE {
-        return reading(Phase::Closing, r.fields, r.length);
+    match byte {
+        QUOTE => reading(Phase::Closing, r.fields, r.length),
+        TAB | CR | LF => None,
+        _ => extended(r, Phase::Quoted),
     }
-    if (byte == TAB) | ((byte == CR) | (byte == LF)) {
-        return wrong();
-    }
-    extended(r, Phase::Quoted)
 }
 
 // A byte after a quote within quotes.
-fn closing_fed(r: RecordReader, byte: u8) -> RecordReader
+#[tactic(auto, using(crate::specs::laws::RecordCases::closing_cases))]
+fn closing_fed(r: RecordReader, byte: u8) -> Option<RecordReader>
     ensures { result ≡ closing_fed r byte }
 {
-    if byte == QUOTE {
-        return extended(r, Phase::Quoted);
+    match byte {
+        QUOTE => extended(r, Phase::Quoted),
+        COMMA => parted(r),
+        CR => reading(Phase::Return, r.fields, r.length),
+        _ => None,
     }
-    if byte == COMMA {
-        return parted(r);
-    }
-    if byte == CR {
-        return reading(Phase::Return, r.fields, r.length);
-    }
-    wrong()
 }
 
 // Reads one more byte of a record.
-fn fed(r: RecordReader, byte: u8) -> RecordReader
-    ensures { result ≡ fed r byte }
+#[tactic(auto, using(crate::specs::laws::RecordCases::fed_cases))]
+fn fed(r: RecordReader, byte: u8) -> Option<RecordReader>
+    ensures { result ≡ fed_in r.phase r byte }
 {
-    if r.bad {
-        return r;
-    }
-    let phase = r.phase;
-    match phase {
+    match r.phase {
         Phase::Start => if byte == QUOTE {
             reading(Phase::Quoted, r.fields, 0)
         } else {
             plain_fed(r, byte)
         },
         Phase::Plain => if byte == QUOTE {
-            wrong()
+            None
         } else {
             plain_fed(r, byte)
         },
         Phase::Quoted => quoted_fed(r, byte),
         Phase::Closing => closing_fed(r, byte),
-        Phase::Return => wrong(),
+        Phase::Return => None,
     }
 }
 
+#[tactic(auto, unfolding(crate::specs::laws::RecordReader::within))]
 fn within(phase: Phase) -> bool
     ensures { result ≡ within phase }
 {
-    match phase {
-        Phase::Start => false,
-        Phase::Plain => false,
-        Phase::Quoted => true,
-        Phase::Closing => false,
-        Phase::Return => false,
-    }
+    matches!(phase, Phase::Quoted)
 }
 
 // Whether the byte ends the record.
-fn ends(r: RecordReader, byte: u8) -> bool
-    ensures { result ≡ ends r byte }
+#[tactic(auto, unfolding(crate::specs::laws::RecordReader::ends))]
+fn ends(reader: Option<RecordReader>, byte: u8) -> bool
+    ensures { result ≡ ends reader byte }
 {
-    let phase = r.phase;
-    !r.bad & ((byte == LF) & !within(phase))
+    match reader {
+        Some(r) => (byte == LF) & !within(r.phase),
+        None => false,
+    }
 }
 
 // Reads one more byte of a text.
-fn advanced(r: RecordReader, byte: u8) -> RecordReader
-    ensures { result ≡ advanced r byte }
+#[tactic(auto, unfolding(crate::specs::laws::RecordReader::advanced, crate::specs::laws::RecordReader::ends, crate::specs::laws::RecordReader::fed))]
+fn advanced(reader: Option<RecordReader>, byte: u8) -> Option<RecordReader>
+    ensures { result ≡ advanced reader byte }
 {
-    if ends(r, byte) {
+    let r = reader?;
+    if (byte == LF) & !within(r.phase) {
         return start();
     }
     fed(r, byte)
 }
 
 // What a byte outside quotes puts into the line.
-fn plain_shown(byte: u8) -> Shown
+#[tactic(auto, using(crate::specs::laws::RecordCases::plain_shows))]
+fn plain_shown(byte: u8) -> Option<u8>
     ensures { result ≡ plain_shown byte }
 {
-    if byte == COMMA {
-        return Shown::Byte(TAB);
+    match byte {
+        COMMA => Some(TAB),
+        CR => None,
+        _ => Some(byte),
     }
-    if byte == CR {
-        return Shown::Nothing;
-    }
-    Shown::Byte(byte)
 }
 
 // A quote that opens or may close puts nothing there.
-fn shown(phase: Phase, byte: u8) -> Shown
+#[tactic(auto, using(crate::specs::laws::RecordCases::shows))]
+fn shown_in(phase: Phase, byte: u8) -> Option<u8>
     ensures { result ≡ shown_in phase byte }
 {
     match phase {
         Phase::Start => if byte == QUOTE {
-            Shown::Nothing
+            None
         } else {
             plain_shown(byte)
         },
-        Phase::Plain => plain_shown(byte),
-        Phase::Quoted => if byte == QUOTE {
-            Shown::Nothing
-        } else {
-            Shown::Byte(byte)
-        },
-        Phase::Closing => plain_shown(byte),
-        Phase::Return => plain_shown(byte),
+        Phase::Quoted => if byte == QUOTE { None } else { Some(byte) },
+        Phase::Plain | Phase::Closing | Phase::Return => plain_shown(byte),
     }
 }
 
-fn shown_length(x: Shown) -> usize
+// What a byte puts into the line.
+#[tactic(auto, unfolding(crate::specs::laws::RecordReader::shown))]
+fn shown(reader: Option<RecordReader>, byte: u8) -> Option<u8>
+    ensures { result ≡ shown reader byte }
+{
+    shown_in(reader?.phase, byte)
+}
+
+#[tactic(auto, unfolding(crate::specs::laws::RecordReader::shown_text))]
+fn shown_length(x: Option<u8>) -> usize
     ensures { result ≡ length (shown_text x) }
 {
-    match x {
-        Shown::Nothing => 0,
-        Shown::Byte(_) => 1,
-    }
+    x.is_some() as usize
 }
 
-fn put_shown(out: &mut [u8], at: usize, x: Shown) -> usize
+fn put_shown(out: &mut [u8], at: usize, x: Option<u8>) -> usize
     ensures { Wrote (shown_text x) out.old at result out.new }
 {
     match x {
-        Shown::Nothing => at,
-        Shown::Byte(b) => text::put_byte(out, at, b),
+        None => at,
+        Some(b) => text::put_byte(out, at, b),
     }
 }
 
-// Whether nothing of the record is read.
-fn untouched(r: RecordReader) -> bool
-    ensures { result ≡ untouched r }
+// Whether nothing is read of a record that may still be taken.
+#[tactic(auto, unfolding(crate::specs::laws::RecordReader::untouched, crate::specs::laws::RecordReader::untouched_in))]
+fn untouched(reader: Option<RecordReader>) -> bool
+    ensures { result ≡ untouched reader }
 {
-    let phase = r.phase;
-    match phase {
-        Phase::Start => r.fields == 0,
-        Phase::Plain => false,
-        Phase::Quoted => false,
-        Phase::Closing => false,
-        Phase::Return => false,
+    match reader {
+        Some(r) => matches!(r.phase, Phase::Start) & (r.fields == 0),
+        None => true,
     }
 }
 
 // Whether a record that ends with the text cannot be taken.
-fn broken(r: RecordReader) -> bool
-    ensures { result ≡ broken r }
+#[tactic(auto, unfolding(crate::specs::laws::RecordReader::broken, crate::specs::laws::RecordReader::broken_in))]
+fn broken(reader: Option<RecordReader>) -> bool
+    ensures { result ≡ broken reader }
 {
-    if r.bad {
-        return true;
-    }
-    let phase = r.phase;
-    match phase {
-        Phase::Start => false,
-        Phase::Plain => false,
-        Phase::Quoted => true,
-        Phase::Closing => false,
-        Phase::Return => true,
+    match reader {
+        Some(r) => matches!(r.phase, Phase::Quoted | Phase::Return),
+        None => true,
     }
 }
 
+// How many bytes are written at the end of the text.
+#[tactic(auto, using(crate::specs::laws::RecordWriting::end_lengths))]
+fn end_length(reader: Option<RecordReader>) -> usize
+    ensures { result ≡ length (end_text reader) }
+{
+    if untouched(reader) { 0 } else { 1 }
+}
+
 // Judges one more byte.
-fn scanned(x: RecordScan, byte: u8) -> RecordScan
+#[tactic(auto, unfolding(crate::specs::laws::RecordReader::scanned))]
+fn scanned(x: Scan<RecordReader>, byte: u8) -> Scan<RecordReader>
     requires { x.count + 1 < 2 ^ 64 }
     ensures { result ≡ scanned x byte }
 {
     let reader = x.reader;
-    let phase = reader.phase;
-    let room = x.room;
-    let after = spending::spend(room, shown_length(shown(phase, byte)));
-    let count = x.count + ends(reader, byte) as u64;
-    RecordScan {
-        reader: advanced(reader, byte),
-        count,
-        room: after,
-    }
-}
-
-// The answer once the text is over, for so many lent bytes.
-fn scan_answer(all: usize, x: RecordScan) -> Conversion
-    requires { broken x.reader ≡ true → x.count + 1 < 2 ^ 64 }
-    ensures { result ≡ scan_answer all x }
-{
-    let reader = x.reader;
-    if broken(reader) {
-        return Conversion::Record(x.count + 1);
-    }
-    let room = x.room;
-    if untouched(reader) {
-        return spending::answer(all, room);
-    }
-    spending::answer(all, spending::spend(room, 1))
+    x.passed(
+        advanced(reader, byte),
+        ends(reader, byte),
+        shown_length(shown(reader, byte)),
+    )
 }
 
 // What the lines of a text come to in so many lent bytes.
-pub fn judge(text: &[u8], all: usize) -> Conversion
+pub fn judge(text: &[u8], all: usize) -> Result<usize, ConversionError>
     ensures { result ≡ conversion (drill_of_csv text.now) all }
 {
-    let mut x = RecordScan {
+    let mut x = Scan {
         reader: start(),
         count: 0,
-        room: spending::fresh(all),
+        room: Some(all),
     };
-    let mut k: usize = 0;
-    while k < text.len() {
-        x = scanned(x, text[k]);
-        k += 1;
+    for &byte in text {
+        x = scanned(x, byte);
     }
-    scan_answer(all, x)
+    x.answer(all, broken(x.reader), end_length(x.reader))
+}
+
+// What is written at the end of the text.
+fn put_end(out: &mut [u8], at: usize, reader: Option<RecordReader>) -> usize
+    ensures { Wrote (end_text reader) out.old at result out.new }
+{
+    if untouched(reader) {
+        return at;
+    }
+    text::put_byte(out, at, LF)
 }
 
 // The lines of the records, as far as the lent bytes go. The answer is the place after them.
 pub fn write(text: &[u8], out: &mut [u8]) -> usize
     ensures { Wrote (emitted start text.now) out.old 0 result out.new }
 {
-    let mut r = start();
+    let mut reader = start();
     let mut at: usize = 0;
-    let mut k: usize = 0;
-    while k < text.len() {
-        let byte = text[k];
-        let phase = r.phase;
-        at = put_shown(out, at, shown(phase, byte));
-        r = advanced(r, byte);
-        k += 1;
+    for &byte in text {
+        at = put_shown(out, at, shown(reader, byte));
+        reader = advanced(reader, byte);
     }
-    if untouched(r) {
-        return at;
-    }
-    text::put_byte(out, at, LF)
+    put_end(out, at, reader)
 }

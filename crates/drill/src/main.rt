@@ -4,25 +4,19 @@
 use drill_core::Drill;
 use std::io::{Read, Result, Write};
 
-// A drill after a read, and whether there may be more input.
-#[derive(Clone, Copy)]
-pub struct Fed {
-    pub drill: Drill,
-    pub more: bool,
-}
-
-// Reads once, and feeds what came; a read that fails ends the input.
-fn feed_some<R: Read>(input: &mut R, d: Drill, words: &mut [u64], store: &mut [u8]) -> Fed {
+// Reads once, and feeds what came; None where the input is over. A read that fails ends the input.
+fn feed_some<R: Read>(
+    input: &mut R,
+    d: Drill,
+    words: &mut [u64],
+    store: &mut [u8],
+) -> Option<Drill> {
     let mut buf = [0u8; 4096];
     let n = input.read(&mut buf).unwrap_or(0);
     if n == 0 {
-        return Fed {
-            drill: d,
-            more: false,
-        };
+        return None;
     }
-    let drill = drill_core::feed_all(d, &buf[..n], words, store);
-    Fed { drill, more: true }
+    Some(drill_core::feed_all(d, &buf[..n], words, store))
 }
 
 // A proved loop has to end, and nothing says that an input does. So the loop counts its turns, up to a number that no run uses
@@ -30,11 +24,10 @@ fn feed_some<R: Read>(input: &mut R, d: Drill, words: &mut [u64], store: &mut [u
 fn feed_input<R: Read>(input: &mut R, d: Drill, words: &mut [u64], store: &mut [u8]) -> Drill {
     let mut drill = d;
     for _ in 0..u64::MAX {
-        let f = feed_some(input, drill, words, store);
-        drill = f.drill;
-        if !f.more {
-            return drill;
-        }
+        let Some(fed) = feed_some(input, drill, words, store) else {
+            break;
+        };
+        drill = fed;
     }
     drill
 }

@@ -1,22 +1,22 @@
 -- What a drill prints: a line for each honest one and the number of messages, or the number of the bad line alone (PROTOCOL 15.15, 15.16).
-use Rattle.std.specs.Prelude.{ℕ, zero, suc, Bool, cond, List, [], ◌++◌, take}
+use Rattle.std.specs.Prelude.{ℕ, zero, suc, Bool, cond, List, [], ◌++◌, take, Result, Ok, Err}
 use Rattle.quorum.specs.Marks.{mark}
 use Rattle.records.specs.Records.{closed}
 use Rattle.records.specs.Words.{blank}
 use Rattle.report.specs.Report.{report_answer, report_in_force}
-use Rattle.report.specs.declared.Answer.{Answer}
-use Rattle.report.specs.declared.Answer.TheVariants.{Refused, Given}
 use Rattle.drill_lines.specs.Text.{result_line, sent_line, bad_line}
 use Rattle.drill_feeder.specs.Parts.{state_of}
 use Rattle.drill_feeder.specs.declared.Members.{Members}
 use Rattle.drill_core.specs.Judging.{after_settings}
 use Rattle.drill_core.specs.Feeding.{Drilling, drilling, start_drilling, fed_bytes, at_end}
 use Rattle.drill_core.specs.declared.Drill.{Drill}
+use Rattle.report.specs.declared.Figures.{Figures}
+use Rattle.settings.specs.declared.refusal.Refusal.{Refusal}
 
 -- the line of p by its report; the report of an open session is given
-unfoldable pub answer_text : ℕ → Answer → Bool → List ℕ → List ℕ
-answer_text p (Refused k) c values = result_line p 0 (cond c 1 0) 0 (take 0 values)
-answer_text p (Given f) c values = result_line p f.exit (cond c 1 0) f.turns (take f.in_force values)
+unfoldable pub answer_text : ℕ → Result Figures Refusal → Bool → List ℕ → List ℕ
+answer_text p (Err k) c values = result_line p 0 (cond c 1 0) 0 (take 0 values)
+answer_text p (Ok f) c values = result_line p f.exit (cond c 1 0) f.turns (take f.in_force values)
 
 -- number, exit, closed or not, count of turns, packs in force (PROTOCOL 15.15): the report is lent 16 words for each set
 unfoldable pub result_text : ℕ → List ℕ → List ℕ

@@ -2,92 +2,80 @@
 ghost use Rattle.std.specs.Prelude.{◌≡◌};
 ghost use Rattle.drill_core.specs.Feeding.{start_drill, next_number, next_line, with_byte, drilling, ended, fed_byte, fed_bytes, last_line, at_end};
 
-use crate::{Drill, Phase, State, acting, judging, preparing};
+use crate::{Drill, Phase, State, acting, preparing};
 use drill_feeder::Counts;
-
-const LF: u8 = 10;
+use drill_lines::Reader;
 
 // A drill before its input.
+#[tactic(auto, unfolding(crate::specs::Feeding::start_drill))]
 pub fn start() -> Drill
     ensures { result ≡ start_drill }
 {
-    let given = preparing::none_given();
-    let counts = Counts {
-        sent: 0,
-        offered: 0,
-    };
-    let state = State {
-        phase: Phase::First,
-        given,
-        counts,
-    };
-    let reader = drill_lines::start();
     Drill {
-        state,
+        state: State {
+            phase: Phase::First,
+            given: preparing::none_given(),
+            counts: Counts {
+                sent: 0,
+                offered: 0,
+            },
+        },
         number: 1,
-        begun: false,
-        reader,
+        reader: drill_lines::start(),
     }
 }
 
 // The number of the line to be read next; after a bad line its own.
+#[tactic(auto, unfolding(crate::specs::Feeding::next_number))]
 fn next_number(x: Phase, number: u64) -> u64
     ensures { result ≡ next_number x number }
 {
-    if judging::is_bad(x) {
+    if x.is_bad() {
         return number;
     }
-    std::num::wrapping_add_u64(number, 1)
+    number.wrapping_add(1)
 }
 
+#[tactic(auto, unfolding(crate::specs::Feeding::next_line))]
 fn next_line(s: State, number: u64) -> Drill
     ensures { result ≡ next_line s number }
 {
-    let x = s.phase;
-    let reader = drill_lines::start();
     Drill {
         state: s,
-        number: next_number(x, number),
-        begun: false,
-        reader,
+        number: next_number(s.phase, number),
+        reader: drill_lines::start(),
     }
 }
 
+#[tactic(auto, unfolding(crate::specs::Feeding::with_byte))]
 fn with_byte(d: Drill, byte: u8) -> Drill
     ensures { result ≡ with_byte d byte }
 {
-    let state = d.state;
-    let read = d.reader;
-    let reader = drill_lines::feed(read, byte);
     Drill {
-        state,
-        number: d.number,
-        begun: true,
-        reader,
+        reader: drill_lines::feed(d.reader, byte),
+        ..d
     }
 }
 
 // The line is over, and is taken.
+#[tactic(auto, unfolding(crate::specs::Feeding::ended, crate::specs::Feeding::settled))]
 fn end_line(d: Drill, words: &mut [u64], store: &mut [u8]) -> Drill
     ensures { drilling words.new store.new result ≡ ended (drilling words.old store.old d) }
 {
-    let state = d.state;
-    let reader = d.reader;
-    let l = drill_lines::finish(reader);
-    let s = acting::take_line(state, l, words, store);
+    let l = drill_lines::finish(d.reader);
+    let s = acting::take_line(d.state, l, words, store);
     next_line(s, d.number)
 }
 
 // Takes the next byte.
+#[tactic(auto, unfolding(crate::specs::Feeding::fed_byte))]
 pub fn feed(d: Drill, byte: u8, words: &mut [u64], store: &mut [u8]) -> Drill
     ensures { drilling words.new store.new result ≡ fed_byte (drilling words.old store.old d) byte }
 {
-    let s = d.state;
-    let x = s.phase;
-    if judging::is_bad(x) {
+    if d.state.phase.is_bad() {
         return d;
     }
-    if byte == LF {
+    if byte == b'\n' {
         return end_line(d, words, store);
     }
     with_byte(d, byte)
@@ -98,32 +86,29 @@ pub fn feed_all(d: Drill, bytes: &[u8], words: &mut [u64], store: &mut [u8]) -> 
     ensures { drilling words.new store.new result ≡ fed_bytes (drilling words.old store.old d) bytes.now }
 {
     let mut e = d;
-    let mut k: usize = 0;
-    while k < bytes.len() {
-        e = feed(e, bytes[k], words, store);
-        k += 1;
+    for byte in bytes {
+        e = feed(e, *byte, words, store);
     }
     e
 }
 
 // A last line without LF is a line.
+#[tactic(auto, unfolding(crate::specs::Feeding::last_line, crate::specs::Feeding::has_byte))]
 fn last_line(d: Drill, words: &mut [u64], store: &mut [u8]) -> Drill
     ensures { drilling words.new store.new result ≡ last_line (drilling words.old store.old d) }
 {
-    if d.begun {
-        return end_line(d, words, store);
+    match d.reader {
+        Reader::Empty => d,
+        Reader::Open(_) | Reader::Bad => end_line(d, words, store),
     }
-    d
 }
 
 // The input is over; the sessions are opened if they are not.
+#[tactic(auto, unfolding(crate::specs::Feeding::at_end, crate::specs::Feeding::all_open))]
 pub fn end_input(d: Drill, words: &mut [u64], store: &mut [u8]) -> Drill
     ensures { drilling words.new store.new result ≡ at_end (drilling words.old store.old d) }
 {
     let e = last_line(d, words, store);
-    let s = e.state;
-    let x = s.phase;
-    let g = s.given;
-    acting::begin(x, g, words);
+    acting::begin(e.state, words);
     e
 }

@@ -7,7 +7,10 @@ mod judging;
 mod preparing;
 mod results;
 
-use drill_feeder::{Counts, Members};
+ghost use Rattle.std.specs.Prelude.{◌≡◌};
+ghost use Rattle.drill_core.specs.Judging.{is_first, is_setup, after_settings, is_bad};
+
+use drill_feeder::{Counts, Lie, Members};
 use drill_lines::Reader;
 pub use feeding::{feed, feed_all, start};
 pub use results::finish;
@@ -21,7 +24,38 @@ pub enum Phase {
     Bad,
 }
 
-// What the N, C and P lines gave; `named` marks the coin words that a C line gave.
+impl Phase {
+    #[tactic(auto, unfolding(crate::specs::Judging::is_first))]
+    fn is_first(self) -> bool
+        ensures { result ≡ is_first self }
+    {
+        matches!(self, Phase::First)
+    }
+
+    #[tactic(auto, unfolding(crate::specs::Judging::is_setup))]
+    fn is_setup(self) -> bool
+        ensures { result ≡ is_setup self }
+    {
+        matches!(self, Phase::Setup)
+    }
+
+    #[tactic(auto, unfolding(crate::specs::Judging::after_settings))]
+    fn after_settings(self) -> bool
+        ensures { result ≡ after_settings self }
+    {
+        matches!(self, Phase::Setup | Phase::Running)
+    }
+
+    #[tactic(auto, unfolding(crate::specs::Judging::is_bad))]
+    fn is_bad(self) -> bool
+        ensures { result ≡ is_bad self }
+    {
+        matches!(self, Phase::Bad)
+    }
+}
+
+// What the N, C and P lines gave; `named` marks the coin words that a C line gave. Marks beside the words, and no Options:
+// the opening takes the words, 0 where none is given.
 #[derive(Clone, Copy)]
 pub struct Given {
     pub members: Members,
@@ -44,28 +78,15 @@ pub struct State {
 // A line of the calls.
 #[derive(Clone, Copy)]
 pub enum Call {
-    Turn {
-        p: u8,
-    },
-    Deliver {
-        k: u16,
-        q: u8,
-    },
-    Lie {
-        p: u8,
-        q: u8,
-        kind: u8,
-        instance: u8,
-        round: u8,
-        value: u64,
-    },
+    Turn { p: u8 },
+    Deliver { k: u16, q: u8 },
+    Lie { q: u8, lie: Lie },
     Run,
 }
 
-// What a line comes to.
+// What a line that can be taken comes to.
 #[derive(Clone, Copy)]
 pub enum Verdict {
-    Bad,
     Settings {
         n: u8,
         ta: u64,
@@ -83,12 +104,10 @@ pub enum Verdict {
     Call(Call),
 }
 
-// A drill between two bytes of its input: its state, the number of the line being read, whether that line has a byte, and the
-// line as far as it is read.
+// A drill between two bytes of its input: its state, the number of the line being read, and that line as far as it is read.
 #[derive(Clone, Copy)]
 pub struct Drill {
     pub state: State,
     pub number: u64,
-    pub begun: bool,
     pub reader: Reader,
 }

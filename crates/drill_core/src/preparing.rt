@@ -2,26 +2,19 @@
 ghost use Rattle.std.specs.Prelude.{◌≡◌, ◌-◌};
 ghost use Rattle.records.specs.Words.{put};
 ghost use Rattle.drill_core.specs.Preparing.{none_given, settings_given, coin_given, input_given, opened_with, open_if, opened_all};
-ghost use Rattle.drill_core.specs.laws.Preparing.{fewer};
 
 use crate::Given;
 use drill_feeder::Members;
 
 // Before line 1.
+#[tactic(auto, unfolding(crate::specs::Preparing::none_given))]
 pub fn none_given() -> Given
     ensures { result ≡ none_given }
 {
-    Given {
-        members: Members { n: 0, honest: 0 },
-        ta: 0,
-        ts: 0,
-        session: 0,
-        named: 0,
-        coins: [0, 0, 0, 0],
-        inputs: [0, 0, 0, 0],
-    }
+    settings_given(0, 0, 0, 0)
 }
 
+#[tactic(auto, unfolding(crate::specs::Preparing::settings_given))]
 pub fn settings_given(n: u8, ta: u64, ts: u64, session: u32) -> Given
     ensures { result ≡ settings_given n ta ts session }
 {
@@ -31,8 +24,8 @@ pub fn settings_given(n: u8, ta: u64, ts: u64, session: u32) -> Given
         ts,
         session,
         named: 0,
-        coins: [0, 0, 0, 0],
-        inputs: [0, 0, 0, 0],
+        coins: [0; 4],
+        inputs: [0; 4],
     }
 }
 
@@ -40,10 +33,11 @@ pub fn settings_given(n: u8, ta: u64, ts: u64, session: u32) -> Given
 fn place(i: u8) -> usize
     ensures { result ≡ i - 1 }
 {
-    if i < 1 { 0 } else { i as usize - 1 }
+    usize::from(i.saturating_sub(1))
 }
 
-// Puts a coin word at k, and changes nothing where k is past the end.
+// Puts a coin word at k, and changes nothing where k is past the end. Not records::put: that one is for words of 64 bits.
+#[tactic(auto, unfolding(records::specs::Words::put))]
 fn put_coin(coins: &mut [u32], k: usize, word: u32)
     ensures { coins.new ≡ put coins.old k word }
 {
@@ -52,84 +46,62 @@ fn put_coin(coins: &mut [u32], k: usize, word: u32)
     }
 }
 
+#[tactic(auto, unfolding(crate::specs::Preparing::coin_given))]
 pub fn coin_given(g: Given, i: u8, word: u32) -> Given
     ensures { result ≡ coin_given g i word }
 {
-    let members = g.members;
-    let inputs = g.inputs;
     let mut coins = g.coins;
     put_coin(&mut coins, place(i), word);
     Given {
-        members,
-        ta: g.ta,
-        ts: g.ts,
-        session: g.session,
-        named: quorum::with_mark(g.named, i as u64),
+        named: quorum::with_mark(g.named, u64::from(i)),
         coins,
-        inputs,
+        ..g
     }
 }
 
+#[tactic(auto, unfolding(crate::specs::Preparing::input_given))]
 pub fn input_given(g: Given, p: u8, value: u64) -> Given
     ensures { result ≡ input_given g p value }
 {
-    let m = g.members;
-    let coins = g.coins;
     let mut inputs = g.inputs;
     records::put(&mut inputs, place(p), value);
     Given {
         members: Members {
-            n: m.n,
-            honest: quorum::with_mark(m.honest, p as u64),
+            n: g.members.n,
+            honest: quorum::with_mark(g.members.honest, u64::from(p)),
         },
-        ta: g.ta,
-        ts: g.ts,
-        session: g.session,
-        named: g.named,
-        coins,
         inputs,
-    }
-}
-
-// The smaller of the two.
-fn fewer(n: u8, count: usize) -> usize
-    ensures { result ≡ fewer n count }
-{
-    if (n as usize) < count {
-        n as usize
-    } else {
-        count
+        ..g
     }
 }
 
 // Opens session p with the first n coin words.
+#[tactic(auto, unfolding(crate::specs::Preparing::opened_with))]
 fn open_with(words: &mut [u64], g: Given, p: u8, input: u64, coins: &[u32])
     ensures { words.new ≡ opened_with g p input coins.now words.old }
 {
-    let m = g.members;
-    let n = fewer(m.n, coins.len());
+    let n = g.members.n;
+    let given = usize::from(n).min(coins.len());
     drill_feeder::open_at(
         words,
         p,
-        m.n as u64,
+        u64::from(n),
         g.ta,
         g.ts,
         g.session,
         input,
-        &coins[..n],
+        &coins[..given],
     );
 }
 
 // Opens session p, if p is honest.
+#[tactic(auto, unfolding(crate::specs::Preparing::open_if))]
 fn open_if(words: &mut [u64], g: Given, p: u8)
     ensures { words.new ≡ open_if g p words.old }
 {
-    let m = g.members;
-    if quorum::mark(m.honest, p as u64) {
-        let coins = g.coins;
-        let inputs = g.inputs;
-        let input = records::word(&inputs, place(p));
-        open_with(words, g, p, input, &coins);
+    if quorum::mark(g.members.honest, u64::from(p)) {
+        let input = records::word(&g.inputs, place(p));
+        open_with(words, g, p, input, &g.coins);
     }
 }
 
@@ -137,11 +109,7 @@ fn open_if(words: &mut [u64], g: Given, p: u8)
 pub fn open_all(words: &mut [u64], g: Given)
     ensures { words.new ≡ opened_all g words.old }
 {
-    let m = g.members;
-    let n = m.n;
-    let mut p: u8 = 0;
-    while p < n {
-        p += 1;
-        open_if(words, g, p);
+    for k in 0..g.members.n {
+        open_if(words, g, k + 1);
     }
 }

@@ -1,5 +1,5 @@
 -- What the lines of a drill do: turns, deliveries of sent messages, liars' messages, and runs (PROTOCOL 15.6 to 15.9).
-use Rattle.std.specs.Prelude.{ℕ, zero, suc, ◌+◌, ◌-◌, Bool, true, false, cond, List, [], ◌∷◌, length, ltb}
+use Rattle.std.specs.Prelude.{ℕ, zero, suc, ◌+◌, ◌-◌, Bool, true, false, cond, List, [], ◌∷◌, length, ltb, Result, Ok, Err}
 use Rattle.quorum.specs.Marks.{mark}
 use Rattle.wire.specs.Message.{header_with, message_bytes}
 use Rattle.opening.specs.Given.{ones_given}
@@ -14,6 +14,7 @@ use Rattle.drill_feeder.specs.Steps.{steps}
 use Rattle.drill_feeder.specs.declared.Counts.{Counts}
 use Rattle.drill_feeder.specs.declared.Members.{Members}
 use Rattle.drill_feeder.specs.declared.Lie.{Lie}
+use Rattle.settings.specs.declared.refusal.Refusal.{Refusal}
 
 -- drills are of version 1
 abbrev pub DRILL_VERSION : ℕ
@@ -49,15 +50,15 @@ unfoldable pub more : ℕ → ℕ
 more sent = cond (ltb sent 1600) (sent + 1) sent
 
 -- a turn that answers sent has sent one message more
-unfoldable pub message_counted : Outcome → Counts → Counts
-message_counted (outcome.Refused k) c = c
-message_counted outcome.Idle c = c
-message_counted (outcome.Sent m) c = record { sent = more c.sent; offered = c.offered }
-message_counted outcome.MovedOut c = c
-message_counted outcome.InForce c = c
+unfoldable pub message_counted : Result Outcome Refusal → Counts → Counts
+message_counted (Err k) c = c
+message_counted (Ok outcome.Idle) c = c
+message_counted (Ok (outcome.Sent m)) c = record { sent = more c.sent; offered = c.offered }
+message_counted (Ok outcome.MovedOut) c = c
+message_counted (Ok outcome.InForce) c = c
 
 -- the outcome of a turn of p
-unfoldable pub outcome_at : ℕ → Memory → Outcome
+unfoldable pub outcome_at : ℕ → Memory → Result Outcome Refusal
 outcome_at p (memory w m c) = turn_outcome (state_of w p) (length (room_for m c.sent))
 
 -- `T p`: a turn, whose message, if it has one, is stored as the next (PROTOCOL 15.6, 15.12)
@@ -69,12 +70,12 @@ turned p (memory w m c) =
     (message_counted (turn_outcome (state_of w p) (length (room_for m c.sent))) c)
 
 -- another turn follows unless this one is idle, refused or puts a set in force (PROTOCOL 15.14)
-unfoldable pub goes_on : Outcome → Bool
-goes_on (outcome.Refused k) = false
-goes_on outcome.Idle = false
-goes_on (outcome.Sent m) = true
-goes_on outcome.MovedOut = true
-goes_on outcome.InForce = false
+unfoldable pub goes_on : Result Outcome Refusal → Bool
+goes_on (Err k) = false
+goes_on (Ok outcome.Idle) = false
+goes_on (Ok (outcome.Sent m)) = true
+goes_on (Ok outcome.MovedOut) = true
+goes_on (Ok outcome.InForce) = false
 
 unfoldable pub turn_goes_on : ℕ → Memory → Bool
 turn_goes_on p x = goes_on (outcome_at p x)
@@ -84,12 +85,12 @@ unfoldable pub sweep : ℕ → ℕ → Memory → Memory
 sweep p zero x = x
 sweep p (suc k) x = cond (turn_goes_on p x) (sweep p k (turned p x)) (turned p x)
 
-unfoldable pub sweep_if : ℕ → ℕ → Memory → Memory
-sweep_if honest p x = cond (mark honest p) (sweep p 401 x) x
+unfoldable pub sweep_if : (turns honest p : ℕ) → Memory → Memory
+sweep_if t honest p x = cond (mark honest p) (sweep p t x) x
 
 -- each honest one, the lowest first, takes such turns (PROTOCOL 15.14)
-unfoldable pub swept : Members → Memory → Memory
-swept g x = steps (sweep_if g.honest) g.n x
+unfoldable pub swept : (turns : ℕ) → Members → Memory → Memory
+swept t g x = steps (sweep_if t g.honest) g.n x
 
 -- the lowest message first, for each message the lowest number first (PROTOCOL 15.14): message k to q, to all, and message done + j to all
 unfoldable pub offer_to : ℕ → List ℕ → (k q : ℕ) → List ℕ → List ℕ
@@ -109,7 +110,7 @@ offered g (memory w m c) =
 unfoldable pub any_left : Memory → Bool
 any_left (memory w m c) = ltb c.offered c.sent
 
--- R repeats its two steps until no message is left, so many times at the most (PROTOCOL 15.14)
-unfoldable pub ran : Members → ℕ → Memory → Memory
-ran g zero x = x
-ran g (suc k) x = cond (any_left (swept g x)) (ran g k (offered g (swept g x))) (swept g x)
+-- R repeats its two steps until no message is left, so many rounds at the most, with so many turns of each session (PROTOCOL 15.14)
+unfoldable pub ran : (turns : ℕ) → Members → (rounds : ℕ) → Memory → Memory
+ran t g zero x = x
+ran t g (suc k) x = cond (any_left (swept t g x)) (ran t g k (offered g (swept t g x))) (swept t g x)

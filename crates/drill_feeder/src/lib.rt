@@ -33,10 +33,3 @@ pub struct Lie {
     pub round: u8,
     pub value: u64,
 }
-
-// What a turn leaves, and whether turns go on after it.
-#[derive(Clone, Copy)]
-pub struct Turned {
-    pub counts: Counts,
-    pub again: bool,
-}

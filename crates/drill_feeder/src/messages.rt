@@ -1,29 +1,19 @@
 // Deliveries of a drill: a sent message, and a liar's.
 ghost use Rattle.std.specs.Prelude.{◌≡◌};
-ghost use Rattle.drill_feeder.specs.Parts.{message_at};
-ghost use Rattle.drill_feeder.specs.Lines.{delivered_to, message_delivered, lied};
+ghost use Rattle.drill_feeder.specs.Lines.{message_delivered, lied};
 
 use crate::{Lie, calls, parts};
 use wire::Header;
-
-// Delivers the bytes of sent message k over a link to session q.
-fn deliver_stored(words: &mut [u64], store: &[u8], k: u16, link: u64, q: u8)
-    ensures { words.new ≡ delivered_to words.old q link (message_at store.now k) }
-{
-    let at = parts::place_at(k);
-    let count = parts::byte_at(store, at + 5);
-    let b = parts::part_of(store.len(), at, 12 + 8 * count as usize);
-    let from = b.start;
-    let to = b.end;
-    calls::deliver_to(words, q, link, &store[from..to]);
-}
 
 // Delivers sent message k to session q over the link of its sender.
 pub fn deliver_message(words: &mut [u64], store: &[u8], k: u16, q: u8)
     ensures { words.new ≡ message_delivered store.now k q words.old }
 {
-    let sender = parts::byte_at(store, parts::place_at(k) + 2);
-    deliver_stored(words, store, k, sender as u64, q);
+    let at = parts::place_at(k);
+    let sender = parts::byte_at(store, at + 2);
+    let count = parts::byte_at(store, at + 5);
+    let b = parts::part_of(store.len(), at, 12 + 8 * usize::from(count));
+    calls::deliver_to(words, q, sender, &store[b.start..b.end]);
 }
 
 // Delivers a liar's message to session q over the liar's link.
@@ -42,5 +32,5 @@ pub fn deliver_lie(words: &mut [u64], session: u32, q: u8, l: Lie)
         session,
     };
     wire::write_plain(header, l.value, &mut bytes);
-    calls::deliver_to(words, q, l.p as u64, &bytes);
+    calls::deliver_to(words, q, l.p, &bytes);
 }

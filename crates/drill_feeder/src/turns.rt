@@ -1,9 +1,9 @@
 // Turns, and R.
-ghost use Rattle.std.specs.Prelude.{◌≡◌, ◌+◌, ◌-◌, ◌<◌};
-ghost use Rattle.drill_feeder.specs.Steps.{steps};
-ghost use Rattle.drill_feeder.specs.Lines.{memory, more, message_counted, goes_on, turned, turn_goes_on, sweep, sweep_if, swept, offer_to, offer, offer_next, offered, ran};
+ghost use Rattle.std.specs.Prelude.{◌≡◌, ◌+◌, ◌-◌};
+ghost use Rattle.drill_feeder.specs.Lines.{memory, more, message_counted, goes_on, turned, turn_goes_on, sweep, sweep_if, swept, offer_to, offer, offered, ran};
 
-use crate::{Counts, Members, Turned, calls, messages};
+use crate::{Counts, Members, calls, messages};
+use settings::Refusal;
 use turn::Outcome;
 
 // The places of the store.
@@ -15,6 +15,7 @@ const TURNS: u16 = 401;
 // One more than the messages that can be left to deliver.
 const ROUNDS: u16 = 1601;
 
+#[tactic(auto, unfolding(crate::specs::Lines::more))]
 fn more(sent: u16) -> u16
     ensures { result ≡ more sent }
 {
@@ -22,93 +23,75 @@ fn more(sent: u16) -> u16
 }
 
 // The counts after a turn.
-fn message_counted(o: Outcome, c: Counts) -> Counts
+#[tactic(auto, unfolding(crate::specs::Lines::message_counted))]
+fn message_counted(o: Result<Outcome, Refusal>, c: Counts) -> Counts
     ensures { result ≡ message_counted o c }
 {
     match o {
-        Outcome::Refused(_) => c,
-        Outcome::Idle => c,
-        Outcome::Sent(_) => Counts {
+        Ok(Outcome::Sent(_)) => Counts {
             sent: more(c.sent),
-            offered: c.offered,
+            ..c
         },
-        Outcome::MovedOut => c,
-        Outcome::InForce => c,
+        Ok(Outcome::Idle | Outcome::MovedOut | Outcome::InForce) | Err(_) => c,
     }
 }
 
 // Neither idle nor closed.
-fn goes_on(o: Outcome) -> bool
+#[tactic(auto, unfolding(crate::specs::Lines::goes_on))]
+fn goes_on(o: Result<Outcome, Refusal>) -> bool
     ensures { result ≡ goes_on o }
 {
-    match o {
-        Outcome::Refused(_) => false,
-        Outcome::Idle => false,
-        Outcome::Sent(_) => true,
-        Outcome::MovedOut => true,
-        Outcome::InForce => false,
-    }
+    matches!(o, Ok(Outcome::Sent(_) | Outcome::MovedOut))
 }
 
-// A turn of session p; its message is stored as the next one.
-pub fn take_turn(words: &mut [u64], store: &mut [u8], p: u8, c: Counts) -> Turned
-    ensures left { memory words.new store.new result.counts ≡ turned p (memory words.old store.old c) }
-    ensures again { result.again ≡ turn_goes_on p (memory words.old store.old c) }
+// A turn of session p, and whether turns go on after it; its message is stored as the next one.
+#[tactic(auto, unfolding(crate::specs::Lines::turned, crate::specs::Lines::turn_goes_on, crate::specs::Lines::outcome_at))]
+pub fn take_turn(words: &mut [u64], store: &mut [u8], p: u8, c: &mut Counts) -> bool
+    ensures left { memory words.new store.new c.new ≡ turned p (memory words.old store.old c.old) }
+    ensures again { result ≡ turn_goes_on p (memory words.old store.old c.old) }
 {
     let o = calls::turn_of(words, store, p, c.sent);
-    Turned {
-        counts: message_counted(o, c),
-        again: goes_on(o),
-    }
+    *c = message_counted(o, *c);
+    goes_on(o)
 }
 
 // Turns of session p until idle or closed.
-fn sweep(words: &mut [u64], store: &mut [u8], p: u8, c: Counts) -> Counts
-    ensures { memory words.new store.new result ≡ sweep p 401 (memory words.old store.old c) }
+fn sweep(words: &mut [u64], store: &mut [u8], p: u8, c: &mut Counts)
+    ensures { memory words.new store.new c.new ≡ sweep p 401 (memory words.old store.old c.old) }
 {
-    let mut counts = c;
-    let mut left = TURNS;
-    while left > 0 {
-        left -= 1;
-        let t = take_turn(words, store, p, counts);
-        counts = t.counts;
-        if !t.again {
-            return counts;
+    for _ in 0..TURNS {
+        if !take_turn(words, store, p, c) {
+            return;
         }
     }
-    counts
 }
 
 // The same, if p is honest.
-fn sweep_if(words: &mut [u64], store: &mut [u8], honest: u64, p: u8, c: Counts) -> Counts
-    ensures { memory words.new store.new result ≡ sweep_if honest p (memory words.old store.old c) }
+#[tactic(auto, unfolding(crate::specs::Lines::sweep_if))]
+fn sweep_if(words: &mut [u64], store: &mut [u8], honest: u64, p: u8, c: &mut Counts)
+    ensures { memory words.new store.new c.new ≡ sweep_if 401 honest p (memory words.old store.old c.old) }
 {
-    if quorum::mark(honest, p as u64) {
-        return sweep(words, store, p, c);
+    if quorum::mark(honest, u64::from(p)) {
+        sweep(words, store, p, c);
     }
-    c
 }
 
-// The turns of an R.
-fn sweep_all(words: &mut [u64], store: &mut [u8], g: Members, c: Counts) -> Counts
-    ensures { memory words.new store.new result ≡ swept g (memory words.old store.old c) }
+// The turns of an R. Each loop over the concentrators is written out: of a closure that changes the lent memory no proof knows
+// what it wrote.
+fn sweep_all(words: &mut [u64], store: &mut [u8], g: Members, c: &mut Counts)
+    ensures { memory words.new store.new c.new ≡ swept 401 g (memory words.old store.old c.old) }
 {
-    let n = g.n;
-    let honest = g.honest;
-    let mut counts = c;
-    let mut p: u8 = 0;
-    while p < n {
-        p += 1;
-        counts = sweep_if(words, store, honest, p, counts);
+    for k in 0..g.n {
+        sweep_if(words, store, g.honest, k + 1, c);
     }
-    counts
 }
 
 // Delivers message k to q, if q is honest.
+#[tactic(auto, unfolding(crate::specs::Lines::offer_to))]
 fn offer_to(words: &mut [u64], store: &[u8], honest: u64, k: u16, q: u8)
     ensures { words.new ≡ offer_to honest store.now k q words.old }
 {
-    if quorum::mark(honest, q as u64) {
+    if quorum::mark(honest, u64::from(q)) {
         messages::deliver_message(words, store, k, q);
     }
 }
@@ -117,63 +100,31 @@ fn offer_to(words: &mut [u64], store: &[u8], honest: u64, k: u16, q: u8)
 fn offer(words: &mut [u64], store: &[u8], g: Members, k: u16)
     ensures { words.new ≡ offer g store.now k words.old }
 {
-    let n = g.n;
-    let honest = g.honest;
-    let mut q: u8 = 0;
-    while q < n {
-        q += 1;
-        offer_to(words, store, honest, k, q);
-    }
-}
-
-// Delivers so many messages as `count` after the first `done`.
-fn offer_from(words: &mut [u64], store: &[u8], g: Members, done: u16, count: u16)
-    requires { done + count < 65536 }
-    ensures { words.new ≡ steps (offer_next g store.now done) count words.old }
-{
-    let mut j: u16 = 0;
-    while j < count {
-        j += 1;
-        offer(words, store, g, done + j);
-    }
-}
-
-// How many messages no R has delivered.
-fn left_of(c: Counts) -> u16
-    ensures { result ≡ c.sent - c.offered }
-{
-    if c.offered < c.sent {
-        c.sent - c.offered
-    } else {
-        0
+    for j in 0..g.n {
+        offer_to(words, store, g.honest, k, j + 1);
     }
 }
 
 // Delivers the messages that no R has delivered.
-fn offer_all(words: &mut [u64], store: &[u8], g: Members, c: Counts) -> Counts
-    ensures { memory words.new store.now result ≡ offered g (memory words.old store.now c) }
+fn offer_all(words: &mut [u64], store: &[u8], g: Members, c: &mut Counts)
+    ensures { memory words.new store.now c.new ≡ offered g (memory words.old store.now c.old) }
 {
-    offer_from(words, store, g, c.offered, left_of(c));
-    Counts {
-        sent: c.sent,
-        offered: c.sent,
+    for k in c.offered..c.sent {
+        offer(words, store, g, k + 1);
     }
+    c.offered = c.sent;
 }
 
 // R: turns, then deliveries, until no message was left to deliver. Each round but the last delivers a message that no R has
 // delivered, and there are at most 1,600.
-pub fn run(words: &mut [u64], store: &mut [u8], g: Members, c: Counts) -> Counts
-    ensures { memory words.new store.new result ≡ ran g 1601 (memory words.old store.old c) }
+pub fn run(words: &mut [u64], store: &mut [u8], g: Members, c: &mut Counts)
+    ensures { memory words.new store.new c.new ≡ ran 401 g 1601 (memory words.old store.old c.old) }
 {
-    let mut counts = c;
-    let mut left = ROUNDS;
-    while left > 0 {
-        left -= 1;
-        counts = sweep_all(words, store, g, counts);
-        if counts.sent <= counts.offered {
-            return counts;
+    for _ in 0..ROUNDS {
+        sweep_all(words, store, g, c);
+        if c.sent <= c.offered {
+            return;
         }
-        counts = offer_all(words, store, g, counts);
+        offer_all(words, store, g, c);
     }
-    counts
 }

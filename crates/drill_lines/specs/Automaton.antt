@@ -1,24 +1,40 @@
 -- Reading a line byte by byte.
-use Rattle.std.specs.Prelude.{ℕ, ◌+◌, ◌*◌, ◌^◌, Bool, true, false, cond, ◌&&◌, ◌||◌, List, [], ◌∷◌, eqb, ltb}
+use Rattle.std.specs.Prelude.{ℕ, ◌+◌, ◌*◌, ◌^◌, Bool, cond, ◌&&◌, ◌||◌, List, [], ◌∷◌, get_or, eqb, ltb, Option, Some, None}
+use Rattle.std.specs.Option.{option_map}
 use Rattle.text.specs.Fields.{TAB}
 use Rattle.text.specs.Numbers.{DECIMAL, WORD, PACK, digit_of, base_of, complete}
-use Rattle.drill_lines.specs.Grammar.{LETTER_C, LETTER_P, by_kind}
+use Rattle.drill_lines.specs.Grammar.{letter_of}
+use Rattle.drill_lines.specs.declared.Letter.{Letter}
+use Rattle.drill_lines.specs.declared.Letter.TheVariants as letters
 use Rattle.drill_lines.specs.declared.Line.{Line}
-use Rattle.drill_lines.specs.declared.Line.TheVariants.{Bad, N, C, P, T, D, L, R}
-use Rattle.drill_lines.specs.declared.Numbers.{Numbers}
+use Rattle.drill_lines.specs.declared.Line.TheVariants.{N, C, P, T, D, L, R}
+use Rattle.drill_lines.specs.declared.Fields.{Fields}
 use Rattle.drill_lines.specs.declared.Reader.{Reader}
+use Rattle.drill_lines.specs.declared.Reader.TheVariants.{Empty, Open, Bad}
 
--- how many fields a line has, its letter's too, and 0 for a byte that is no letter of a line
-unfoldable pub count_of : ℕ → ℕ
-count_of kind = by_kind kind 5 3 3 2 3 7 1 0
+-- how many fields a line has, its letter's too
+unfoldable pub count_of : Letter → ℕ
+count_of letters.N = 5
+count_of letters.C = 3
+count_of letters.P = 3
+count_of letters.T = 2
+count_of letters.D = 3
+count_of letters.L = 7
+count_of letters.R = 1
+
+-- the form of the field after the first number
+unfoldable pub second_form : Letter → ℕ
+second_form letters.N = DECIMAL
+second_form letters.C = WORD
+second_form letters.P = PACK
+second_form letters.T = DECIMAL
+second_form letters.D = DECIMAL
+second_form letters.L = DECIMAL
+second_form letters.R = DECIMAL
 
 -- the form of a field; the letter's has no digit after the letter
-unfoldable pub form_of : (kind field : ℕ) → ℕ
-form_of kind field =
-    cond (eqb field 0) 0
-    (cond (eqb kind LETTER_C && eqb field 2) WORD
-    (cond (eqb kind LETTER_P && eqb field 2) PACK
-    DECIMAL))
+unfoldable pub form_of : Letter → (field : ℕ) → ℕ
+form_of l field = cond (eqb field 0) 0 (cond (eqb field 2) (second_form l) DECIMAL)
 
 -- whether a field with so many digits may have one more
 unfoldable pub room : (form digits : ℕ) → Bool
@@ -29,76 +45,85 @@ unfoldable pub digit_count : (form digits : ℕ) → ℕ
 digit_count form digits = cond (eqb form DECIMAL) 1 (cond (ltb digits form) (digits + 1) digits)
 
 -- the last six numbers
-unfoldable pub pushed : Numbers → ℕ → Numbers
-pushed x v = record {
-  first = x.second;
-  second = x.third;
-  third = x.fourth;
-  fourth = x.fifth;
-  fifth = x.sixth;
-  sixth = v;
-}
+unfoldable pub pushed : List ℕ → ℕ → List ℕ
+pushed x v = get_or x 1 0 ∷ get_or x 2 0 ∷ get_or x 3 0 ∷ get_or x 4 0 ∷ get_or x 5 0 ∷ v ∷ []
 
-unfoldable pub no_numbers : Numbers
-no_numbers = record { first = 0; second = 0; third = 0; fourth = 0; fifth = 0; sixth = 0 }
+unfoldable pub no_numbers : List ℕ
+no_numbers = 0 ∷ 0 ∷ 0 ∷ 0 ∷ 0 ∷ 0 ∷ []
 
 -- a line that may still be of the right form
-unfoldable pub reading : (kind field digits value : ℕ) → Numbers → Reader
-reading kind field digits value x = record { kind = kind; field = field; digits = digits; value = value; numbers = x; bad = false }
+unfoldable pub reading : Letter → (field digits value : ℕ) → List ℕ → Fields
+reading l field digits value x = record { letter = l; field = field; digits = digits; value = value; numbers = x }
 
 -- a line of which nothing is read
 unfoldable pub start : Reader
-start = reading 0 0 0 0 no_numbers
-
--- a line of the wrong form
-unfoldable pub wrong : Reader
-wrong = record { kind = 0; field = 0; digits = 0; value = 0; numbers = no_numbers; bad = true }
+start = Empty
 
 -- the letter is read
-unfoldable pub lettered : ℕ → Reader
-lettered c = cond (ltb 0 (count_of c)) (reading c 0 0 0 no_numbers) wrong
+unfoldable pub lettered : ℕ → Option Fields
+lettered c = option_map (λ l. reading l 0 0 0 no_numbers) (letter_of c)
 
 -- a tab is read: the field must be a number of its form, and another one must follow
-unfoldable pub parted : Reader → Reader
-parted r =
-    cond (complete (form_of r.kind r.field) r.digits && ltb (r.field + 1) (count_of r.kind))
-    (reading r.kind (r.field + 1) 0 0 (pushed r.numbers r.value))
-    wrong
+unfoldable pub parted : Fields → Option Fields
+parted f =
+    cond (complete (form_of f.letter f.field) f.digits && ltb (f.field + 1) (count_of f.letter))
+    (Some (reading f.letter (f.field + 1) 0 0 (pushed f.numbers f.value)))
+    None
 
 -- one more byte of a field whose form is w is read: it must be a digit, and the number stay below 2^64
-unfoldable pub extended_as : ℕ → Reader → ℕ → Reader
-extended_as w r c =
-    cond (room w r.digits && (ltb (digit_of c) (base_of w) && ltb (r.value * base_of w + digit_of c) (2 ^ 64)))
-    (reading r.kind r.field (digit_count w r.digits) (r.value * base_of w + digit_of c) r.numbers)
-    wrong
+unfoldable pub extended_as : ℕ → Fields → ℕ → Option Fields
+extended_as w f c =
+    cond (room w f.digits && (ltb (digit_of c) (base_of w) && ltb (f.value * base_of w + digit_of c) (2 ^ 64)))
+    (Some (reading f.letter f.field (digit_count w f.digits) (f.value * base_of w + digit_of c) f.numbers))
+    None
 
-unfoldable pub extended : Reader → ℕ → Reader
-extended r c = extended_as (form_of r.kind r.field) r c
+unfoldable pub extended : Fields → ℕ → Option Fields
+extended f c = extended_as (form_of f.letter f.field) f c
+
+-- one more byte after the letter
+unfoldable pub next : Fields → ℕ → Option Fields
+next f c = cond (eqb c TAB) (parted f) (extended f c)
+
+-- a line whose fields were read, or are of the wrong form
+unfoldable pub read : Option Fields → Reader
+read None = Bad
+read (Some f) = Open f
 
 -- one more byte is read
 unfoldable pub fed : Reader → ℕ → Reader
-fed r c = cond r.bad r (cond (eqb r.kind 0) (lettered c) (cond (eqb c TAB) (parted r) (extended r c)))
+fed Empty c = read (lettered c)
+fed (Open f) c = read (next f c)
+fed Bad c = Bad
 
 -- the line of a letter and the last six numbers
-unfoldable pub line_with : ℕ → Numbers → Line
-line_with kind x =
-    by_kind kind
-    (N x.third x.fourth x.fifth x.sixth)
-    (C x.fifth x.sixth)
-    (P x.fifth x.sixth)
-    (T x.sixth)
-    (D x.fifth x.sixth)
-    (L x.first x.second x.third x.fourth x.fifth x.sixth)
-    R
-    Bad
+unfoldable pub line_with : Letter → List ℕ → Line
+line_with letters.N x = N (get_or x 2 0) (get_or x 3 0) (get_or x 4 0) (get_or x 5 0)
+line_with letters.C x = C (get_or x 4 0) (get_or x 5 0)
+line_with letters.P x = P (get_or x 4 0) (get_or x 5 0)
+line_with letters.T x = T (get_or x 5 0)
+line_with letters.D x = D (get_or x 4 0) (get_or x 5 0)
+line_with letters.L x = L (record {
+  p = get_or x 0 0;
+  q = get_or x 1 0;
+  kind = get_or x 2 0;
+  instance = get_or x 3 0;
+  round = get_or x 4 0;
+  value = get_or x 5 0;
+})
+line_with letters.R x = R
 
--- the line is over: its last field must be a number of its form, and no other one be missing
-unfoldable pub finished : Reader → Line
-finished r =
-    cond r.bad Bad
-    (cond (complete (form_of r.kind r.field) r.digits && eqb (r.field + 1) (count_of r.kind))
-    (line_with r.kind (pushed r.numbers r.value))
-    Bad)
+-- the last field must be a number of its form, and no other one be missing
+unfoldable pub line_read : Fields → Option Line
+line_read f =
+    cond (complete (form_of f.letter f.field) f.digits && eqb (f.field + 1) (count_of f.letter))
+    (Some (line_with f.letter (pushed f.numbers f.value)))
+    None
+
+-- the line is over
+unfoldable pub finished : Reader → Option Line
+finished Empty = None
+finished (Open f) = line_read f
+finished Bad = None
 
 -- bytes are read one after the other
 unfoldable pub fed_all : Reader → List ℕ → Reader

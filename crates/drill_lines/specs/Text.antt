@@ -19,23 +19,19 @@ unfoldable pub values_text : List ℕ → List ℕ
 values_text [] = DASH ∷ []
 values_text (x ∷ xs) = hex_text x ++ each_text comma_text xs
 
--- a decimal and the tab after it
-unfoldable pub field_text : ℕ → List ℕ
-field_text n = decimal_text n ++ (TAB ∷ [])
+-- a decimal and the byte after it: a tab, or the end of the line
+unfoldable pub number_text : (n after : ℕ) → List ℕ
+number_text n after = decimal_text n ++ (after ∷ [])
 
 -- the line of an honest one: number, exit, closed or not, count of turns, packs in force (PROTOCOL 15.15)
 unfoldable pub result_line : (number exit closed turns : ℕ) → List ℕ → List ℕ
 result_line number exit closed turns values =
-    field_text number ++ (field_text exit ++ (field_text closed ++ (field_text turns ++ (values_text values ++ (LF ∷ [])))))
-
--- a decimal and the end of the line
-unfoldable pub end_text : ℕ → List ℕ
-end_text n = decimal_text n ++ (LF ∷ [])
+    number_text number TAB ++ (number_text exit TAB ++ (number_text closed TAB ++ (number_text turns TAB ++ (values_text values ++ (LF ∷ [])))))
 
 -- the last line: how many messages were sent (PROTOCOL 15.15)
 unfoldable pub sent_line : ℕ → List ℕ
-sent_line count = (115 ∷ 101 ∷ 110 ∷ 116 ∷ TAB ∷ []) ++ end_text count
+sent_line count = (115 ∷ 101 ∷ 110 ∷ 116 ∷ TAB ∷ []) ++ number_text count LF
 
 -- what a bad line prints: `bad` and its number (PROTOCOL 15.16)
 unfoldable pub bad_line : ℕ → List ℕ
-bad_line number = (98 ∷ 97 ∷ 100 ∷ TAB ∷ []) ++ end_text number
+bad_line number = (98 ∷ 97 ∷ 100 ∷ TAB ∷ []) ++ number_text number LF

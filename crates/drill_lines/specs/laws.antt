@@ -1,5 +1,3 @@
-pub mod Automaton
-pub mod Cases
 pub mod Theorem
 pub mod Examples
 pub mod Printing

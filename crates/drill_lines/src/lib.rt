@@ -1,6 +1,7 @@
 // The lines of the drill program: what a line of its input is taken as, and the bytes that it prints.
 #![tactic(auto)]
 
+mod letters;
 mod printing;
 mod reading;
 
@@ -9,10 +10,25 @@ ghost use Rattle.drill_lines.specs.Theorem.{ReadsLines};
 pub use printing::{put_bad, put_result, put_sent};
 pub use reading::{feed, finish, start};
 
-// A line by its letter, with its fields under their names in PROTOCOL 15.3 to 15.9; Bad is one of the wrong form.
+// The letter that a line begins with.
+#[derive(Clone, Copy)]
+pub enum Letter {
+    N,
+    C,
+    P,
+    T,
+    D,
+    L,
+    R,
+}
+
+// A byte that no line begins with.
+#[derive(Clone, Copy)]
+pub struct NoLetter;
+
+// A line by its letter, with its fields under their names in PROTOCOL 15.3 to 15.9.
 #[derive(Clone, Copy)]
 pub enum Line {
-    Bad,
     N {
         n: u64,
         ta: u64,
@@ -34,43 +50,51 @@ pub enum Line {
         k: u64,
         q: u64,
     },
-    L {
-        p: u64,
-        q: u64,
-        kind: u64,
-        instance: u64,
-        round: u64,
-        value: u64,
-    },
+    L(LiarMessage),
     R,
 }
 
-// The last six numbers, the newest sixth.
+// A message that a liar p sends to q, as an L line names it.
 #[derive(Clone, Copy)]
-pub struct Numbers {
-    pub first: u64,
-    pub second: u64,
-    pub third: u64,
-    pub fourth: u64,
-    pub fifth: u64,
-    pub sixth: u64,
+pub struct LiarMessage {
+    pub p: u64,
+    pub q: u64,
+    pub kind: u64,
+    pub instance: u64,
+    pub round: u64,
+    pub value: u64,
 }
 
-// A line of which some bytes are read.
+// The fields of a line that may still be of the right form, as far as they are read.
 #[derive(Clone, Copy)]
-pub struct Reader {
-    // The letter, and 0 before it.
-    pub kind: u8,
+pub struct Fields {
+    pub letter: Letter,
     // How many tabs are read.
     pub field: u8,
     // The digits of the field being read: in a decimal 1 stands for one or more.
     pub digits: u8,
     // The number of these digits.
     pub value: u64,
-    // The numbers of the fields that are over.
-    pub numbers: Numbers,
-    // Whether the line is of the wrong form already.
-    pub bad: bool,
+    // The numbers of the last six fields that are over, the newest last.
+    pub numbers: [u64; 6],
+}
+
+// A line as far as it is read.
+#[derive(Clone, Copy)]
+pub enum Reader {
+    Empty,
+    Open(Fields),
+    // It is of the wrong form, whatever follows.
+    Bad,
+}
+
+// What an honest concentrator's line says before its packs in force (PROTOCOL 15.15).
+#[derive(Clone, Copy)]
+pub struct SessionResult {
+    pub number: u64,
+    pub exit: u64,
+    pub closed: u64,
+    pub turns: u64,
 }
 
 // The bytes of any line, read one after the other, come to the line of the definition.

@@ -1,22 +1,16 @@
 // The bytes that the drill prints. Each function writes a text into the lent bytes from a place on, as far as they go,
 // and answers the place after it.
-ghost use Rattle.std.specs.Prelude.{take};
-ghost use Rattle.drill_lines.specs.Text.{comma_text, values_text, field_text, result_line, end_text, sent_line, bad_line};
+ghost use Rattle.std.specs.Prelude.{take, if◌then◌else◌};
+ghost use Rattle.drill_lines.specs.Text.{comma_text, values_text, number_text, result_line, sent_line, bad_line};
 ghost use Rattle.text.specs.Paste.{Wrote};
 ghost use Rattle.text.specs.Fields.{each_text};
 
-const TAB: u8 = 9;
-
-const LF: u8 = 10;
-
-const COMMA: u8 = 44;
-
-const DASH: u8 = 45;
+use crate::SessionResult;
 
 fn put_comma_hex(out: &mut [u8], at: usize, n: u64) -> usize
     ensures { Wrote (comma_text n) out.old at result out.new }
 {
-    let place = text::put_byte(out, at, COMMA);
+    let place = text::put_byte(out, at, b',');
     text::put_hex(out, place, n)
 }
 
@@ -25,10 +19,8 @@ fn put_comma_values(out: &mut [u8], at: usize, values: &[u64]) -> usize
     ensures { Wrote (each_text comma_text values.now) out.old at result out.new }
 {
     let mut place = at;
-    let mut k: usize = 0;
-    while k < values.len() {
-        place = put_comma_hex(out, place, values[k]);
-        k += 1;
+    for value in values {
+        place = put_comma_hex(out, place, *value);
     }
     place
 }
@@ -36,58 +28,39 @@ fn put_comma_values(out: &mut [u8], at: usize, values: &[u64]) -> usize
 fn put_values(out: &mut [u8], at: usize, values: &[u64]) -> usize
     ensures { Wrote (values_text values.now) out.old at result out.new }
 {
-    if values.len() == 0 {
-        return text::put_byte(out, at, DASH);
+    match values.split_first() {
+        None => text::put_byte(out, at, b'-'),
+        Some((first, rest)) => {
+            let place = text::put_hex(out, at, *first);
+            put_comma_values(out, place, rest)
+        }
     }
-    let place = text::put_hex(out, at, values[0]);
-    put_comma_values(out, place, &values[1..])
 }
 
-// The same with the first count values, or all where there are fewer.
-fn put_counted(out: &mut [u8], at: usize, values: &[u64], count: usize) -> usize
-    ensures { Wrote (values_text (take count values.now)) out.old at result out.new }
-{
-    if values.len() <= count {
-        return put_values(out, at, values);
-    }
-    put_values(out, at, &values[..count])
-}
-
-// A decimal and the tab after it.
-fn put_field(out: &mut [u8], at: usize, n: u64) -> usize
-    ensures { Wrote (field_text n) out.old at result out.new }
+// A decimal and the byte after it.
+fn put_number(out: &mut [u8], at: usize, n: u64, after: u8) -> usize
+    ensures { Wrote (number_text n after) out.old at result out.new }
 {
     let place = text::put_decimal(out, at, n);
-    text::put_byte(out, place, TAB)
+    text::put_byte(out, place, after)
 }
 
-// A decimal and the end of the line.
-fn put_end(out: &mut [u8], at: usize, n: u64) -> usize
-    ensures { Wrote (end_text n) out.old at result out.new }
-{
-    let place = text::put_decimal(out, at, n);
-    text::put_byte(out, place, LF)
-}
-
-// The line of an honest concentrator; its values in force are the first count of values.
+// The line of an honest concentrator; its values in force are the first count of values, or all where there are fewer.
 pub fn put_result(
     out: &mut [u8],
     at: usize,
-    number: u64,
-    exit: u64,
-    closed: u64,
-    turns: u64,
+    r: SessionResult,
     values: &[u64],
     count: usize,
 ) -> usize
-    ensures { Wrote (result_line number exit closed turns (take count values.now)) out.old at result out.new }
+    ensures { Wrote (result_line r.number r.exit r.closed r.turns (take count values.now)) out.old at result out.new }
 {
-    let second = put_field(out, at, number);
-    let third = put_field(out, second, exit);
-    let fourth = put_field(out, third, closed);
-    let fifth = put_field(out, fourth, turns);
-    let end = put_counted(out, fifth, values, count);
-    text::put_byte(out, end, LF)
+    let second = put_number(out, at, r.number, b'\t');
+    let third = put_number(out, second, r.exit, b'\t');
+    let fourth = put_number(out, third, r.closed, b'\t');
+    let fifth = put_number(out, fourth, r.turns, b'\t');
+    let end = put_values(out, fifth, &values[..count.min(values.len())]);
+    text::put_byte(out, end, b'\n')
 }
 
 // The line of the message count.
@@ -95,7 +68,7 @@ pub fn put_sent(out: &mut [u8], at: usize, count: u64) -> usize
     ensures { Wrote (sent_line count) out.old at result out.new }
 {
     let place = text::put_text(out, at, b"sent\t");
-    put_end(out, place, count)
+    put_number(out, place, count, b'\n')
 }
 
 // The line of a line that cannot be taken.
@@ -103,5 +76,5 @@ pub fn put_bad(out: &mut [u8], at: usize, number: u64) -> usize
     ensures { Wrote (bad_line number) out.old at result out.new }
 {
     let place = text::put_text(out, at, b"bad\t");
-    put_end(out, place, number)
+    put_number(out, place, number, b'\n')
 }

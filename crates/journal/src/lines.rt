@@ -2,21 +2,23 @@
 // place after it.
 ghost use Rattle.text.specs.Paste.{Wrote};
 ghost use Rattle.text.specs.Fields.{each_text};
-ghost use Rattle.opening.specs.Arguments.{arguments};
+ghost use Rattle.opening.specs.Arguments.{given};
 ghost use Rattle.journal.specs.Lines.{opening_line, delivery_line, recording_line, turn_line};
 ghost use Rattle.journal.specs.laws.Parts.{tab_decimal, tab_word, tab_pack, settings_part, input_part, lists_part};
 
-const TAB: u8 = 9;
+use opening::Arguments;
 
-const LF: u8 = 10;
+const TAB: u8 = b'\t';
 
-const LETTER_O: u8 = 79;
+const LF: u8 = b'\n';
 
-const LETTER_D: u8 = 68;
+const LETTER_O: u8 = b'O';
 
-const LETTER_T: u8 = 84;
+const LETTER_D: u8 = b'D';
 
-const LETTER_K: u8 = 75;
+const LETTER_T: u8 = b'T';
+
+const LETTER_K: u8 = b'K';
 
 fn put_tab_decimal(out: &mut [u8], at: usize, n: u64) -> usize
     ensures { Wrote (tab_decimal n) out.old at result out.new }
@@ -39,14 +41,13 @@ fn put_tab_pack(out: &mut [u8], at: usize, n: u64) -> usize
     text::put_hex(out, place, n)
 }
 
+// One function of this and of `put_weights` would need a bound that says which text an item has; each is three lines.
 fn put_coins(out: &mut [u8], at: usize, coins: &[u32]) -> usize
     ensures { Wrote (each_text tab_word coins.now) out.old at result out.new }
 {
     let mut place = at;
-    let mut k: usize = 0;
-    while k < coins.len() {
-        place = put_tab_word(out, place, coins[k]);
-        k += 1;
+    for &coin in coins {
+        place = put_tab_word(out, place, coin);
     }
     place
 }
@@ -54,70 +55,56 @@ fn put_coins(out: &mut [u8], at: usize, coins: &[u32]) -> usize
 fn put_tab_weight(out: &mut [u8], at: usize, x: u8) -> usize
     ensures { Wrote (tab_decimal x) out.old at result out.new }
 {
-    put_tab_decimal(out, at, x as u64)
+    put_tab_decimal(out, at, u64::from(x))
 }
 
 fn put_weights(out: &mut [u8], at: usize, weights: &[u8]) -> usize
     ensures { Wrote (each_text tab_decimal weights.now) out.old at result out.new }
 {
     let mut place = at;
-    let mut k: usize = 0;
-    while k < weights.len() {
-        place = put_tab_weight(out, place, weights[k]);
-        k += 1;
+    for &weight in weights {
+        place = put_tab_weight(out, place, weight);
     }
     place
 }
 
 // The letter, the version, n, ta and ts.
-fn put_settings(out: &mut [u8], version: u64, n: u64, ta: u64, ts: u64) -> usize
-    ensures { Wrote (settings_part version n ta ts) out.old 0 result out.new }
+fn put_settings(out: &mut [u8], a: Arguments<'_>) -> usize
+    ensures { Wrote (settings_part a.entry.version a.entry.n a.entry.ta a.entry.ts) out.old 0 result out.new }
 {
     let first = text::put_byte(out, 0, LETTER_O);
-    let second = put_tab_decimal(out, first, version);
-    let third = put_tab_decimal(out, second, n);
-    let fourth = put_tab_decimal(out, third, ta);
-    put_tab_decimal(out, fourth, ts)
+    let second = put_tab_decimal(out, first, a.version);
+    let third = put_tab_decimal(out, second, a.n);
+    let fourth = put_tab_decimal(out, third, a.ta);
+    put_tab_decimal(out, fourth, a.ts)
 }
 
 // Own number, session and own input.
-fn put_input(out: &mut [u8], at: usize, own: u64, session: u32, input: u64) -> usize
-    ensures { Wrote (input_part own session input) out.old at result out.new }
+fn put_input(out: &mut [u8], at: usize, a: Arguments<'_>) -> usize
+    ensures { Wrote (input_part a.entry.own a.entry.session a.entry.input) out.old at result out.new }
 {
-    let second = put_tab_decimal(out, at, own);
-    let third = put_tab_decimal(out, second, session as u64);
-    put_tab_pack(out, third, input)
+    let second = put_tab_decimal(out, at, a.own);
+    let third = put_tab_decimal(out, second, a.session as u64);
+    put_tab_pack(out, third, a.input)
 }
 
 // Coin words, weights, whether coins are boxed, and the end.
-fn put_lists(out: &mut [u8], at: usize, coins: &[u32], weights: &[u8], boxed: u64) -> usize
-    ensures { Wrote (lists_part coins.now weights.now boxed) out.old at result out.new }
+fn put_lists(out: &mut [u8], at: usize, a: Arguments<'_>) -> usize
+    ensures { Wrote (lists_part a.entry.coins.now a.entry.weights.now a.entry.boxed) out.old at result out.new }
 {
-    let second = put_coins(out, at, coins);
-    let third = put_weights(out, second, weights);
-    let fourth = put_tab_decimal(out, third, boxed);
+    let second = put_coins(out, at, a.coins);
+    let third = put_weights(out, second, a.weights);
+    let fourth = put_tab_decimal(out, third, a.boxed);
     text::put_byte(out, fourth, LF)
 }
 
 // The line of an opening.
-pub fn put_opening(
-    out: &mut [u8],
-    version: u64,
-    n: u64,
-    ta: u64,
-    ts: u64,
-    own: u64,
-    session: u32,
-    input: u64,
-    coins: &[u32],
-    weights: &[u8],
-    boxed: u64,
-) -> usize
-    ensures { Wrote (opening_line (arguments version n ta ts own session input coins.now weights.now boxed)) out.old 0 result out.new }
+pub fn put_opening(out: &mut [u8], a: Arguments<'_>) -> usize
+    ensures { Wrote (opening_line (given a.entry)) out.old 0 result out.new }
 {
-    let second = put_settings(out, version, n, ta, ts);
-    let third = put_input(out, second, own, session, input);
-    put_lists(out, third, coins, weights, boxed)
+    let second = put_settings(out, a);
+    let third = put_input(out, second, a);
+    put_lists(out, third, a)
 }
 
 // The line of a delivery.

@@ -2,6 +2,7 @@
 use Rattle.std.specs.Prelude.{ℕ, List}
 use Rattle.settings.specs.Settings.{named_ta, settings_named}
 use Rattle.settings.specs.declared.Settings.{Settings}
+use Rattle.opening.specs.declared.Arguments as declared
 use Rattle.opening.specs.Given.{weights_word}
 
 pub record Arguments : Type 0 where
@@ -20,10 +21,15 @@ pub record Arguments : Type 0 where
   -- 0 for printed coins, 1 for boxed ones (PROTOCOL 1.10)
   pub boxed : ℕ
 
--- the arguments, in the order of the call
+-- the arguments, in the order of the call from C
 abbrev pub arguments : (version n ta ts own session input : ℕ) (coins weights : List ℕ) (boxed : ℕ) → Arguments
 arguments version n ta ts own session input coins weights boxed =
     record { version = version; n = n; ta = ta; ts = ts; own = own; session = session; input = input; coins = coins; weights = weights; boxed = boxed }
+
+-- the arguments as the code is given them
+abbrev pub given : declared.Arguments → Arguments
+given a =
+    record { version = a.version; n = a.n; ta = a.ta; ts = a.ts; own = a.own; session = a.session; input = a.input; coins = a.coins.now; weights = a.weights.now; boxed = a.boxed }
 
 -- the weights as one word
 abbrev pub weights_by : Arguments → ℕ

@@ -7,13 +7,8 @@ ghost use Rattle.opening.specs.Given.{item, coin_zero, coins_given};
 use records::layout;
 use settings::Settings;
 
-fn wide(x: u32) -> u64
-    ensures { result ≡ x }
-{
-    x as u64
-}
-
-// Coin word i, and 0 where there is none.
+// Coin word i, and 0 where there is none. `weight_item` is the same of bytes: one function of both would need a bound that says which number
+// an item is, and a proof that each type has it.
 fn coin_word(coins: &[u32], i: u8) -> u64
     ensures { result ≡ item coins.now i }
 {
@@ -21,7 +16,11 @@ fn coin_word(coins: &[u32], i: u8) -> u64
         return 0;
     }
     let k = i as usize - 1;
-    if k < coins.len() { wide(coins[k]) } else { 0 }
+    if k < coins.len() {
+        u64::from(coins[k])
+    } else {
+        0
+    }
 }
 
 fn coin_zero(coins: &[u32], i: u8) -> bool
@@ -34,14 +33,7 @@ fn coin_zero(coins: &[u32], i: u8) -> bool
 fn all_zero(coins: &[u32], n: u8) -> bool
     ensures { result ≡ every (coin_zero coins.now) n }
 {
-    let mut i: u8 = 0;
-    while i < n {
-        i += 1;
-        if !coin_zero(coins, i) {
-            return false;
-        }
-    }
-    true
+    (0..n).all(|k| coin_zero(coins, k + 1))
 }
 
 // Whether there are n coin words, printed or boxed; boxed ones are 0.
@@ -66,9 +58,8 @@ pub fn coins_given(coins: &[u32], n: u64, boxed: u64) -> bool
 pub fn put_coins(s: &mut [u64], coins: &[u32], n: u8)
     ensures { s.new ≡ with_coins s.old coins.now n }
 {
-    let mut i: u8 = 0;
-    while i < n {
-        i += 1;
+    for k in 0..n {
+        let i = k + 1;
         records::put(s, layout::COINS + i as usize, coin_word(coins, i));
     }
 }

@@ -6,12 +6,6 @@ ghost use Rattle.opening.specs.Given.{item, weight_given, weights_given, weights
 
 use settings::Settings;
 
-fn wide(x: u8) -> u64
-    ensures { result ≡ x }
-{
-    x as u64
-}
-
 // Weight p, and 0 where there is none.
 fn weight_item(weights: &[u8], p: u8) -> u64
     ensures { result ≡ item weights.now p }
@@ -21,7 +15,7 @@ fn weight_item(weights: &[u8], p: u8) -> u64
     }
     let k = p as usize - 1;
     if k < weights.len() {
-        wide(weights[k])
+        u64::from(weights[k])
     } else {
         0
     }
@@ -39,14 +33,7 @@ fn weight_given(weights: &[u8], p: u8) -> bool
 fn all_given(weights: &[u8], n: u8) -> bool
     ensures { result ≡ every (weight_given weights.now) n }
 {
-    let mut p: u8 = 0;
-    while p < n {
-        p += 1;
-        if !weight_given(weights, p) {
-            return false;
-        }
-    }
-    true
+    (0..n).all(|k| weight_given(weights, k + 1))
 }
 
 // Whether there are n weights, each 1 to 4.
@@ -84,9 +71,8 @@ fn pack(weights: &[u8], n: u8) -> u64
     ensures { result ≡ packed (item weights.now) n }
 {
     let mut w: u64 = 0;
-    let mut p: u8 = 0;
-    while p < n {
-        p += 1;
+    for k in 0..n {
+        let p = k + 1;
         w = with_weight(w, p, weight_item(weights, p));
     }
     w

@@ -72,18 +72,11 @@ pub fn weight_of(weights: u64, p: u8) -> u64
     u64::count_ones((weights >> (p - 1)) & FOURFOLD) as u64
 }
 
-// n, or 16 where it is above: no number above 16 weighs anything.
-fn weighing(n: u8) -> u8
-    ensures { result ≡ min n 16 }
-{
-    if n < 16 { n } else { 16 }
-}
-
-// The weight of the senders 1 to n that have the mark `base` above their number.
+// The weight of the senders 1 to n that have the mark `base` above their number; no number above 16 weighs anything.
 pub fn weigh_marks(w: u64, base: u16, n: u8, weights: u64) -> u64
     ensures { result ≡ weigh weights (λ p. mark w (base + p)) n }
 {
-    let marked = part(w, base, weighing(n));
+    let marked = part(w, base, n.min(16));
     if marked == 0 {
         return 0;
     }
@@ -94,14 +87,14 @@ pub fn weigh_marks(w: u64, base: u16, n: u8, weights: u64) -> u64
 pub fn mark_end(n: u8) -> u8
     ensures { result ≡ min n 64 }
 {
-    if n < 64 { n } else { 64 }
+    n.min(64)
 }
 
 // The weight of 1 to n: their number where each weighs 1.
 pub fn whole(weights: u64, n: u8) -> u64
     ensures { result ≡ whole_of weights n }
 {
-    let m = weighing(n);
+    let m = n.min(16);
     let all = (1 << m) - 1;
     if weights == all {
         return m as u64;

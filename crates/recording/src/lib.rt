@@ -6,8 +6,7 @@ ghost use Rattle.recording.specs.Recording.{bit_mark, other_mark, in_layout, uno
 ghost use Rattle.recording.specs.laws.Cases.{running_answer};
 
 use records::layout;
-use session::Stored;
-use settings::{Settings, refusal};
+use settings::{Refusal, Settings};
 
 // Whether the session is boxed, and vote, round and bit are within the layout.
 fn in_layout(s: &[u64], n: u8, i: u64, r: u64, b: u64) -> bool
@@ -33,11 +32,7 @@ fn bit_mark(r: u8, b: u8) -> u64
 fn other_mark(r: u8, b: u8) -> u64
     ensures { result ≡ other_mark r b }
 {
-    if b == 1 {
-        layout::ZERO_MARKS + r as u64
-    } else {
-        r as u64
-    }
+    bit_mark(r, u8::from(b != 1))
 }
 
 // Whether the other bit is not recorded.
@@ -58,27 +53,26 @@ fn recordable(s: &[u64], n: u8, i: u64, r: u64, b: u64) -> bool
 }
 
 // The answer where the words are a state of n concentrators.
-fn running_answer(s: &[u64], n: u8, i: u64, r: u64, b: u64) -> u64
+fn running_answer(s: &[u64], n: u8, i: u64, r: u64, b: u64) -> Result<(), Refusal>
     ensures { result ≡ running_answer s.now n i r b }
 {
     if records::closed(s) {
-        return refusal::CLOSED;
+        return Err(Refusal::Closed);
     }
     if !recordable(s, n, i, r, b) {
-        return refusal::COIN;
+        return Err(Refusal::Coin);
     }
-    0
+    Ok(())
 }
 
-// The answer: 0, or the number of the refusal.
-pub fn answer(s: &[u64], vote: u64, round: u64, bit: u64) -> u64
+// The refusals in their order.
+pub fn answer(s: &[u64], vote: u64, round: u64, bit: u64) -> Result<(), Refusal>
     ensures { result ≡ record_answer s.now vote round bit }
 {
-    let stored = session::state_of(s);
-    match stored {
-        Stored::NoState => refusal::NO_STATE,
-        Stored::Held(x) => running_answer(s, x.settings.n, vote, round, bit),
-    }
+    let Some(x) = session::state_of(s) else {
+        return Err(Refusal::NoState);
+    };
+    running_answer(s, x.settings.n, vote, round, bit)
 }
 
 fn put_bit(s: &mut [u64], i: u8, r: u8, b: u8)
@@ -87,14 +81,12 @@ fn put_bit(s: &mut [u64], i: u8, r: u8, b: u8)
     records::set_mark(s, layout::COINS + i as usize, bit_mark(r, b));
 }
 
-// Records the bit of a vote and round, and answers 0 or the number of the refusal.
-pub fn record(state: &mut [u64], vote: u64, round: u64, bit: u64) -> u64
+// Records the bit of a vote and round; a refusal leaves the words.
+pub fn record(state: &mut [u64], vote: u64, round: u64, bit: u64) -> Result<(), Refusal>
     ensures answer { result ≡ record_answer state.old vote round bit }
     ensures words { state.new ≡ recorded_words state.old vote round bit }
 {
-    let a = answer(state, vote, round, bit);
-    if a == 0 {
-        put_bit(state, vote as u8, round as u8, bit as u8);
-    }
-    a
+    answer(state, vote, round, bit)?;
+    put_bit(state, vote as u8, round as u8, bit as u8);
+    Ok(())
 }

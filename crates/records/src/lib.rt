@@ -22,7 +22,7 @@ use settings::Settings;
 pub fn word(s: &[u64], k: usize) -> u64
     ensures { result ≡ word s.now k }
 {
-    if k < s.len() { s[k] } else { 0 }
+    s.get(k).copied().unwrap_or(0)
 }
 
 // Puts v at k, and changes nothing where k is past the end.
@@ -48,10 +48,8 @@ fn equal_within(s: &[u64], base: u32, n: u8, v: u64) -> u64
 {
     let first = base as usize;
     let mut m: u64 = 0;
-    let mut p = n as usize;
-    while 0 < p {
-        p -= 1;
-        m = 2 * m + (s[first + p] == v) as u64;
+    for p in (0..n as usize).rev() {
+        m = 2 * m + u64::from(s[first + p] == v);
     }
     m
 }
@@ -61,10 +59,8 @@ fn equal_each(s: &[u64], base: u32, n: u8, v: u64) -> u64
     ensures { MarksOf (equal_at s.now base v) n result }
 {
     let mut m: u64 = 0;
-    let mut p = quorum::mark_end(n);
-    while 0 < p {
-        p -= 1;
-        m = 2 * m + (word(s, base as usize + p as usize) == v) as u64;
+    for p in (0..quorum::mark_end(n)).rev() {
+        m = 2 * m + u64::from(word(s, base as usize + p as usize) == v);
     }
     m
 }
@@ -202,11 +198,7 @@ pub fn round(s: &[u64], i: u8) -> u8
     ensures { result ≡ round s.now i }
 {
     let r = word(s, layout::ROUNDS + i as usize);
-    if r < Settings::MOVED_OUT_ROUND as u64 {
-        r as u8
-    } else {
-        Settings::MOVED_OUT_ROUND
-    }
+    r.min(Settings::MOVED_OUT_ROUND as u64) as u8
 }
 
 // Whether EST b was sent in round r of vote i.
@@ -357,11 +349,7 @@ pub fn commit_count(s: &[u64], p: u8) -> u8
     ensures { result ≡ commit_count s.now p }
 {
     let k = word(s, layout::COMMIT_COUNTS + p as usize);
-    if k < Settings::MAX_CONCENTRATORS {
-        k as u8
-    } else {
-        Settings::MAX_CONCENTRATORS as u8
-    }
+    k.min(Settings::MAX_CONCENTRATORS) as u8
 }
 
 // Value k of the COMMIT of sender p.
@@ -376,11 +364,9 @@ pub fn copy_front(from: &[u64], count: u8, out: &mut [u64])
     requires { (count ≤ length from.now) × (count ≤ length out.old) }
     ensures { out.new ≡ copied from.now out.old count }
 {
-    let n = count as usize;
-    let mut k: usize = 0;
-    while k < n {
+    // One by one: with `copy_from_slice` a report would need memmove of whoever links it.
+    for k in 0..count as usize {
         out[k] = from[k];
-        k += 1;
     }
 }
 

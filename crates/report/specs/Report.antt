@@ -1,6 +1,6 @@
 -- The report gives the exit with its set, the count of turns and the set in force (PROTOCOL 9.25).
-use Rattle.std.specs.Prelude.{ℕ, ◌||◌, not, cond, List, [], length, ltb}
-use Rattle.settings.specs.Refusals.{SHORT, NO_STATE}
+use Rattle.std.specs.Prelude.{ℕ, ◌||◌, not, cond, List, [], length, ltb, Result, Ok, Err}
+use Rattle.settings.specs.declared.refusal.Refusal.TheVariants as refusal
 use Rattle.settings.specs.Settings.{max_concentrators, quorum}
 use Rattle.settings.specs.declared.Settings.{Settings}
 use Rattle.records.specs.Records.{turn_count, closed}
@@ -9,10 +9,7 @@ use Rattle.exits.specs.Exits.{exit_now}
 use Rattle.session.specs.Session.{is_state, settings_of}
 use Rattle.wire.specs.Message.{at_front}
 use Rattle.report.specs.declared.Figures.{Figures}
-use Rattle.report.specs.declared.Admitted.{Admitted}
-use Rattle.report.specs.declared.Admitted.TheVariants as admitted
-use Rattle.report.specs.declared.Answer.{Answer}
-use Rattle.report.specs.declared.Answer.TheVariants.{Refused, Given}
+use Rattle.settings.specs.declared.refusal.Refusal.{Refusal}
 
 -- on a closed state, the set whose COMMITs weigh the quorum, read anew from the COMMITs held (PROTOCOL 7.7); [] is none: before closing, and
 -- where a state closed by other means has no such set
@@ -34,20 +31,20 @@ abbrev pub set_words : ℕ
 set_words = max_concentrators
 
 -- the refusals of a report in their order: the first one, or the settings. Each of the two sets needs 16 words (PROTOCOL 9.24, 10.18).
-unfoldable pub admits : List ℕ → ℕ → ℕ → Admitted
+unfoldable pub admits : List ℕ → ℕ → ℕ → Result Settings Refusal
 admits s named_words in_force_words =
-    cond (not (is_state s)) (admitted.Refused NO_STATE)
-    (cond (ltb named_words set_words || ltb in_force_words set_words) (admitted.Refused SHORT)
-    (admitted.Open (settings_of s)))
+    cond (not (is_state s)) (Err refusal.NoState)
+    (cond (ltb named_words set_words || ltb in_force_words set_words) (Err refusal.Short)
+    (Ok (settings_of s)))
 
--- what a refusal gives by its number, or the report under the settings
-unfoldable pub giving : {A : Type 0} → Admitted → (ℕ → A) → (Settings → A) → A
-giving (admitted.Refused k) refused given = refused k
-giving (admitted.Open g) refused given = given g
+-- what a refusal gives, or the report under the settings
+unfoldable pub giving : {A : Type 0} → Result Settings Refusal → (Refusal → A) → (Settings → A) → A
+giving (Err k) refused given = refused k
+giving (Ok g) refused given = given g
 
 -- the answer of a report that is lent so many words for each set (PROTOCOL 9.9)
-unfoldable pub report_answer : List ℕ → ℕ → ℕ → Answer
-report_answer s named_words in_force_words = giving (admits s named_words in_force_words) Refused (λ g. Given (figures_of g s))
+unfoldable pub report_answer : List ℕ → ℕ → ℕ → Result Figures Refusal
+report_answer s named_words in_force_words = giving (admits s named_words in_force_words) Err (λ g. Ok (figures_of g s))
 
 -- the words lent for the set that the exits name, after the call: only those of the set are written, by a refusal none (PROTOCOL 9.3, 9.4)
 unfoldable pub report_named : List ℕ → List ℕ → ℕ → List ℕ

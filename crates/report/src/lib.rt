@@ -1,9 +1,8 @@
 // The report: whether it is given, then the exit, its set, the turn count and the set in force.
 #![tactic(auto)]
 
-ghost use Rattle.std.specs.Prelude.{◌≡◌, ◌≤◌, length};
+ghost use Rattle.std.specs.Prelude.{◌≡◌, length};
 ghost use Rattle.settings.specs.Rules.{Ruled};
-ghost use Rattle.records.specs.Words.{copied};
 ghost use Rattle.commits.specs.Commits.{set_of};
 ghost use Rattle.exits.specs.Exits.{exit_now};
 ghost use Rattle.exits.specs.Stated.{Stated};
@@ -12,13 +11,13 @@ ghost use Rattle.records.specs.Sets.{SetRoom};
 ghost use Rattle.report.specs.laws.Cases.{in_force_sender, SetWritten, Room, Written};
 ghost use Rattle.report.specs.laws.Stored.{admitted_in};
 
+use broadcasts::OutputTable;
 use exits::Named;
 use records::layout;
-use session::Stored;
-use settings::{Settings, refusal};
+use settings::{Refusal, Settings};
 
 // What a report tells beside the sets, which stand at the front of the lent words: the exit, 0 for none, the number of
-// values named and in force, and the turns that were not idle.
+// values named and in force, and the turns that were not idle. The exit is its number and no Option, since C is given it so.
 #[derive(Clone, Copy)]
 pub struct Figures {
     pub exit: u8,
@@ -27,45 +26,31 @@ pub struct Figures {
     pub turns: u64,
 }
 
-#[derive(Clone, Copy)]
-pub enum Answer {
-    Refused(u64),
-    Given(Figures),
-}
-
-// Whether a report is given: the number of the refusal, or the settings of the session.
-#[derive(Clone, Copy)]
-pub enum Admitted {
-    Refused(u64),
-    Open(Settings),
-}
-
 // The words that a report must be lent for each set.
 pub const SET_WORDS: usize = Settings::MAX_CONCENTRATORS as usize;
 
 // Whether there is room for both sets.
-fn admit_in(g: Settings, named: usize, in_force: usize) -> Admitted
+fn admit_in(g: Settings, named: usize, in_force: usize) -> Result<Settings, Refusal>
     ensures { result ≡ admitted_in g named in_force }
 {
     if (named < SET_WORDS) | (in_force < SET_WORDS) {
-        return Admitted::Refused(refusal::SHORT);
+        return Err(Refusal::Short);
     }
-    Admitted::Open(g)
+    Ok(g)
 }
 
 // The refusals 9 and 8, in this order, or the settings.
-fn admit(s: &[u64], named: usize, in_force: usize) -> Admitted
+fn admit(s: &[u64], named: usize, in_force: usize) -> Result<Settings, Refusal>
     ensures { result ≡ admits s.now named in_force }
 {
     // `state_of` asks the same: here it tells the compiler for all that is read later.
     if s.len() != layout::STATE_WORDS {
-        return Admitted::Refused(refusal::NO_STATE);
+        return Err(Refusal::NoState);
     }
-    let stored = session::state_of(s);
-    match stored {
-        Stored::NoState => Admitted::Refused(refusal::NO_STATE),
-        Stored::Held(x) => admit_in(x.settings, named, in_force),
-    }
+    let Some(x) = session::state_of(s) else {
+        return Err(Refusal::NoState);
+    };
+    admit_in(x.settings, named, in_force)
 }
 
 // The exit of a state: the outputs are worked out once.
@@ -73,11 +58,10 @@ fn exit_now(s: &[u64], g: Settings) -> Named
     requires { Ruled g }
     ensures { Stated result (exit_now g s.now) }
 {
-    let mut values = [0u64; 16];
-    let outputs = broadcasts::outputs(s, g, &mut values);
+    let outputs = OutputTable::of(s, g);
     let zero = records::decided_zero_marks(s);
     let one = records::decided_one_marks(s);
-    exits::exit_of(g, outputs, &values, zero, one)
+    exits::exit_of(g, &outputs, zero, one)
 }
 
 // The lowest sender that holds the set in force, and 0 if none is.
@@ -109,14 +93,6 @@ fn write_in_force(s: &[u64], g: Settings, out: &mut [u64]) -> u8
     write_set(s, in_force_sender(s, g), out)
 }
 
-// Writes the first count values at the front of out.
-fn write_values(values: &[u64; 16], count: u8, out: &mut [u64])
-    requires { (count ≤ 16) × (16 ≤ length out.old) }
-    ensures { out.new ≡ copied values.now out.old count }
-{
-    records::copy_front(values, count, out);
-}
-
 // Writes both sets, and answers the figures.
 fn write_report(s: &[u64], g: Settings, named: &mut [u64], in_force: &mut [u64]) -> Figures
     requires { (Room g s.now named.old) × (Room g s.now in_force.old) }
@@ -125,10 +101,10 @@ fn write_report(s: &[u64], g: Settings, named: &mut [u64], in_force: &mut [u64])
     let x = exit_now(s, g);
     let values = x.values;
     let count = x.count;
-    write_values(&values, count, named);
+    records::copy_front(&values, count, named);
     let k = write_in_force(s, g, in_force);
     Figures {
-        exit: x.exit,
+        exit: x.number(),
         named: count,
         in_force: k,
         turns: records::turn_count(s),
@@ -137,14 +113,11 @@ fn write_report(s: &[u64], g: Settings, named: &mut [u64], in_force: &mut [u64])
 
 // Reports on a state: the figures, with the set that the exits name and the set in force at the front of the lent words,
 // or the number of the refusal.
-pub fn report(state: &[u64], named: &mut [u64], in_force: &mut [u64]) -> Answer
+pub fn report(state: &[u64], named: &mut [u64], in_force: &mut [u64]) -> Result<Figures, Refusal>
     ensures answer { result ≡ report_answer state.now (length named.old) (length in_force.old) }
     ensures named_words { named.new ≡ report_named state.now named.old (length in_force.old) }
     ensures in_force_words { in_force.new ≡ report_in_force state.now (length named.old) in_force.old }
 {
-    let v = admit(state, named.len(), in_force.len());
-    match v {
-        Admitted::Refused(k) => Answer::Refused(k),
-        Admitted::Open(g) => Answer::Given(write_report(state, g, named, in_force)),
-    }
+    let g = admit(state, named.len(), in_force.len())?;
+    Ok(write_report(state, g, named, in_force))
 }

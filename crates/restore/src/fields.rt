@@ -8,14 +8,7 @@ ghost use Rattle.restore.specs.laws.Hex.{byte_of, HexRead};
 
 use crate::reader::place_of;
 
-const TAB: u8 = 9;
-
-// A field that is read as a number.
-#[derive(Clone, Copy)]
-pub enum Number {
-    Wrong,
-    Is(u64),
-}
+const TAB: u8 = b'\t';
 
 // Where the field at a place ends.
 pub fn field_end(b: &[u8], at: usize) -> usize
@@ -39,51 +32,39 @@ pub fn letter(f: &[u8]) -> u8
 fn zero_led(f: &[u8]) -> bool
     ensures { result ≡ zero_led f.now }
 {
-    if 1 < f.len() {
-        return f[0] == 48;
-    }
-    false
+    1 < f.len() && f[0] == b'0'
 }
 
 // The number of digits to a base.
-fn digits_value(f: &[u8], base: u8) -> Number
+fn digits_value(f: &[u8], base: u8) -> Option<u64>
     requires { 0 < base }
     ensures { result ≡ digits_from base 0 f.now }
 {
     let mut v: u64 = 0;
-    let mut k: usize = 0;
-    while k < f.len() {
-        let d = text::digit(f[k]);
+    for c in f {
+        let d = text::digit(*c);
         if base <= d {
-            return Number::Wrong;
+            return None;
         }
         if !text::fits(v, base, d) {
-            return Number::Wrong;
+            return None;
         }
         v = text::appended(v, base, d);
-        k += 1;
     }
-    Number::Is(v)
+    Some(v)
 }
 
 // The number of a field of a form: 10 for a decimal, else how many hexadecimal digits.
-pub fn read_number(f: &[u8], form: u8) -> Number
+pub fn read_number(f: &[u8], form: u8) -> Option<u64>
     ensures { result ≡ number_of form f.now }
 {
     if !text::complete(form, f.len()) {
-        return Number::Wrong;
+        return None;
     }
     if (form == text::DECIMAL) & zero_led(f) {
-        return Number::Wrong;
+        return None;
     }
     digits_value(f, text::base(form))
-}
-
-// A field that is read as bytes: how many.
-#[derive(Clone, Copy)]
-pub enum Hex {
-    Wrong,
-    Is(usize),
 }
 
 const NO_BYTE: u64 = 256;
@@ -103,24 +84,23 @@ fn byte_of(a: u8, b: u8) -> u64
     16 * d as u64 + e as u64
 }
 
-// Reads the bytes of a field of hexadecimal digits, where there is room for all of them.
-pub fn read_bytes(f: &[u8], out: &mut [u8]) -> Hex
+// Reads the bytes of a field of hexadecimal digits, where there is room for all of them: how many.
+pub fn read_bytes(f: &[u8], out: &mut [u8]) -> Option<usize>
     ensures { HexRead f.now (length out.old) result out.new }
 {
-    let mut k: usize = 0;
-    while 2 * k + 1 < f.len() {
+    let count = f.len() / 2;
+    for k in 0..count {
         let x = byte_of(f[2 * k], f[2 * k + 1]);
         if 255 < x {
-            return Hex::Wrong;
+            return None;
         }
         if out.len() <= k {
-            return Hex::Wrong;
+            return None;
         }
         out[k] = x as u8;
-        k += 1;
     }
-    if 2 * k < f.len() {
-        return Hex::Wrong;
+    if 2 * count < f.len() {
+        return None;
     }
-    Hex::Is(k)
+    Some(count)
 }

@@ -13,20 +13,13 @@ ghost use Rattle.restore.specs.laws.Given.{arguments_with, OpenGiven};
 ghost use Rattle.restore.specs.laws.First.{CountGiven};
 
 use crate::fields;
-use crate::fields::Number;
+use opening::Arguments;
 
 const WORD: u8 = 8;
 
 const PACK: u8 = 16;
 
-const LETTER_O: u8 = 79;
-
-// The fields of an opening line that were read: how many.
-#[derive(Clone, Copy)]
-pub enum Fields {
-    Wrong,
-    Count(usize),
-}
+const LETTER_O: u8 = b'O';
 
 // The form of field k, from 0, of n concentrators.
 fn form_of(n: usize, k: usize) -> u8
@@ -50,35 +43,30 @@ fn store_field(f: &[u8], form: u8, values: &mut [u64], k: usize) -> bool
     requires { k < length values.old }
     ensures { Stored form f.now values.old k result values.new }
 {
-    let x = fields::read_number(f, form);
-    match x {
-        Number::Wrong => false,
-        Number::Is(v) => {
-            values[k] = v;
-            true
-        }
-    }
+    let Some(v) = fields::read_number(f, form) else {
+        return false;
+    };
+    values[k] = v;
+    true
 }
 
-// Reads all fields from a place on: those of an opening line of n concentrators, of which the first six are decimals.
-pub fn read_all(line: &[u8], start: usize, n: usize, values: &mut [u64]) -> Fields
+// Reads all fields from a place on, and tells how many there are: those of an opening line of n concentrators, of which the first six are decimals.
+pub fn read_all(line: &[u8], start: usize, n: usize, values: &mut [u64]) -> Option<usize>
     requires { (start ≤ length line.now) × (n ≤ 16) }
     ensures { FieldsRead n (fields_at line.now start) (length values.old) result values.new }
 {
     let mut at = start;
-    let mut k: usize = 0;
-    while k < values.len() {
+    for k in 0..values.len() {
         let e = fields::field_end(line, at);
         if !store_field(&line[at..e], form_of(n, k), values, k) {
-            return Fields::Wrong;
+            return None;
         }
-        k += 1;
         if e == line.len() {
-            return Fields::Count(k);
+            return Some(k + 1);
         }
         at = e + 1;
     }
-    Fields::Wrong
+    None
 }
 
 // Copies n coin words.
@@ -86,10 +74,8 @@ fn copy_coins(values: &[u64], n: usize, coins: &mut [u32])
     requires { (7 + n ≤ length values.now) × (n ≤ length coins.old) × (n ≤ 16) × CoinsFit n values.now }
     ensures { Copied values.now 7 n (length coins.old) coins.new }
 {
-    let mut j: usize = 0;
-    while j < n {
+    for j in 0..n {
         coins[j] = values[7 + j] as u32;
-        j += 1;
     }
 }
 
@@ -98,14 +84,12 @@ fn copy_weights(values: &[u64], base: usize, n: usize, weights: &mut [u8]) -> bo
     requires { (base + n ≤ length values.now) × (n ≤ length weights.old) }
     ensures { Weighed values.now base n (length weights.old) result weights.new }
 {
-    let mut j: usize = 0;
-    while j < n {
+    for j in 0..n {
         let w = values[base + j];
         if 255 < w {
             return false;
         }
         weights[j] = w as u8;
-        j += 1;
     }
     true
 }
@@ -145,20 +129,19 @@ fn open_with(
     requires { (7 ≤ length values.now) × (get_or values.now 5 0 < 4294967296) × (length copy.old ≡ 2048) }
     ensures { Tried (opened_from (arguments_with n values.now coins.now weights.now boxed)) copy.old result copy.new }
 {
-    let answer = opening::open(
-        copy,
-        values[0],
-        n as u64,
-        values[2],
-        values[3],
-        values[4],
-        values[5] as u32,
-        values[6],
+    let a = Arguments {
+        version: values[0],
+        n: n as u64,
+        ta: values[2],
+        ts: values[3],
+        own: values[4],
+        session: values[5] as u32,
+        input: values[6],
         coins,
         weights,
         boxed,
-    );
-    answer == 0
+    };
+    opening::open(copy, a).is_ok()
 }
 
 // Opens a session with so many numbers of a line.
@@ -208,21 +191,20 @@ fn open_fields(copy: &mut [u64], line: &[u8], at: usize, n: u64) -> bool
     }
     let few = n as usize;
     let mut values = [0u64; 40];
-    let read = read_all(line, at, few, &mut values);
-    match read {
-        Fields::Wrong => false,
-        Fields::Count(k) => open_counted(copy, few, k, &values),
-    }
+    let Some(count) = read_all(line, at, few, &mut values) else {
+        return false;
+    };
+    open_counted(copy, few, count, &values)
 }
 
 // The number in the second field from a place on: how many concentrators there are.
-fn second_number(line: &[u8], at: usize) -> Number
+fn second_number(line: &[u8], at: usize) -> Option<u64>
     requires { at ≤ length line.now }
     ensures { result ≡ number_of 10 (field_at (fields_at line.now at) 1) }
 {
     let e = fields::field_end(line, at);
     if e == line.len() {
-        return Number::Wrong;
+        return None;
     }
     let start = e + 1;
     let g = fields::field_end(line, start);
@@ -234,11 +216,10 @@ fn open_by(copy: &mut [u64], line: &[u8], at: usize) -> bool
     requires { (at ≤ length line.now) × (length copy.old ≡ 2048) }
     ensures { Tried (opening_read (value_of 10 (field_at (fields_at line.now at) 1)) (fields_at line.now at)) copy.old result copy.new }
 {
-    let x = second_number(line, at);
-    match x {
-        Number::Wrong => false,
-        Number::Is(n) => open_fields(copy, line, at, n),
-    }
+    let Some(n) = second_number(line, at) else {
+        return false;
+    };
+    open_fields(copy, line, at, n)
 }
 
 // Applies the first line.

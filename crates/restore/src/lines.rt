@@ -6,45 +6,35 @@ ghost use Rattle.restore.specs.laws.Applying.{delivered_hex, Tried};
 ghost use Rattle.restore.specs.laws.Recorded.{counted_recording, RecordGiven};
 ghost use Rattle.restore.specs.laws.Turning.{Took, outcome_applied, taken_applied};
 
-use crate::fields::{Hex, Number};
-use crate::first::Fields;
 use crate::{fields, first};
+use settings::Refusal;
 use turn::Outcome;
 
-const LETTER_D: u8 = 68;
+const LETTER_D: u8 = b'D';
 
-const LETTER_T: u8 = 84;
+const LETTER_T: u8 = b'T';
 
-const LETTER_K: u8 = 75;
-
-// What became of a line: it cannot be applied, or the length of its message, 0 for none.
-#[derive(Clone, Copy)]
-pub enum Applied {
-    Wrong,
-    Right(u64),
-}
+const LETTER_K: u8 = b'K';
 
 // Delivers the bytes of a field over a link. More bytes than a message can have are refused in any state.
 fn deliver_hex(copy: &mut [u64], link: u64, h: &[u8]) -> bool
     ensures { Tried (delivered_hex copy.old link h.now) copy.old result copy.new }
 {
     let mut bytes = [0u8; 140];
-    let count = fields::read_bytes(h, &mut bytes);
-    match count {
-        Hex::Wrong => false,
-        Hex::Is(k) => delivery::deliver(copy, link, &bytes[..k]) == 0,
-    }
+    let Some(k) = fields::read_bytes(h, &mut bytes) else {
+        return false;
+    };
+    delivery::deliver(copy, link, &bytes[..k]).is_ok()
 }
 
 // Delivers by a link and bytes as they are written.
 fn deliver_fields(copy: &mut [u64], l: &[u8], h: &[u8]) -> bool
     ensures { Tried (delivered_from copy.old (l.now ∷ h.now ∷ [])) copy.old result copy.new }
 {
-    let link = fields::read_number(l, text::DECIMAL);
-    match link {
-        Number::Wrong => false,
-        Number::Is(p) => deliver_hex(copy, p, h),
-    }
+    let Some(link) = fields::read_number(l, text::DECIMAL) else {
+        return false;
+    };
+    deliver_hex(copy, link, h)
 }
 
 // Applies a `D` line, whose fields after the letter start at a place.
@@ -72,7 +62,7 @@ fn record_numbers(copy: &mut [u64], count: usize, values: &[u64]) -> bool
     if count != 3 {
         return false;
     }
-    recording::record(copy, values[0], values[1], values[2]) == 0
+    recording::record(copy, values[0], values[1], values[2]).is_ok()
 }
 
 // Applies a `K` line, whose fields after the letter start at a place.
@@ -81,47 +71,47 @@ fn record_line(copy: &mut [u64], line: &[u8], at: usize) -> bool
     ensures { Tried (recorded_from copy.old (fields_at line.now at)) copy.old result copy.new }
 {
     let mut values = [0u64; 3];
-    let read = first::read_all(line, at, 1, &mut values);
-    match read {
-        Fields::Wrong => false,
-        Fields::Count(k) => record_numbers(copy, k, &values),
-    }
+    let Some(count) = first::read_all(line, at, 1, &mut values) else {
+        return false;
+    };
+    record_numbers(copy, count, &values)
 }
 
-// A delivery or a recording as a line: it has no message.
-fn by_taken(taken: bool) -> Applied
+// The length of the message of a line, 0 for none, or nothing where the line cannot be applied. A delivery or a recording has no message.
+fn by_taken(taken: bool) -> Option<u64>
     ensures { result ≡ taken_applied taken }
 {
     if taken {
-        return Applied::Right(0);
+        return Some(0);
     }
-    Applied::Wrong
+    None
 }
 
 // A turn as a line: one that is refused or idle cannot be applied.
-fn by_outcome(o: Outcome) -> Applied
-    ensures { result ≡ outcome_applied o }
+fn by_outcome(taken: Result<Outcome, Refusal>) -> Option<u64>
+    ensures { result ≡ outcome_applied taken }
 {
-    match o {
-        Outcome::Refused(_) => Applied::Wrong,
-        Outcome::Idle => Applied::Wrong,
-        Outcome::Sent(m) => Applied::Right(wire::message_length(m) as u64),
-        Outcome::MovedOut => Applied::Right(0),
-        Outcome::InForce => Applied::Right(0),
+    let Ok(outcome) = taken else {
+        return None;
+    };
+    match outcome {
+        Outcome::Idle => None,
+        Outcome::Sent(m) => Some(wire::message_length(m) as u64),
+        Outcome::MovedOut => Some(0),
+        Outcome::InForce => Some(0),
     }
 }
 
 // Applies a `T` line.
-fn turn_line(copy: &mut [u64], message: &mut [u8]) -> Applied
+fn turn_line(copy: &mut [u64], message: &mut [u8]) -> Option<u64>
     requires { 140 ≤ length message.old }
     ensures { Took (turned_from copy.old []) copy.old message.old result copy.new message.new }
 {
-    let o = turn::turn(copy, message);
-    by_outcome(o)
+    by_outcome(turn::turn(copy, message))
 }
 
 // Applies a further line. The message of a `T` is written into the lent bytes.
-pub fn apply_line(copy: &mut [u64], line: &[u8], message: &mut [u8]) -> Applied
+pub fn apply_line(copy: &mut [u64], line: &[u8], message: &mut [u8]) -> Option<u64>
     requires { 140 ≤ length message.old }
     ensures { Took (next_line copy.old line.now) copy.old message.old result copy.new message.new }
 {
@@ -129,21 +119,21 @@ pub fn apply_line(copy: &mut [u64], line: &[u8], message: &mut [u8]) -> Applied
     let c = fields::letter(&line[..e]);
     if c == LETTER_D {
         if e == line.len() {
-            return Applied::Wrong;
+            return None;
         }
         return by_taken(deliver_line(copy, line, e + 1));
     }
     if c == LETTER_K {
         if e == line.len() {
-            return Applied::Wrong;
+            return None;
         }
         return by_taken(record_line(copy, line, e + 1));
     }
     if c != LETTER_T {
-        return Applied::Wrong;
+        return None;
     }
     if e < line.len() {
-        return Applied::Wrong;
+        return None;
     }
     turn_line(copy, message)
 }

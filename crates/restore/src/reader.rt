@@ -2,7 +2,7 @@
 ghost use Rattle.std.specs.Prelude.{◌≡◌};
 ghost use Rattle.restore.specs.laws.Places.{place_of, line_end};
 
-const LF: u8 = 10;
+const LF: u8 = b'\n';
 
 #[derive(Clone, Copy)]
 pub struct Reader<'a> {
@@ -14,14 +14,12 @@ pub struct Reader<'a> {
 pub fn place_of(b: &[u8], at: usize, byte: u8) -> usize
     ensures { result ≡ place_of byte b.now at }
 {
-    let mut k = at;
-    while k < b.len() {
+    for k in at..b.len() {
         if b[k] == byte {
             return k;
         }
-        k += 1;
     }
-    k
+    at.max(b.len())
 }
 
 // The place after the line at a place, or that place where the line is not complete.

@@ -6,14 +6,14 @@ ghost use Rattle.restore.specs.laws.Places.{line_end};
 ghost use Rattle.restore.specs.laws.Applying.{Tried};
 ghost use Rattle.restore.specs.laws.Replaying.{line_of, Replays, Begun, Placed};
 
-use crate::lines::Applied;
-use crate::{Restored, first, lines, reader};
+use crate::{RestoreError, Restored, first, lines, reader};
 
-// How far the lines but the last have been applied: the number of one that cannot be, or where the last one starts and ends, and its number.
+// The last line: where it starts and ends, and its number.
 #[derive(Clone, Copy)]
-pub enum Place {
-    Wrong(u64),
-    Last(usize, usize, u64),
+pub struct Last {
+    pub start: usize,
+    pub end: usize,
+    pub number: u64,
 }
 
 // Applies a line that is not the last.
@@ -21,15 +21,16 @@ fn middle_line(copy: &mut [u64], line: &[u8]) -> bool
     ensures { Tried (next_line copy.old line.now) copy.old result copy.new }
 {
     let mut scratch = [0u8; 140];
-    let a = lines::apply_line(copy, line, &mut scratch);
-    match a {
-        Applied::Wrong => false,
-        Applied::Right(_) => true,
-    }
+    lines::apply_line(copy, line, &mut scratch).is_some()
 }
 
 // Applies the lines but the first and the last; the second one is given by where it starts and ends.
-fn middle(copy: &mut [u64], journal: &[u8], first: usize, second: usize) -> Place
+fn middle(
+    copy: &mut [u64],
+    journal: &[u8],
+    first: usize,
+    second: usize,
+) -> Result<Last, RestoreError>
     requires { Begun journal.now first copy.old × (second ≡ line_end journal.now first) × (first < second) }
     ensures { Placed journal.now result copy.new }
 {
@@ -37,36 +38,41 @@ fn middle(copy: &mut [u64], journal: &[u8], first: usize, second: usize) -> Plac
     let mut end = second;
     let mut number: u64 = 2;
     let mut next = reader::line_end(journal, end);
+    // A loop by hand: each line says where the next one starts, and no index is counted.
     while end < next {
         let stop = end - 1;
         if !middle_line(copy, &journal[at..stop]) {
-            return Place::Wrong(number);
+            return Err(RestoreError::Line(number));
         }
         at = end;
         end = next;
         number += 1;
         next = reader::line_end(journal, end);
     }
-    Place::Last(at, end, number)
+    Ok(Last {
+        start: at,
+        end,
+        number,
+    })
 }
 
 // Applies the last line, and gives its message again.
 fn last_line(
     copy: &mut [u64],
     journal: &[u8],
-    at: usize,
-    end: usize,
-    number: u64,
+    last: Last,
     message: &mut [u8],
-) -> Restored
-    requires { (at < end) × (end ≤ length journal.now) × (140 ≤ length message.old) }
-    ensures { Replays (applied_or number (next_line copy.old (line_of journal.now at end))) end message.old result copy.new message.new }
+) -> Result<Restored, RestoreError>
+    requires { (last.start < last.end) × (last.end ≤ length journal.now) × (140 ≤ length message.old) }
+    ensures { Replays (applied_or last.number (next_line copy.old (line_of journal.now last.start last.end))) last.end message.old result copy.new message.new }
 {
-    let stop = end - 1;
-    let a = lines::apply_line(copy, &journal[at..stop], message);
-    match a {
-        Applied::Wrong => Restored::Journal(number),
-        Applied::Right(k) => Restored::Given(k, end as u64),
+    let stop = last.end - 1;
+    match lines::apply_line(copy, &journal[last.start..stop], message) {
+        None => Err(RestoreError::Line(last.number)),
+        Some(message) => Ok(Restored {
+            message,
+            bytes: last.end as u64,
+        }),
     }
 }
 
@@ -77,19 +83,21 @@ fn rest(
     first: usize,
     second: usize,
     message: &mut [u8],
-) -> Restored
+) -> Result<Restored, RestoreError>
     requires { Begun journal.now first copy.old × (second ≡ line_end journal.now first) × (first < second) × (140 ≤ length message.old) }
     ensures { Replays (replay (lines_of journal.now)) (length (joined (lines_of journal.now))) message.old result copy.new message.new }
 {
-    let p = middle(copy, journal, first, second);
-    match p {
-        Place::Wrong(k) => Restored::Journal(k),
-        Place::Last(at, end, number) => last_line(copy, journal, at, end, number, message),
-    }
+    let last = middle(copy, journal, first, second)?;
+    last_line(copy, journal, last, message)
 }
 
 // Applies the lines after the first, if there are any.
-fn further(copy: &mut [u64], journal: &[u8], first: usize, message: &mut [u8]) -> Restored
+fn further(
+    copy: &mut [u64],
+    journal: &[u8],
+    first: usize,
+    message: &mut [u8],
+) -> Result<Restored, RestoreError>
     requires { Begun journal.now first copy.old × (140 ≤ length message.old) }
     ensures { Replays (replay (lines_of journal.now)) (length (joined (lines_of journal.now))) message.old result copy.new message.new }
 {
@@ -97,21 +105,28 @@ fn further(copy: &mut [u64], journal: &[u8], first: usize, message: &mut [u8]) -
     if first < second {
         return rest(copy, journal, first, second, message);
     }
-    Restored::Given(0, first as u64)
+    Ok(Restored {
+        message: 0,
+        bytes: first as u64,
+    })
 }
 
 // Applies all complete lines.
-pub fn replay(copy: &mut [u64], journal: &[u8], message: &mut [u8]) -> Restored
+pub fn replay(
+    copy: &mut [u64],
+    journal: &[u8],
+    message: &mut [u8],
+) -> Result<Restored, RestoreError>
     requires { (length copy.old ≡ 2048) × (140 ≤ length message.old) }
     ensures { Replays (replay (lines_of journal.now)) (length (joined (lines_of journal.now))) message.old result copy.new message.new }
 {
     let first = reader::line_end(journal, 0);
     if first == 0 {
-        return Restored::Journal(1);
+        return Err(RestoreError::Line(1));
     }
     let stop = first - 1;
     if !first::open_line(copy, &journal[..stop]) {
-        return Restored::Journal(1);
+        return Err(RestoreError::Line(1));
     }
     further(copy, journal, first, message)
 }

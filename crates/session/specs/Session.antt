@@ -1,5 +1,5 @@
 -- When a lent buffer holds a state: the refusal 9, NO STATE (PROTOCOL 9.6).
-use Rattle.std.specs.Prelude.{ℕ, ◌%◌, ◌^◌, Bool, ◌&&◌, cond, List, length, eqb, leb}
+use Rattle.std.specs.Prelude.{ℕ, ◌%◌, ◌^◌, Bool, ◌&&◌, cond, List, length, eqb, leb, Option, Some, None}
 use Rattle.settings.specs.Settings.{valid_settings, settings_from, moved_out_round}
 use Rattle.settings.specs.Versions.{version_known, turn_bound}
 use Rattle.settings.specs.declared.Settings.{Settings}
@@ -8,8 +8,6 @@ use Rattle.records.specs.Layout.{state_words, n_at, ta_at, ts_at, own_at, sessio
 use Rattle.records.specs.Records.{version}
 use Rattle.records.specs.Words.{word}
 use Rattle.session.specs.declared.Session.{Session}
-use Rattle.session.specs.declared.Stored.{Stored}
-use Rattle.session.specs.declared.Stored.TheVariants.{NoState, Held}
 
 -- a number is 1 to n, as the own number is (PROTOCOL 1.8)
 unfoldable pub numbered : ℕ → ℕ → Bool
@@ -44,5 +42,5 @@ session_with g s = record { settings = g; own = word s own_at; number = word s s
 unfoldable pub session_of : List ℕ → Session
 session_of s = session_with (settings_of s) s
 
-unfoldable pub stored : List ℕ → Stored
-stored s = cond (is_state s) (Held (session_of s)) NoState
+unfoldable pub stored : List ℕ → Option Session
+stored s = cond (is_state s) (Some (session_of s)) None

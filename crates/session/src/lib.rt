@@ -11,19 +11,13 @@ ghost use Rattle.settings.specs.Versions.{version_known};
 ghost use Rattle.quorum.specs.Every.{every};
 
 use records::layout;
-use settings::{Checked, Settings};
+use settings::Settings;
 
 #[derive(Clone, Copy)]
 pub struct Session {
     pub settings: Settings,
     pub own: u8,
     pub number: u32,
-}
-
-#[derive(Clone, Copy)]
-pub enum Stored {
-    NoState,
-    Held(Session),
 }
 
 // Whether own is a number of 1 to n.
@@ -47,14 +41,7 @@ fn places_right(s: &[u64], n: u8) -> bool
     requires { 119 + n < length s.now }
     ensures { result ≡ every (place_right s.now n) n }
 {
-    let mut k: u8 = 0;
-    while k < n {
-        k += 1;
-        if !place_right(s, n, k) {
-            return false;
-        }
-    }
-    true
+    (0..n).all(|k| place_right(s, n, k + 1))
 }
 
 // Whether the coins are of a kind that opening takes, and the version one of the two.
@@ -94,14 +81,14 @@ fn session_of(s: &[u64], g: Settings) -> Session
 }
 
 // The session with these settings, where the other numbers are right.
-fn stored_with(s: &[u64], g: Settings) -> Stored
+fn stored_with(s: &[u64], g: Settings) -> Option<Session>
     requires { length s.now ≡ 2048 }
     ensures { result ≡ stored_with g s.now }
 {
     if numbers_right(s, g) {
-        return Stored::Held(session_of(s, g));
+        return Some(session_of(s, g));
     }
-    Stored::NoState
+    None
 }
 
 // The settings of a state, without asking again whether it is one.
@@ -121,20 +108,17 @@ pub fn settings_of(s: &[u64]) -> Settings
 }
 
 // The session that the buffer holds.
-pub fn state_of(s: &[u64]) -> Stored
+pub fn state_of(s: &[u64]) -> Option<Session>
     ensures { result ≡ stored s.now }
 {
     if s.len() != layout::STATE_WORDS {
-        return Stored::NoState;
+        return None;
     }
-    let c = Settings::check(
+    let g = Settings::check(
         records::word(s, layout::N),
         records::word(s, layout::TA),
         records::word(s, layout::TS),
         records::word(s, layout::WEIGHTS),
-    );
-    match c {
-        Checked::Invalid => Stored::NoState,
-        Checked::Valid(g) => stored_with(s, g),
-    }
+    )?;
+    stored_with(s, g)
 }

@@ -4,3 +4,4 @@ pub mod Cases
 pub mod Unnamed
 pub mod Versions
 pub mod Counting
+pub mod Answers

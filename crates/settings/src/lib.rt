@@ -1,9 +1,9 @@
 // A session's settings, the thresholds worked out from them, and the numbers of the refusals.
 #![tactic(auto)]
 
-pub mod refusal;
+mod refusal;
 
-ghost use Rattle.std.specs.Prelude.{◌≡◌, ◌-◌};
+ghost use Rattle.std.specs.Prelude.{◌≡◌};
 ghost use Rattle.settings.specs.Settings.{largest_ta, named_ta};
 ghost use Rattle.settings.specs.Check.{check_settings};
 ghost use Rattle.settings.specs.Settings.{quorum, repeat, vote_quorum, relay, accept};
@@ -19,11 +19,7 @@ pub struct Settings {
     pub weights: u64,
 }
 
-#[derive(Clone, Copy)]
-pub enum Checked {
-    Valid(Settings),
-    Invalid,
-}
+pub use refusal::Refusal;
 
 // The versions of a session: 1, and 2, in which votes wind up early.
 pub const FIRST_VERSION: u64 = 1;
@@ -43,27 +39,17 @@ pub fn finishing(version: u64) -> bool
     version == FINISH_VERSION
 }
 
-// a − b, and 0 where b is above a.
-fn difference(a: u8, b: u8) -> u64
-    ensures { result ≡ a - b }
-{
-    if b <= a { (a - b) as u64 } else { 0 }
-}
-
 // The largest ta that the rules allow where the weights sum up to `whole`: the smaller of ts and whole − 1 − 2·ts. 0 where they
 // allow none.
 fn largest_ta(whole: u64, ts: u64) -> u64
     ensures { result ≡ largest_ta whole ts }
 {
-    if whole <= ts {
-        return 0;
-    }
-    let rest = whole - 1 - ts;
-    if rest <= ts {
-        return 0;
-    }
-    let room = rest - ts;
-    if ts < room { ts } else { room }
+    // 2·ts could wrap.
+    let room = whole
+        .saturating_sub(1)
+        .saturating_sub(ts)
+        .saturating_sub(ts);
+    ts.min(room)
 }
 
 impl Settings {
@@ -88,42 +74,42 @@ impl Settings {
     }
 
     // The settings that an opening names.
-    pub fn check_named(n: u64, ta: u64, ts: u64, weights: u64) -> Checked
+    pub fn check_named(n: u64, ta: u64, ts: u64, weights: u64) -> Option<Settings>
         ensures { result ≡ check_settings n (named_ta n ta ts weights) ts weights }
     {
         if Settings::MAX_CONCENTRATORS < n {
-            return Checked::Invalid;
+            return None;
         }
         let meant = Settings::named_ta(n as u8, ta, ts, weights);
         Settings::check(n, meant, ts, weights)
     }
 
     // The settings of any numbers and weights, ta taken as it is.
-    pub fn check(n: u64, ta: u64, ts: u64, weights: u64) -> Checked
+    pub fn check(n: u64, ta: u64, ts: u64, weights: u64) -> Option<Settings>
         ensures { result ≡ check_settings n ta ts weights }
     {
         if n < 1 {
-            return Checked::Invalid;
+            return None;
         }
         if Settings::MAX_CONCENTRATORS < n {
-            return Checked::Invalid;
+            return None;
         }
         let m = n as u8;
         if !quorum::weights_right(weights, m) {
-            return Checked::Invalid;
+            return None;
         }
         if ts < ta {
-            return Checked::Invalid;
+            return None;
         }
         let w = quorum::whole(weights, m);
         // Follows from the last test, which could wrap without it.
         if w <= ts {
-            return Checked::Invalid;
+            return None;
         }
         if w <= 2 * ts + ta {
-            return Checked::Invalid;
+            return None;
         }
-        Checked::Valid(Settings {
+        Some(Settings {
             n: m,
             ta: ta as u8,
             ts: ts as u8,
@@ -136,7 +122,7 @@ impl Settings {
     pub fn quorum(self) -> u64
         ensures { result ≡ quorum self }
     {
-        difference(self.whole, self.ts)
+        u64::from(self.whole.saturating_sub(self.ts))
     }
 
     // ts + 1: a READY or a COMMIT that is repeated.
@@ -150,7 +136,7 @@ impl Settings {
     pub fn vote_quorum(self) -> u64
         ensures { result ≡ vote_quorum self }
     {
-        difference(self.whole, self.ta)
+        u64::from(self.whole.saturating_sub(self.ta))
     }
 
     // ta + 1: an EST that is relayed, a FINISH that is repeated.

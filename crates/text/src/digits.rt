@@ -2,30 +2,24 @@
 ghost use Rattle.std.specs.Prelude.{◌≡◌, ltb, ◌+◌, ◌*◌, ◌^◌, ◌<◌};
 ghost use Rattle.text.specs.Numbers.{digit_of, base_of, complete};
 
-// The form of a field is this, or the number of its hexadecimal digits.
+// The form of a field is this, or the number of its hexadecimal digits. A number and no enum: the definitions `right`, `complete` and
+// `values_of`, by which `restore` and `drill_lines` are defined, take it so.
 pub const DECIMAL: u8 = 10;
 
 const NO_DIGIT: u8 = 16;
 
 const LARGEST: u64 = 18446744073709551615;
 
-// The value of a digit, and 16 for any other byte.
+// The value of a digit, and 16 for any other byte. No Option: `digit_of`, by which `restore` and `drill_lines` are defined, answers 16.
+#[tactic(auto, using(crate::specs::laws::DigitCases::digit_cases))]
 pub fn digit(byte: u8) -> u8
     ensures { result ≡ digit_of byte }
 {
-    if byte < 48 {
-        return NO_DIGIT;
+    match byte {
+        b'0'..=b'9' => byte - 48,
+        b'a'..=b'f' => byte - 87,
+        _ => NO_DIGIT,
     }
-    if byte <= 57 {
-        return byte - 48;
-    }
-    if byte < 97 {
-        return NO_DIGIT;
-    }
-    if byte <= 102 {
-        return byte - 87;
-    }
-    NO_DIGIT
 }
 
 pub fn base(form: u8) -> u8

@@ -1,7 +1,7 @@
 // Text written into lent bytes. Each function writes from a place on, as far as the bytes go, and answers the place after it.
-ghost use Rattle.std.specs.Prelude.{[], ◌∷◌, ◌+◌, ◌*◌, ◌<◌, ◌≤◌, length, leb, ◌≡◌};
+ghost use Rattle.std.specs.Prelude.{[], ◌∷◌, ◌+◌, ◌*◌, ◌<◌, ◌≤◌, length, leb, ◌≡◌, ◌^◌};
 ghost use Rattle.text.specs.Numbers.{decimal_text, hex_text, word_text, byte_text};
-ghost use Rattle.io.specs.Digits.{hex_digit_ascii};
+ghost use Rattle.io.specs.Digits.{hex_digit_ascii, last_digits};
 ghost use Rattle.text.specs.Paste.{Wrote};
 ghost use Rattle.text.specs.Fields.{each_text};
 
@@ -19,10 +19,8 @@ pub fn put_text(out: &mut [u8], at: usize, text: &[u8]) -> usize
     ensures { Wrote text.now out.old at result out.new }
 {
     let mut place = at;
-    let mut k: usize = 0;
-    while k < text.len() {
-        place = put_byte(out, place, text[k]);
-        k += 1;
+    for &byte in text {
+        place = put_byte(out, place, byte);
     }
     place
 }
@@ -50,20 +48,29 @@ pub fn put_decimal(out: &mut [u8], at: usize, n: u64) -> usize
     put_digits(out, at, n)
 }
 
-pub fn put_hex(out: &mut [u8], at: usize, n: u64) -> usize
-    ensures { Wrote (hex_text n) out.old at result out.new }
+// A number in so many hexadecimal digits, which hold it.
+fn put_width(out: &mut [u8], at: usize, n: u64, width: usize) -> usize
+    requires width { (0 < width) × (width ≤ 16) }
+    requires held { n < 16 ^ width }
+    ensures { Wrote (last_digits 16 width n) out.old at result out.new }
 {
     let mut text = [0u8; 16];
-    let k = io::hex(n, 16, &mut text);
+    let k = io::hex(n, width, &mut text);
     put_text(out, at, &text[..k])
 }
 
+#[tactic(auto, unfolding(crate::specs::Numbers::hex_text))]
+pub fn put_hex(out: &mut [u8], at: usize, n: u64) -> usize
+    ensures { Wrote (hex_text n) out.old at result out.new }
+{
+    put_width(out, at, n, 16)
+}
+
+#[tactic(auto, unfolding(crate::specs::Numbers::word_text))]
 pub fn put_word(out: &mut [u8], at: usize, n: u32) -> usize
     ensures { Wrote (word_text n) out.old at result out.new }
 {
-    let mut text = [0u8; 16];
-    let k = io::hex(n as u64, 8, &mut text);
-    put_text(out, at, &text[..k])
+    put_width(out, at, u64::from(n), 8)
 }
 
 // The character of a digit below 16.
@@ -88,10 +95,8 @@ fn set_hex_bytes(out: &mut [u8], at: usize, bytes: &[u8])
     requires { at + 2 * length bytes.now ≤ length out.old }
     ensures { Wrote (each_text byte_text bytes.now) out.old at (at + 2 * length bytes.now) out.new }
 {
-    let mut k: usize = 0;
-    while k < bytes.len() {
-        set_hex_byte(out, at + 2 * k, bytes[k]);
-        k += 1;
+    for (k, &byte) in bytes.iter().enumerate() {
+        set_hex_byte(out, at + 2 * k, byte);
     }
 }
 
@@ -107,10 +112,8 @@ fn put_hex_front(out: &mut [u8], at: usize, bytes: &[u8]) -> usize
     ensures { Wrote (each_text byte_text bytes.now) out.old at result out.new }
 {
     let mut place = at;
-    let mut k: usize = 0;
-    while k < bytes.len() {
-        place = put_hex_byte(out, place, bytes[k]);
-        k += 1;
+    for &byte in bytes {
+        place = put_hex_byte(out, place, byte);
     }
     place
 }

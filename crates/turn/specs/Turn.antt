@@ -1,6 +1,6 @@
 -- A turn (PROTOCOL, section 8): its outcome, the words after it, and the lent bytes.
-use Rattle.std.specs.Prelude.{ℕ, ◌+◌, Bool, ◌&&◌, not, cond, List, length, ltb}
-use Rattle.settings.specs.Refusals.{SHORT, NO_STATE, CLOSED}
+use Rattle.std.specs.Prelude.{ℕ, ◌+◌, Bool, ◌&&◌, not, cond, List, length, ltb, Result, Ok, Err}
+use Rattle.settings.specs.declared.refusal.Refusal.TheVariants as refusal
 use Rattle.settings.specs.Settings.{round_limit}
 use Rattle.records.specs.Records.{turn_count, closed, coin, decided, version}
 use Rattle.records.specs.Writing.{with_turn_count, with_round, with_decision, with_closed, with_commit_sent, with_send_sent, with_echo_sent, with_ready_sent, with_est_sent, with_aux_sent, with_finish_sent}
@@ -14,10 +14,9 @@ use Rattle.session.specs.declared.Session.{Session}
 use Rattle.wire.specs.Message.{length_of, encode, at_front}
 use Rattle.wire.specs.declared.Message.TheVariants as message
 use Rattle.turn.specs.Due.{due, commit_due}
-use Rattle.turn.specs.declared.Admitted.{Admitted}
-use Rattle.turn.specs.declared.Admitted.TheVariants as admitted
 use Rattle.turn.specs.declared.Outcome.{Outcome}
 use Rattle.turn.specs.declared.Outcome.TheVariants as outcome
+use Rattle.settings.specs.declared.refusal.Refusal.{Refusal}
 
 -- a move goes one round on and sends an EST there, but none in round 33 (PROTOCOL 5.11)
 unfoldable pub move_outcome : List ℕ → ℕ → ℕ → View → Outcome
@@ -39,12 +38,12 @@ outcome_of own s (Move i r v) = move_outcome s i r v
 outcome_of own s (Finish i b) = outcome.Sent (message.Finish i b)
 
 -- the length of the message that is sent, in bytes; 0 where none is
-abbrev pub sent_length : Outcome → ℕ
-sent_length (outcome.Refused k) = 0
-sent_length outcome.Idle = 0
-sent_length (outcome.Sent m) = length_of m
-sent_length outcome.MovedOut = 0
-sent_length outcome.InForce = 0
+abbrev pub sent_length : Result Outcome Refusal → ℕ
+sent_length (Err k) = 0
+sent_length (Ok outcome.Idle) = 0
+sent_length (Ok (outcome.Sent m)) = length_of m
+sent_length (Ok outcome.MovedOut) = 0
+sent_length (Ok outcome.InForce) = 0
 
 -- the count has every turn since the opening that was neither idle nor refused (PROTOCOL 8.19)
 unfoldable pub with_turn_counted : List ℕ → List ℕ
@@ -84,29 +83,28 @@ unfoldable pub applied : List ℕ → Act → List ℕ
 applied s a = cond (is_due a) (done (with_turn_counted s) a) s
 
 -- the refusals of a turn in their order: the first one, or the session. Its message needs 140 bytes (PROTOCOL 9.19, 10.16).
-unfoldable pub admits : List ℕ → ℕ → Admitted
+unfoldable pub admits : List ℕ → ℕ → Result Session Refusal
 admits s room =
-    cond (not (is_state s)) (admitted.Refused NO_STATE)
-    (cond (closed s) (admitted.Refused CLOSED)
-    (cond (ltb room 140) (admitted.Refused SHORT)
-    (admitted.Open (session_of s))))
+    cond (not (is_state s)) (Err refusal.NoState)
+    (cond (closed s) (Err refusal.Closed)
+    (cond (ltb room 140) (Err refusal.Short)
+    (Ok (session_of s))))
 
 -- the bytes after an outcome: only those of the message are written (PROTOCOL 9.4); the values of a COMMIT are its set
 unfoldable pub bytes_after : Session → List ℕ → Outcome → List ℕ → List ℕ
-bytes_after x s (outcome.Refused k) out = out
 bytes_after x s outcome.Idle out = out
 bytes_after x s (outcome.Sent m) out = at_front (encode m (version s) x.own x.number (commit_due x.settings s)) out
 bytes_after x s outcome.MovedOut out = out
 bytes_after x s outcome.InForce out = out
 
--- what a refusal gives by its number, or the session's turn
-unfoldable pub taking : {A : Type 0} → Admitted → (ℕ → A) → (Session → A) → A
-taking (admitted.Refused k) refused taken = refused k
-taking (admitted.Open x) refused taken = taken x
+-- what a refusal gives, or the session's turn
+unfoldable pub taking : {A : Type 0} → Result Session Refusal → (Refusal → A) → (Session → A) → A
+taking (Err k) refused taken = refused k
+taking (Ok x) refused taken = taken x
 
 -- The answer, the words and the bytes of a turn lent the bytes out. A refusal changes no word and no lent byte (PROTOCOL 9.3).
-unfoldable pub turn_outcome : List ℕ → ℕ → Outcome
-turn_outcome s room = taking (admits s room) outcome.Refused (λ x. outcome_of x.own s (due x.settings s))
+unfoldable pub turn_outcome : List ℕ → ℕ → Result Outcome Refusal
+turn_outcome s room = taking (admits s room) Err (λ x. Ok (outcome_of x.own s (due x.settings s)))
 
 unfoldable pub turn_words : List ℕ → ℕ → List ℕ
 turn_words s room = taking (admits s room) (λ k. s) (λ x. applied s (due x.settings s))

@@ -10,6 +10,7 @@ ghost use Rattle.exits.specs.Exits.{exit_now};
 ghost use Rattle.turn.specs.laws.Choosing.{Readable, Chosen, last_rules, later_rules};
 
 use acts::Act;
+use broadcasts::OutputTable;
 use exits::Named;
 use settings::Settings;
 
@@ -93,13 +94,13 @@ fn later_rules(s: &[u64], g: Settings, outputs: u64, first: bool) -> Act
 }
 
 // The exit of a state, from the outputs of its broadcasts.
-fn exit_now(s: &[u64], g: Settings, outputs: u64, values: &[u64; 16]) -> Named
-    requires { (Ruled g) × (Outputs g s.now g.n outputs values.now) }
+fn exit_now(s: &[u64], g: Settings, outputs: &OutputTable) -> Named
+    requires { (Ruled g) × (Outputs g s.now g.n outputs.now.marks outputs.now.values) }
     ensures { Stated result (exit_now g s.now) }
 {
     let zero = records::decided_zero_marks(s);
     let one = records::decided_one_marks(s);
-    exits::exit_of(g, outputs, values, zero, one)
+    exits::exit_of(g, outputs, zero, one)
 }
 
 // The first thing due; the set of a COMMIT stands at the front of `set`.
@@ -111,12 +112,11 @@ pub fn due(s: &[u64], g: Settings, set: &mut [u64; 16]) -> Act
     if acts::is_due(a) {
         return a;
     }
-    let mut values = [0u64; 16];
-    let outputs = broadcasts::outputs(s, g, &mut values);
-    let named = exit_now(s, g, outputs, &values);
+    let outputs = OutputTable::of(s, g);
+    let named = exit_now(s, g, &outputs);
     let b = commit_rule(s, g, named, set);
     if acts::is_due(b) {
         return b;
     }
-    later_rules(s, g, outputs, named.exit == 1)
+    later_rules(s, g, outputs.marks, named.is_first())
 }

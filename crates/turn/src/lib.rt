@@ -12,14 +12,13 @@ ghost use Rattle.turn.specs.laws.Taking.{written_for};
 
 use acts::{Act, View};
 use records::layout;
-use session::{Session, Stored};
-use settings::{Settings, refusal};
+use session::Session;
+use settings::{Refusal, Settings};
 use wire::Message;
 
 // The answer of a turn.
 #[derive(Clone, Copy)]
 pub enum Outcome {
-    Refused(u64),
     Idle,
     // A COMMIT's values stand beside it, in the lent bytes.
     Sent(Message),
@@ -27,37 +26,27 @@ pub enum Outcome {
     InForce,
 }
 
-// Whether a turn is taken: the number of the refusal, or the session.
-#[derive(Clone, Copy)]
-pub enum Admitted {
-    Refused(u64),
-    Open(Session),
-}
-
 // The bytes that a turn must be lent: the longest message, a COMMIT of 16 values.
 pub const MESSAGE_BYTES: usize = 140;
 
 // Turn 9, 10, 8.
-fn admit(s: &[u64], room: usize) -> Admitted
+fn admit(s: &[u64], room: usize) -> Result<Session, Refusal>
     ensures { result ≡ admits s.now room }
 {
     // `state_of` asks the same: here it tells the compiler for all that is read later.
     if s.len() != layout::STATE_WORDS {
-        return Admitted::Refused(refusal::NO_STATE);
+        return Err(Refusal::NoState);
     }
-    let stored = session::state_of(s);
-    match stored {
-        Stored::NoState => Admitted::Refused(refusal::NO_STATE),
-        Stored::Held(x) => {
-            if records::closed(s) {
-                return Admitted::Refused(refusal::CLOSED);
-            }
-            if room < MESSAGE_BYTES {
-                return Admitted::Refused(refusal::SHORT);
-            }
-            Admitted::Open(x)
-        }
+    let Some(x) = session::state_of(s) else {
+        return Err(Refusal::NoState);
+    };
+    if records::closed(s) {
+        return Err(Refusal::Closed);
     }
+    if room < MESSAGE_BYTES {
+        return Err(Refusal::Short);
+    }
+    Ok(x)
 }
 
 // The EST of the round that a move enters; out of round 32 there is none.
@@ -123,7 +112,6 @@ fn write_outcome(o: Outcome, version: u8, x: Session, set: &[u64; 16], out: &mut
     ensures { out.new ≡ written_for version x o set.now out.old }
 {
     match o {
-        Outcome::Refused(_) => {}
         Outcome::Idle => {}
         Outcome::Sent(m) => {
             wire::write_message(m, version, x.own, x.number, set, out);
@@ -148,15 +136,12 @@ fn take_turn(state: &mut [u64], x: Session, out: &mut [u8]) -> Outcome
     o
 }
 
-// Takes a turn, and answers its outcome.
-pub fn turn(state: &mut [u64], out: &mut [u8]) -> Outcome
+// Takes a turn, and answers its outcome; a refusal leaves the words and the bytes.
+pub fn turn(state: &mut [u64], out: &mut [u8]) -> Result<Outcome, Refusal>
     ensures answer { result ≡ turn_outcome state.old (length out.old) }
     ensures words { state.new ≡ turn_words state.old (length out.old) }
     ensures bytes { out.new ≡ turn_bytes state.old out.old }
 {
-    let v = admit(state, out.len());
-    match v {
-        Admitted::Refused(k) => Outcome::Refused(k),
-        Admitted::Open(x) => take_turn(state, x, out),
-    }
+    let x = admit(state, out.len())?;
+    Ok(take_turn(state, x, out))
 }

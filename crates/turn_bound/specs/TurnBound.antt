@@ -1,7 +1,6 @@
 -- The count of turns and its bound, as a claim about a whole list of calls (calls/Machine), at every concentrator; restores and recordings are
 -- among the calls (PROTOCOL 16.11).
-use Rattle.std.specs.Prelude.{ℕ, ◌+◌, ◌≤◌, Bool, true, false, cond, ◌&&◌, List, [], ◌∷◌, ◌≡◌, eqb}
-use Rattle.std.proofs.Math.Option.{Option, none, some}
+use Rattle.std.specs.Prelude.{ℕ, ◌+◌, ◌≤◌, Bool, true, false, cond, ◌&&◌, List, [], ◌∷◌, ◌≡◌, eqb, Ok, Option, Some, None}
 use Rattle.settings.specs.Versions.{turn_bound}
 use Rattle.settings.specs.declared.Settings.{Settings}
 use Rattle.records.specs.Layout.{turns_at}
@@ -15,7 +14,6 @@ use Rattle.restore.specs.Complete.{lines_of}
 use Rattle.restore.specs.Reading.{field_at}
 use Rattle.report.specs.Report.{report_answer}
 use Rattle.report.specs.declared.Figures.{Figures}
-use Rattle.report.specs.declared.Answer.TheVariants.{Given}
 use Rattle.calls.specs.Machine.{Call, opening, delivery, turn, report, restore, recording, words, traced}
 use Rattle.calls.specs.Engine.{engine}
 
@@ -46,8 +44,8 @@ pub record Begun : Type 0 where
   pub turns : ℕ
 
 abbrev pub one_more : Option Begun → Option Begun
-one_more none = none
-one_more (some x) = some (record { terms = x.terms; turns = x.turns + 1 })
+one_more None = None
+one_more (Some x) = Some (record { terms = x.terms; turns = x.turns + 1 })
 
 -- whether two buffers hold the same
 unfoldable pub same_words : List ℕ → List ℕ → Bool
@@ -60,21 +58,21 @@ same_words (x ∷ v) (y ∷ w) = eqb x y && same_words v w
 -- restore begins one, too, with the version and the settings in its words: it counts the `T` lines that it kept, and turns of lost lines count no more. A
 -- refused one leaves the buffer as it found it: the session goes on where its words are still there.
 abbrev pub session_after : Call engine → List ℕ → Option Begun → Option Begun
-session_after (opening p o) w x = cond (engine.opens w o) (some (record { terms = terms_by o.given; turns = 0 })) x
+session_after (opening p o) w x = cond (engine.opens w o) (Some (record { terms = terms_by o.given; turns = 0 })) x
 session_after (delivery p m b) w x = x
 session_after (turn p l) w x = cond (engine.acts w l) (one_more x) x
 session_after (report p r) w x = x
-session_after (restore p v r) w x = cond (engine.restores v r) (some (record { terms = terms_of (engine.restored v r); turns = turn_lines (lines_of r.journal) })) (cond (same_words v w) x none)
+session_after (restore p v r) w x = cond (engine.restores v r) (Some (record { terms = terms_of (engine.restored v r); turns = turn_lines (lines_of r.journal) })) (cond (same_words v w) x None)
 session_after (recording p b) w x = x
 
 -- the session at q after a list of calls: the one begun last, none before any, nor where a refused restore found other words
 unfoldable pub session_at : (ℕ → List ℕ) → List (Call engine) → ℕ → Option Begun
-session_at start cs q = traced engine start session_after none cs q
+session_at start cs q = traced engine start session_after None cs q
 
 -- a report lent 16 words for each set gives the count k
 pub record Reports (w : List ℕ) (k : ℕ) : Type 0 where
   pub figures : Figures
-  pub given : report_answer w 16 16 ≡ Given figures
+  pub given : report_answer w 16 16 ≡ Ok figures
   pub count : figures.turns ≡ k
 
 -- what holds of the words w of the session x
@@ -90,4 +88,4 @@ pub record Counted (w : List ℕ) (x : Begun) : Type 0 where
 
 -- for every buffer, whatever it holds, every list of calls and every concentrator at which a session was opened or restored
 unfoldable pub TurnCount : Type 0
-TurnCount = (start : ℕ → List ℕ) (cs : List (Call engine)) (q : ℕ) (x : Begun) → session_at start cs q ≡ some x → Counted (words engine start cs q) x
+TurnCount = (start : ℕ → List ℕ) (cs : List (Call engine)) (q : ℕ) (x : Begun) → session_at start cs q ≡ Some x → Counted (words engine start cs q) x

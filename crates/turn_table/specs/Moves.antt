@@ -1,5 +1,6 @@
 -- What a move sends and decides, with ta = 1.
-use Rattle.std.specs.Prelude.{ℕ, Bool, cond, List, [], ◌∷◌, ◌++◌}
+use Rattle.std.specs.Prelude.{ℕ, Bool, cond, List, [], ◌∷◌, ◌++◌, Result, Ok}
+use Rattle.settings.specs.declared.refusal.Refusal.{Refusal}
 use Rattle.records.specs.Records.{round, est_sent, decided_zero, decided_one}
 use Rattle.acts.specs.declared.Act.TheVariants as act
 use Rattle.wire.specs.declared.Message.TheVariants.{Est, Aux}
@@ -10,7 +11,7 @@ use Rattle.turn_table.specs.Planting.{Fact, planted, two, three, from, did, in_r
 
 -- after a turn: its answer, and of one vote the round, the values of the ESTs marked as sent in it, and the values it is decided as
 pub record After : Type 0 where
-  pub outcome : Outcome
+  pub outcome : Result Outcome Refusal
   pub round : ℕ
   pub sent : List ℕ
   pub decided : List ℕ
@@ -19,8 +20,8 @@ pub record After : Type 0 where
 unfoldable pub values_if : Bool → Bool → List ℕ
 values_if zero one = cond zero (0 ∷ []) [] ++ cond one (1 ∷ []) []
 
--- the outcome o of a turn that leaves the words s
-unfoldable pub after_with : ℕ → Outcome → List ℕ → After
+-- the answer o of a turn that leaves the words s
+unfoldable pub after_with : ℕ → Result Outcome Refusal → List ℕ → After
 after_with i o s =
     record {
       outcome = o;
@@ -35,10 +36,10 @@ after_turn i s = after_with i (turn_outcome s 140) (turn_words s 140)
 
 -- round r of vote i is entered with EST b
 unfoldable pub enters : ℕ → ℕ → ℕ → List ℕ → After
-enters i r b bs = record { outcome = Sent (Est i r b); round = r; sent = b ∷ []; decided = bs }
+enters i r b bs = record { outcome = Ok (Sent (Est i r b)); round = r; sent = b ∷ []; decided = bs }
 
 unfoldable pub moves_out : List ℕ → After
-moves_out bs = record { outcome = MovedOut; round = 33; sent = []; decided = bs }
+moves_out bs = record { outcome = Ok MovedOut; round = 33; sent = []; decided = bs }
 
 -- a state in which a vote moves, and what stands after it
 pub record MoveRow : Type 0 where

@@ -1,7 +1,7 @@
 -- Delivery: the verdict on a message, and the words after it. A delivery records one message that came over a link, and with an EST of 1 whether 1
 -- was accepted before 0; a FINISH may decide its vote. It does nothing else (PROTOCOL 3.7, 9.17, 9.18).
-use Rattle.std.specs.Prelude.{ℕ, ◌&&◌, not, cond, List, eqb, drop}
-use Rattle.settings.specs.Refusals.{NO_STATE, CLOSED}
+use Rattle.std.specs.Prelude.{ℕ, ◌&&◌, not, cond, List, eqb, drop, Result, Ok, Err}
+use Rattle.settings.specs.declared.refusal.Refusal.TheVariants as refusal
 use Rattle.records.specs.Layout.{n_at}
 use Rattle.records.specs.Words.{word}
 use Rattle.records.specs.Records.{closed, version}
@@ -11,16 +11,15 @@ use Rattle.wire.specs.declared.Message.{Message}
 use Rattle.wire.specs.declared.Message.TheVariants.{Send, Echo, Ready, Est, Aux, Commit, Finish}
 use Rattle.delivery.specs.Delivery.{judged, answer_of}
 use Rattle.delivery.specs.Delivery as weighted
-use Rattle.delivery.specs.declared.Verdict.{Verdict}
-use Rattle.delivery.specs.declared.Verdict.TheVariants.{Refused, Accepted}
 use Rattle.unweighted.specs.Session.{settings_of, session_number, is_state}
 use Rattle.unweighted.specs.Votes.{one_alone, finish_decides}
+use Rattle.settings.specs.declared.refusal.Refusal.{Refusal}
 
 -- the refusals of a delivery in their order, apart from 8 for its line: the first one, or the message (PROTOCOL 10.15)
-unfoldable pub verdict : List ℕ → ℕ → List ℕ → Verdict
+unfoldable pub verdict : List ℕ → ℕ → List ℕ → Result Message Refusal
 verdict s link b =
-    cond (not (is_state s)) (Refused NO_STATE)
-    (cond (closed s) (Refused CLOSED)
+    cond (not (is_state s)) (Err refusal.NoState)
+    (cond (closed s) (Err refusal.Closed)
     (judged s link (read_message (version s) (word s n_at) (session_number s) link b)))
 
 -- where an EST of 1 leaves 1 accepted and 0 not, 1 was complete before 0, and the state records it, for any round (PROTOCOL 5.19)
@@ -43,12 +42,12 @@ recorded s p (Commit k) v = weighted.recorded s p (Commit k) v
 recorded s p (Finish i b) v = finish_settled s (with_finish s i b p) i b
 
 -- the words after a verdict: a refusal changes none (PROTOCOL 9.3)
-unfoldable pub words_after : Verdict → List ℕ → ℕ → List ℕ → List ℕ
-words_after (Refused k) s link b = s
-words_after (Accepted m) s link b = recorded s link m (drop 12 b)
+unfoldable pub words_after : Result Message Refusal → List ℕ → ℕ → List ℕ → List ℕ
+words_after (Err k) s link b = s
+words_after (Ok m) s link b = recorded s link m (drop 12 b)
 
 -- the answer and the words of a delivery
-unfoldable pub deliver_answer : List ℕ → ℕ → List ℕ → ℕ
+unfoldable pub deliver_answer : List ℕ → ℕ → List ℕ → Result (Unit {0}) Refusal
 deliver_answer s link b = answer_of (verdict s link b)
 
 unfoldable pub delivered : List ℕ → ℕ → List ℕ → List ℕ

@@ -1,6 +1,8 @@
 -- Opening: its answer, and the words of a new state (PROTOCOL 9.14 to 9.16). The weights among the arguments have no part in them.
-use Rattle.std.specs.Prelude.{ℕ, cond, not, List, length, eqb}
-use Rattle.settings.specs.Refusals.{SETTINGS, NO_STATE}
+use Rattle.std.specs.Prelude.{ℕ, cond, not, List, length, eqb, Result, Ok, Err}
+use Rattle.std.specs.Result.{is_ok}
+use Rattle.settings.specs.declared.refusal.Refusal.{Refusal}
+use Rattle.settings.specs.declared.refusal.Refusal.TheVariants as refusal
 use Rattle.records.specs.Layout.{state_words, n_at, ta_at, ts_at, own_at, session_at, input_at, boxed_at, version_at}
 use Rattle.settings.specs.Versions.{version_known}
 use Rattle.records.specs.Words.{put}
@@ -11,16 +13,16 @@ use Rattle.opening.specs.Arguments.{Arguments}
 use Rattle.opening.specs.Opening.{with_coins}
 use Rattle.unweighted.specs.Settings.{valid_settings, named_ta}
 
--- the refusals of an opening in their order, apart from 8 for its line; 0 is accepted. Version, settings, own number, coin words or kind of coins against the
--- rules, and another number of coin words than n, give 1 (PROTOCOL 10.14, 9.15).
-unfoldable pub open_answer : (words : ℕ) → Arguments → ℕ
+-- the refusals of an opening in their order, apart from 8 for its line. Version, settings, own number, coin words or kind of coins
+-- against the rules, and another number of coin words than n, give 1 (PROTOCOL 10.14, 9.15).
+unfoldable pub open_answer : (words : ℕ) → Arguments → Result (Unit {0}) Refusal
 open_answer words o =
-    cond (not (eqb words state_words)) NO_STATE
-    (cond (not (version_known o.version)) SETTINGS
-    (cond (not (valid_settings o.n (named_ta o.n o.ta o.ts) o.ts)) SETTINGS
-    (cond (not (numbered o.n o.own)) SETTINGS
-    (cond (not (coins_given o.n o.coins o.boxed)) SETTINGS
-    0))))
+    cond (not (eqb words state_words)) (Err refusal.NoState)
+    (cond (not (version_known o.version)) (Err refusal.Settings)
+    (cond (not (valid_settings o.n (named_ta o.n o.ta o.ts) o.ts)) (Err refusal.Settings)
+    (cond (not (numbered o.n o.own)) (Err refusal.Settings)
+    (cond (not (coins_given o.n o.coins o.boxed)) (Err refusal.Settings)
+    (Ok tt)))))
 
 -- the settings, the own number, the session number, the own input, whether coins are boxed, and the version
 unfoldable pub with_settings : List ℕ → Arguments → List ℕ
@@ -41,4 +43,4 @@ open_words o = with_coins (with_settings (blank state_words) o) o.coins o.n
 
 -- the words after an opening, accepted or not
 unfoldable pub opened : List ℕ → Arguments → List ℕ
-opened s o = cond (eqb (open_answer (length s) o) 0) (open_words o) s
+opened s o = cond (is_ok (open_answer (length s) o)) (open_words o) s

@@ -2,7 +2,7 @@
 -- The unweighted rules are those of this crate's files Settings to Report: they count, and no weight is among what they read.
 -- Answers stand without their lines of the journal: the bytes for a line are asked for after all else, and with enough of them a call is
 -- the one without (journal/Journal).
-use Rattle.std.specs.Prelude.{ℕ, ◌-◌, ◌^◌, ◌≤◌, true, List, [], ◌∷◌, ◌++◌, ◌≢◌, ◌≡◌, length}
+use Rattle.std.specs.Prelude.{ℕ, ◌-◌, ◌^◌, ◌≤◌, true, List, [], ◌∷◌, ◌++◌, ◌≢◌, ◌≡◌, length, Ok}
 use Rattle.quorum.specs.Weights.{weight_of}
 use Rattle.records.specs.Layout.{n_at, weights_at}
 use Rattle.records.specs.Words.{word, put}
@@ -34,10 +34,10 @@ AnswersAlike = (words : ℕ) (o : Arguments) → GivenOnes o → open_answer wor
 -- the words after it, on any words s
 pub record OpensAlike (s : List ℕ) (o : Arguments) : Type 0 where
   -- accepted: the unweighted words but for the word of the weights
-  pub accepted : unweighted_opening.open_answer (length s) o ≡ 0 → opened s o ≡ put (unweighted_opening.opened s o) weights_at (2 ^ o.n - 1)
+  pub accepted : unweighted_opening.open_answer (length s) o ≡ Ok tt → opened s o ≡ put (unweighted_opening.opened s o) weights_at (2 ^ o.n - 1)
   -- refused: the words are untouched
-  pub refused : unweighted_opening.open_answer (length s) o ≢ 0 → opened s o ≡ s
-  pub unweighted_refused : unweighted_opening.open_answer (length s) o ≢ 0 → unweighted_opening.opened s o ≡ s
+  pub refused : unweighted_opening.open_answer (length s) o ≢ Ok tt → opened s o ≡ s
+  pub unweighted_refused : unweighted_opening.open_answer (length s) o ≢ Ok tt → unweighted_opening.opened s o ≡ s
 
 -- ---- the other calls, on words in which all weights are 1
 

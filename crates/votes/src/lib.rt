@@ -3,9 +3,7 @@
 
 mod finish;
 
-ghost use Rattle.std.specs.Prelude.{◌≡◌, min};
-ghost use Rattle.settings.specs.Settings.{round_limit};
-ghost use Rattle.records.specs.Records.{round};
+ghost use Rattle.std.specs.Prelude.{◌≡◌};
 ghost use Rattle.votes.specs.Votes.{est_count, accepted, one_alone, votes_decided_one, start_act, relay_value, relay_round, relay_act, running, one_accepted_first, aux_value, aux_act};
 ghost use Rattle.quorum.specs.Marks.{mark};
 ghost use Rattle.votes.specs.Votes.{aux_count, view_of, move_act, round_act, vote_act, vote_due, vote_rule, coin_value, estimate, decides};
@@ -90,42 +88,19 @@ fn relay_round(s: &[u64], g: Settings, i: u8, r: u8) -> Act
     relay_value(s, g, i, r, 1)
 }
 
-// The last round that relays: the current one, at most 32.
-fn last_round(s: &[u64], i: u8) -> u8
-    ensures { result ≡ min (round s.now i) round_limit }
-{
-    let r = records::round(s, i);
-    if r < Settings::ROUND_LIMIT {
-        r
-    } else {
-        Settings::ROUND_LIMIT
-    }
-}
-
-// The relay of vote i, where one is due: the lowest round first.
+// The relay of vote i, where one is due: the lowest round first. The last that relays is the current one, at most 32.
 pub fn relay_act(s: &[u64], g: Settings, i: u8) -> Act
     ensures { result ≡ relay_act g s.now i }
 {
-    let last = last_round(s, i);
-    let mut r: u8 = 0;
-    while r < last {
-        r += 1;
-        let a = relay_round(s, g, i, r);
-        if acts::is_due(a) {
-            return a;
-        }
-    }
-    Act::Idle
+    let last = records::round(s, i).min(Settings::ROUND_LIMIT);
+    acts::first_due(last, |r| relay_round(s, g, i, r))
 }
 
 // Whether 1 is accepted in round r of vote i, and was so before 0. ESTs are counted only where the mark is set.
 fn one_accepted_first(s: &[u64], g: Settings, i: u8, r: u8) -> bool
     ensures { result ≡ one_accepted_first g s.now i r }
 {
-    if records::one_first(s, i, r) {
-        return accepted(s, g, i, r, 1);
-    }
-    false
+    records::one_first(s, i, r) && accepted(s, g, i, r, 1)
 }
 
 // The AUX of round r: the value that was accepted first.
@@ -262,10 +237,7 @@ fn first_finish(s: &[u64], g: Settings, finishes: bool, i: u8) -> Act
 fn over(s: &[u64], finishes: bool, i: u8) -> bool
     ensures { result ≡ over s.now finishes i }
 {
-    if finishes {
-        return finish::finished(s, i);
-    }
-    false
+    finishes && finish::finished(s, i)
 }
 
 // What is due in vote i, with FINISHes or without. One call of `vote_act` for both: with two it is no longer compiled into the loop
@@ -289,23 +261,16 @@ pub fn vote_rule(s: &[u64], g: Settings, outputs: u64) -> Act
 {
     let finishes = settings::finishing(records::version(s));
     let ones = votes_decided_one(s, g);
-    let n = g.n;
-    let mut i: u8 = 0;
-    while i < n {
-        i += 1;
-        let a = vote_due(s, g, finishes, quorum::mark(outputs, i as u64), ones, i);
-        if acts::is_due(a) {
-            return a;
-        }
-    }
-    Act::Idle
+    acts::first_due(g.n, |i| {
+        vote_due(s, g, finishes, quorum::mark(outputs, i as u64), ones, i)
+    })
 }
 
 // The coin as a value: 1 where its bit is set.
 pub fn coin_value(coin: bool) -> u8
     ensures { result ≡ coin_value coin }
 {
-    if coin { 1 } else { 0 }
+    u8::from(coin)
 }
 
 // The estimate after a move.

@@ -11,48 +11,13 @@ use lib.ListN.{length, get_or, take, drop, length-append, length-drop, drop_of_l
 use lib.Seq.{get_or-drop, drop-drop, take_at, drop_at, take_all, take-suc, length-take-le}
 use lib.Dec.{ltb}
 use borrow.Rule.Slice.PartMut.{put_mid}
-use borrow.Author.Tests.{lt-ltb, le-ltb, le-leb, lt-leb, eq-eqb, ne_eqb}
+use borrow.Author.Tests.{lt-ltb, le-ltb, le-leb, lt-leb}
 use Rattle.wire.specs.Bytes.{be2, be4, be8, value_at, values, rises_from, rises, bytes2, bytes4, bytes8, value_bytes}
-use Rattle.wire.specs.Message.{SEND, ECHO, READY, EST, AUX, COMMIT, by_kind, count_of, length_of, besides, values_of, header_for, front_bytes, header_bytes, message_bytes, encode, at_front}
+use Rattle.wire.specs.Message.{count_of, length_of, besides, values_of, header_for, front_bytes, header_bytes, message_bytes, encode, at_front}
 use Rattle.wire.specs.Writing.{fitting, written, Wrote}
 use Rattle.wire.specs.declared.Message.{Message}
 use Rattle.wire.specs.declared.Message.TheVariants.{Send, Echo, Ready, Est, Aux, Commit, Finish}
 use Rattle.wire.specs.declared.Header.{Header}
-
--- one of seven by the kind, for each kind
-module _ {A : Type 0} (k : ℕ) (a b c d e f g : A) where
-  pub by_send : k ≡ SEND → by_kind k a b c d e f g ≡ a
-  unfolding by_kind
-  by_send p = simp (eq-eqb _ _ p)
-
-  module _ (s : k ≡ SEND → ⊥) where
-    pub by_echo : k ≡ ECHO → by_kind k a b c d e f g ≡ b
-    unfolding by_kind
-    by_echo p = simp (ne_eqb _ _ s, eq-eqb _ _ p)
-
-    module _ (t : k ≡ ECHO → ⊥) where
-      pub by_ready : k ≡ READY → by_kind k a b c d e f g ≡ c
-      unfolding by_kind
-      by_ready p = simp (ne_eqb _ _ s, ne_eqb _ _ t, eq-eqb _ _ p)
-
-      module _ (u : k ≡ READY → ⊥) where
-        pub by_est : k ≡ EST → by_kind k a b c d e f g ≡ d
-        unfolding by_kind
-        by_est p = simp (ne_eqb _ _ s, ne_eqb _ _ t, ne_eqb _ _ u, eq-eqb _ _ p)
-
-        module _ (v : k ≡ EST → ⊥) where
-          pub by_aux : k ≡ AUX → by_kind k a b c d e f g ≡ e
-          unfolding by_kind
-          by_aux p = simp (ne_eqb _ _ s, ne_eqb _ _ t, ne_eqb _ _ u, ne_eqb _ _ v, eq-eqb _ _ p)
-
-          module _ (w : k ≡ AUX → ⊥) where
-            pub by_commit : k ≡ COMMIT → by_kind k a b c d e f g ≡ f
-            unfolding by_kind
-            by_commit p = simp (ne_eqb _ _ s, ne_eqb _ _ t, ne_eqb _ _ u, ne_eqb _ _ v, ne_eqb _ _ w, eq-eqb _ _ p)
-
-            pub by_finish : (k ≡ COMMIT → ⊥) → by_kind k a b c d e f g ≡ g
-            unfolding by_kind
-            by_finish p = simp (ne_eqb _ _ s, ne_eqb _ _ t, ne_eqb _ _ u, ne_eqb _ _ v, ne_eqb _ _ w, ne_eqb _ _ p)
 
 -- a number in a part is one in the whole
 be2_drop : (b : List ℕ) (n i : ℕ) → be2 (drop n b) i ≡ be2 b (n + i)

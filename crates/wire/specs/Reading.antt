@@ -1,14 +1,13 @@
 -- What reading a message answers: the refusals 2 to 7 in their order, or the message (PROTOCOL 2.16).
-use Rattle.std.specs.Prelude.{ℕ, ◌+◌, ◌*◌, Bool, false, cond, not, ◌&&◌, List, length, get_or, drop, leb, eqb}
+use Rattle.std.specs.Prelude.{ℕ, ◌+◌, ◌*◌, Bool, false, cond, not, ◌&&◌, List, length, get_or, drop, leb, eqb, Result, Ok, Err}
 use Rattle.wire.specs.Bytes.{be2, be4, value_at, values, rises}
 use Rattle.settings.specs.Settings.{round_limit}
-use Rattle.settings.specs.Refusals.{LENGTH, KIND, SESSION, SENDER, FIELD, VALUE}
+use Rattle.settings.specs.declared.refusal.Refusal.TheVariants as refusal
 use Rattle.wire.specs.Message.{SEND, last_kind, by_kind}
 use Rattle.wire.specs.declared.Message.{Message}
 use Rattle.wire.specs.declared.Message.TheVariants.{Send, Echo, Ready, Est, Aux, Commit, Finish}
 use Rattle.wire.specs.declared.Header.{Header}
-use Rattle.wire.specs.declared.Parsed.{Parsed}
-use Rattle.wire.specs.declared.Parsed.TheVariants.{Refused, Taken}
+use Rattle.settings.specs.declared.refusal.Refusal.{Refusal}
 
 -- lo ≤ x ≤ hi
 abbrev pub within : ℕ → ℕ → ℕ → Bool
@@ -66,31 +65,31 @@ fields_right n h =
     false
 
 -- the message m, if its values are right
-unfoldable pub taken_if : Bool → Message → Parsed
-taken_if right m = cond (not right) (Refused VALUE) (Taken m)
+unfoldable pub taken_if : Bool → Message → Result Message Refusal
+taken_if right m = cond (not right) (Err refusal.Value) (Ok m)
 
 -- the message with the header h and the values in v, by kind: an EST, AUX or FINISH has 0 or 1, a COMMIT values that rise (PROTOCOL 2.4 to 2.6, 2.20)
-unfoldable pub read_values : Header → List ℕ → Parsed
+unfoldable pub read_values : Header → List ℕ → Result Message Refusal
 read_values h v =
     by_kind h.kind
-    (Taken (Send h.instance (value_at v 1)))
-    (Taken (Echo h.instance (value_at v 1)))
-    (Taken (Ready h.instance (value_at v 1)))
+    (Ok (Send h.instance (value_at v 1)))
+    (Ok (Echo h.instance (value_at v 1)))
+    (Ok (Ready h.instance (value_at v 1)))
     (taken_if (leb (value_at v 1) 1) (Est h.instance h.round (value_at v 1)))
     (taken_if (leb (value_at v 1) 1) (Aux h.instance h.round (value_at v 1)))
     (taken_if (rises (values h.count v)) (Commit h.count))
     (taken_if (leb (value_at v 1) 1) (Finish h.instance (value_at v 1)))
 
 -- the refusals 3 to 7 in their order, or the message
-unfoldable pub read_checked : (version n session link : ℕ) → Header → List ℕ → Parsed
+unfoldable pub read_checked : (version n session link : ℕ) → Header → List ℕ → Result Message Refusal
 read_checked version n session link h v =
-    cond (not (kind_known version h.version h.kind)) (Refused KIND)
-    (cond (not (eqb h.session session)) (Refused SESSION)
-    (cond (not (sender_right n link h.sender)) (Refused SENDER)
-    (cond (not (fields_right n h)) (Refused FIELD)
+    cond (not (kind_known version h.version h.kind)) (Err refusal.Kind)
+    (cond (not (eqb h.session session)) (Err refusal.Session)
+    (cond (not (sender_right n link h.sender)) (Err refusal.Sender)
+    (cond (not (fields_right n h)) (Err refusal.Field)
     (read_values h v))))
 
 -- what the bytes b from the link of concentrator link are at one of n in a session of that version: the refusals 2 to 7 in their order, or
 -- the message
-unfoldable pub read_message : (version n session link : ℕ) → List ℕ → Parsed
-read_message version n session link b = cond (not (length_right b)) (Refused LENGTH) (read_checked version n session link (header_of b) (drop 12 b))
+unfoldable pub read_message : (version n session link : ℕ) → List ℕ → Result Message Refusal
+read_message version n session link b = cond (not (length_right b)) (Err refusal.Length) (read_checked version n session link (header_of b) (drop 12 b))

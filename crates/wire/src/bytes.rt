@@ -1,27 +1,21 @@
 // Numbers in bytes, high byte first.
-ghost use Rattle.std.specs.Prelude.{◌≡◌, ◌+◌, ◌*◌, ◌%◌, ◌<◌, ◌≤◌, ◌^◌, ◌++◌, length, drop};
-ghost use Rattle.wire.specs.Bytes.{be2, be4, be8, bytes2, bytes4, bytes8, value_bytes};
-
-pub fn wide(x: u8) -> u64
-    ensures { (result ≡ x) × (result < 256) }
-{
-    x as u64
-}
+ghost use Rattle.std.specs.Prelude.{◌≡◌, ◌+◌, ◌*◌, ◌≤◌, ◌++◌, length, drop};
+ghost use Rattle.wire.specs.Bytes.{be2, be4, be8, bytes4, bytes8, value_bytes};
 
 // The number in the two bytes at a position.
-pub fn be2(s: &[u8], at: usize) -> u64
+pub fn be2(s: &[u8], at: usize) -> u16
     requires { at + 2 ≤ length s.now }
-    ensures { (result ≡ be2 s.now at) × (result < 2 ^ 16) }
+    ensures { result ≡ be2 s.now at }
 {
-    wide(s[at]) * 256 + wide(s[at + 1])
+    u16::from_be_bytes([s[at], s[at + 1]])
 }
 
 // The number in the four bytes at a position.
-pub fn be4(s: &[u8], at: usize) -> u64
+pub fn be4(s: &[u8], at: usize) -> u32
     requires { at + 4 ≤ length s.now }
-    ensures { (result ≡ be4 s.now at) × (result < 2 ^ 32) }
+    ensures { result ≡ be4 s.now at }
 {
-    be2(s, at) * 65536 + be2(s, at + 2)
+    u32::from_be_bytes([s[at], s[at + 1], s[at + 2], s[at + 3]])
 }
 
 // The number in the eight bytes at a position.
@@ -29,32 +23,24 @@ pub fn be8(s: &[u8], at: usize) -> u64
     requires { at + 8 ≤ length s.now }
     ensures { result ≡ be8 s.now at }
 {
-    be4(s, at) * 4294967296 + be4(s, at + 4)
+    u64::from_be_bytes([
+        s[at],
+        s[at + 1],
+        s[at + 2],
+        s[at + 3],
+        s[at + 4],
+        s[at + 5],
+        s[at + 6],
+        s[at + 7],
+    ])
 }
 
-// The low byte of a number.
-pub fn low(x: u64) -> u8
-    ensures { result ≡ x % 256 }
-{
-    (x % 256) as u8
-}
-
-// The low two bytes of a number at the front of out.
-pub fn put2(out: &mut [u8], x: u64)
-    requires { 2 ≤ length out.old }
-    ensures { out.new ≡ bytes2 x ++ drop 2 out.old }
-{
-    out[0] = low(x / 256);
-    out[1] = low(x);
-}
-
-// The low four bytes of a number at the front of out.
-pub fn put4(out: &mut [u8], x: u64)
+// The four bytes of a number at the front of out.
+pub fn put4(out: &mut [u8], x: u32)
     requires { 4 ≤ length out.old }
     ensures { out.new ≡ bytes4 x ++ drop 4 out.old }
 {
-    put2(out, x / 65536);
-    put2(&mut out[2..], x);
+    out[..4].copy_from_slice(&x.to_be_bytes());
 }
 
 // The eight bytes of a number at the front of out.
@@ -62,8 +48,7 @@ pub fn put8(out: &mut [u8], x: u64)
     requires { 8 ≤ length out.old }
     ensures { out.new ≡ bytes8 x ++ drop 8 out.old }
 {
-    put4(out, x / 4294967296);
-    put4(&mut out[4..], x);
+    out[..8].copy_from_slice(&x.to_be_bytes());
 }
 
 // Numbers in eight bytes each at the front of out.
@@ -71,10 +56,7 @@ pub fn put_values(values: &[u64], out: &mut [u8])
     requires { 8 * length values.now ≤ length out.old }
     ensures { out.new ≡ value_bytes values.now ++ drop (8 * length values.now) out.old }
 {
-    let mut k: usize = 0;
-    while k < values.len() {
-        let at = 8 * k;
-        put8(&mut out[at..], values[k]);
-        k += 1;
+    for (k, v) in values.iter().enumerate() {
+        put8(&mut out[8 * k..], *v);
     }
 }

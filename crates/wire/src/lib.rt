@@ -2,10 +2,11 @@
 #![tactic(auto)]
 
 mod bytes;
-mod layout;
+mod kind;
 mod reading;
 mod writing;
 
+pub use kind::{Kind, UnknownKind};
 pub use reading::{read_message, value_at};
 pub use writing::{message_length, write_message, write_plain};
 
@@ -33,11 +34,4 @@ pub struct Header {
     pub count: u8,
     pub reserved: u16,
     pub session: u32,
-}
-
-// What reading a message answers: the number of a refusal, or the message.
-#[derive(Clone, Copy)]
-pub enum Parsed {
-    Refused(u64),
-    Taken(Message),
 }

@@ -1,13 +1,14 @@
 // Reading a message: the refusals 2 to 7 in their order, or the message.
-ghost use Rattle.std.specs.Prelude.{◌≡◌, ◌+◌, ◌*◌, ◌<◌, ◌≤◌, length};
+ghost use Rattle.std.specs.Prelude.{◌≡◌, ◌+◌, ◌*◌, ◌<◌, ◌≤◌, length, cond, leb, Ok, Err};
 ghost use Rattle.wire.specs.Bytes.{value_at, values, rises};
-ghost use Rattle.wire.specs.Message.{last_kind};
+ghost use Rattle.wire.specs.Kinds.{byte_of};
+ghost use Rattle.settings.specs.declared.refusal.Refusal.TheVariants as refusal;
 ghost use Rattle.wire.specs.declared.Message.TheVariants.{Commit};
 ghost use Rattle.wire.specs.Reading.{length_right, kind_known, sender_right, broadcast_fields, vote_fields, commit_fields, fields_right, header_of, taken_if, read_values, read_checked, read_message};
 
-use crate::bytes::{be2, be4, be8, wide};
-use crate::{Header, Message, Parsed, layout};
-use settings::{Settings, refusal};
+use crate::bytes::{be2, be4, be8};
+use crate::{Header, Kind, Message};
+use settings::{Refusal, Settings};
 
 // Value k, from 1, of the part of a message that starts at byte 12; 0 where the part does not hold it.
 pub fn value_at(values: &[u8], k: u8) -> u64
@@ -16,7 +17,7 @@ pub fn value_at(values: &[u8], k: u8) -> u64
     if k == 0 {
         return 0;
     }
-    let end = 8 * (k as usize);
+    let end = 8 * usize::from(k);
     if values.len() < end {
         return 0;
     }
@@ -28,10 +29,8 @@ fn rising(part: &[u8], count: u8) -> bool
     ensures { result ≡ rises (values count part.now) }
 {
     let mut last = value_at(part, 1);
-    let mut k: u8 = 1;
-    while k < count {
-        k += 1;
-        let next = value_at(part, k);
+    for k in 1..count {
+        let next = value_at(part, k + 1);
         if next <= last {
             return false;
         }
@@ -46,32 +45,25 @@ fn length_right(bytes: &[u8]) -> bool
     if bytes.len() < 12 {
         return false;
     }
-    bytes.len() as u64 == 12 + 8 * wide(bytes[5])
-}
-
-// The last kind of a version.
-fn last_kind(version: u64) -> u8
-    ensures { result ≡ last_kind version }
-{
-    if settings::finishing(version) {
-        layout::FINISH
-    } else {
-        layout::COMMIT
-    }
+    bytes.len() as u64 == 12 + 8 * u64::from(bytes[5])
 }
 
 // Whether version and kind are those of a session of version `own`.
-fn kind_known(own: u64, version: u8, kind: u8) -> bool
-    ensures { result ≡ kind_known own version kind }
+fn kind_known(own: u64, version: u8, kind: Kind) -> bool
+    ensures { result ≡ kind_known own version (byte_of kind) }
 {
-    (version as u64 == own) & ((layout::SEND <= kind) & (kind <= last_kind(own)))
+    let own_version = u64::from(version) == own;
+    match kind {
+        Kind::Finish => own_version & settings::finishing(own),
+        _ => own_version,
+    }
 }
 
 // The link's number is compared whole.
 fn sender_right(n: u8, link: u64, sender: u8) -> bool
     ensures { result ≡ sender_right n link sender }
 {
-    (sender as u64 == link) & ((1 <= link) & (link <= n as u64))
+    (u64::from(sender) == link) & ((1 <= link) & (link <= u64::from(n)))
 }
 
 // SEND, ECHO, READY and FINISH: an instance, no round, one value.
@@ -98,91 +90,75 @@ fn commit_fields(n: u8, h: Header) -> bool
 }
 
 // Bytes 3 to 7 against the layout of the kind.
-fn fields_right(n: u8, h: Header) -> bool
+fn fields_right(n: u8, kind: Kind, h: Header) -> bool
+    requires { h.kind ≡ byte_of kind }
     ensures { result ≡ fields_right n h }
 {
     if h.reserved != 0 {
         return false;
     }
-    let kind = h.kind;
-    if kind == layout::SEND {
-        return broadcast_fields(n, h) & (h.instance == h.sender);
+    match kind {
+        Kind::Send => broadcast_fields(n, h) & (h.instance == h.sender),
+        Kind::Echo | Kind::Ready | Kind::Finish => broadcast_fields(n, h),
+        Kind::Est | Kind::Aux => vote_fields(n, h),
+        Kind::Commit => commit_fields(n, h),
     }
-    if kind == layout::ECHO {
-        return broadcast_fields(n, h);
+}
+
+// A value that is 0 or 1.
+fn bit(value: u64) -> Result<u8, Refusal>
+    ensures { result ≡ cond (leb value 1) (Ok value) (Err refusal.Value) }
+{
+    if 1 < value {
+        return Err(Refusal::Value);
     }
-    if kind == layout::READY {
-        return broadcast_fields(n, h);
-    }
-    if kind == layout::EST {
-        return vote_fields(n, h);
-    }
-    if kind == layout::AUX {
-        return vote_fields(n, h);
-    }
-    if kind == layout::COMMIT {
-        return commit_fields(n, h);
-    }
-    broadcast_fields(n, h)
+    Ok(value as u8)
 }
 
 // A COMMIT, if its values rise.
-fn read_commit(count: u8, part: &[u8]) -> Parsed
+fn read_commit(count: u8, part: &[u8]) -> Result<Message, Refusal>
     ensures { result ≡ taken_if (rises (values count part.now)) (Commit count) }
 {
     if rising(part, count) {
-        return Parsed::Taken(Message::Commit { count });
+        return Ok(Message::Commit { count });
     }
-    Parsed::Refused(refusal::VALUE)
+    Err(Refusal::Value)
 }
 
 // The message with a header whose fields are right, from the part that holds its values.
-fn read_values(h: Header, part: &[u8]) -> Parsed
+fn read_values(kind: Kind, h: Header, part: &[u8]) -> Result<Message, Refusal>
+    requires { h.kind ≡ byte_of kind }
     ensures { result ≡ read_values h part.now }
 {
-    let kind = h.kind;
     let instance = h.instance;
     let round = h.round;
     let value = value_at(part, 1);
-    if kind == layout::SEND {
-        return Parsed::Taken(Message::Send { instance, value });
-    }
-    if kind == layout::ECHO {
-        return Parsed::Taken(Message::Echo { instance, value });
-    }
-    if kind == layout::READY {
-        return Parsed::Taken(Message::Ready { instance, value });
-    }
-    if kind == layout::EST {
-        if 1 < value {
-            return Parsed::Refused(refusal::VALUE);
+    match kind {
+        Kind::Send => Ok(Message::Send { instance, value }),
+        Kind::Echo => Ok(Message::Echo { instance, value }),
+        Kind::Ready => Ok(Message::Ready { instance, value }),
+        Kind::Est => {
+            let value = bit(value)?;
+            Ok(Message::Est {
+                instance,
+                round,
+                value,
+            })
         }
-        let value = value as u8;
-        return Parsed::Taken(Message::Est {
-            instance,
-            round,
-            value,
-        });
-    }
-    if kind == layout::AUX {
-        if 1 < value {
-            return Parsed::Refused(refusal::VALUE);
+        Kind::Aux => {
+            let value = bit(value)?;
+            Ok(Message::Aux {
+                instance,
+                round,
+                value,
+            })
         }
-        let value = value as u8;
-        return Parsed::Taken(Message::Aux {
-            instance,
-            round,
-            value,
-        });
+        Kind::Commit => read_commit(h.count, part),
+        Kind::Finish => {
+            let value = bit(value)?;
+            Ok(Message::Finish { instance, value })
+        }
     }
-    if kind == layout::COMMIT {
-        return read_commit(h.count, part);
-    }
-    if 1 < value {
-        return Parsed::Refused(refusal::VALUE);
-    }
-    let value = value as u8;
-    Parsed::Taken(Message::Finish { instance, value })
 }
 
 // The first twelve bytes.
@@ -197,36 +173,52 @@ fn header_of(bytes: &[u8]) -> Header
         instance: bytes[3],
         round: bytes[4],
         count: bytes[5],
-        reserved: be2(bytes, 6) as u16,
-        session: be4(bytes, 8) as u32,
+        reserved: be2(bytes, 6),
+        session: be4(bytes, 8),
     }
 }
 
 // The refusals 3 to 7 in their order, or the message, from a header and the part that holds the values.
-fn read_checked(version: u64, n: u8, session: u32, link: u64, h: Header, part: &[u8]) -> Parsed
+fn read_checked(
+    version: u64,
+    n: u8,
+    session: u32,
+    link: u64,
+    h: Header,
+    part: &[u8],
+) -> Result<Message, Refusal>
     ensures { result ≡ read_checked version n session link h part.now }
 {
-    if !kind_known(version, h.version, h.kind) {
-        return Parsed::Refused(refusal::KIND);
+    let Ok(kind) = Kind::try_from(h.kind) else {
+        return Err(Refusal::Kind);
+    };
+    if !kind_known(version, h.version, kind) {
+        return Err(Refusal::Kind);
     }
     if h.session != session {
-        return Parsed::Refused(refusal::SESSION);
+        return Err(Refusal::Session);
     }
     if !sender_right(n, link, h.sender) {
-        return Parsed::Refused(refusal::SENDER);
+        return Err(Refusal::Sender);
     }
-    if !fields_right(n, h) {
-        return Parsed::Refused(refusal::FIELD);
+    if !fields_right(n, kind, h) {
+        return Err(Refusal::Field);
     }
-    read_values(h, part)
+    read_values(kind, h, part)
 }
 
 // Reads a message that came over the link of a concentrator, at one of n in a session of that version.
-pub fn read_message(bytes: &[u8], version: u64, n: u8, session: u32, link: u64) -> Parsed
+pub fn read_message(
+    bytes: &[u8],
+    version: u64,
+    n: u8,
+    session: u32,
+    link: u64,
+) -> Result<Message, Refusal>
     ensures { result ≡ read_message version n session link bytes.now }
 {
     if !length_right(bytes) {
-        return Parsed::Refused(refusal::LENGTH);
+        return Err(Refusal::Length);
     }
     read_checked(version, n, session, link, header_of(bytes), &bytes[12..])
 }

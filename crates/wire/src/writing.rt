@@ -1,107 +1,32 @@
 // Writing a message.
 ghost use Rattle.std.specs.Prelude.{◌≡◌, ◌+◌, ◌*◌, ◌<◌, ◌≤◌, [], ◌∷◌, ◌++◌, length, drop};
-ghost use Rattle.wire.specs.Message.{count_of, length_of, header_with, header_for, front_bytes, header_bytes, message_bytes};
+ghost use Rattle.wire.specs.Message.{length_of, header_for, front_bytes, header_bytes, message_bytes};
 ghost use Rattle.wire.specs.Writing.{fitting, written, Wrote};
 ghost use Rattle.wire.specs.laws.Message.{counted_values};
 
-use crate::bytes::{low, put_values, put4};
-use crate::{Header, Message, layout};
-
-// Byte 5.
-fn count_of(m: Message) -> u8
-    ensures { result ≡ count_of m }
-{
-    match m {
-        Message::Send {
-            instance: _,
-            value: _,
-        } => 1,
-        Message::Echo {
-            instance: _,
-            value: _,
-        } => 1,
-        Message::Ready {
-            instance: _,
-            value: _,
-        } => 1,
-        Message::Est {
-            instance: _,
-            round: _,
-            value: _,
-        } => 1,
-        Message::Aux {
-            instance: _,
-            round: _,
-            value: _,
-        } => 1,
-        Message::Commit { count } => count,
-        Message::Finish {
-            instance: _,
-            value: _,
-        } => 1,
-    }
-}
+use crate::bytes::{put_values, put4};
+use crate::{Header, Message};
 
 // The length of a message in bytes.
 pub fn message_length(m: Message) -> usize
     ensures { result ≡ length_of m }
 {
-    12 + 8 * (count_of(m) as usize)
-}
-
-fn header_with(
-    version: u8,
-    kind: u8,
-    sender: u8,
-    instance: u8,
-    round: u8,
-    count: u8,
-    session: u32,
-) -> Header
-    ensures { result ≡ header_with version kind sender instance round count session }
-{
-    Header {
-        version,
-        kind,
-        sender,
-        instance,
-        round,
-        count,
-        reserved: 0,
-        session,
-    }
+    12 + 8 * usize::from(m.count())
 }
 
 // Bytes 0 to 11 of a message.
 fn header_for(m: Message, version: u8, sender: u8, session: u32) -> Header
     ensures { result ≡ header_for m version sender session }
 {
-    match m {
-        Message::Send { instance, value: _ } => {
-            header_with(version, layout::SEND, sender, instance, 0, 1, session)
-        }
-        Message::Echo { instance, value: _ } => {
-            header_with(version, layout::ECHO, sender, instance, 0, 1, session)
-        }
-        Message::Ready { instance, value: _ } => {
-            header_with(version, layout::READY, sender, instance, 0, 1, session)
-        }
-        Message::Est {
-            instance,
-            round,
-            value: _,
-        } => header_with(version, layout::EST, sender, instance, round, 1, session),
-        Message::Aux {
-            instance,
-            round,
-            value: _,
-        } => header_with(version, layout::AUX, sender, instance, round, 1, session),
-        Message::Commit { count } => {
-            header_with(version, layout::COMMIT, sender, 0, 0, count, session)
-        }
-        Message::Finish { instance, value: _ } => {
-            header_with(version, layout::FINISH, sender, instance, 0, 1, session)
-        }
+    Header {
+        version,
+        kind: u8::from(m.kind()),
+        sender,
+        instance: m.instance(),
+        round: m.round(),
+        count: m.count(),
+        reserved: 0,
+        session,
     }
 }
 
@@ -116,8 +41,9 @@ fn put_front(out: &mut [u8], h: Header)
     out[3] = h.instance;
     out[4] = h.round;
     out[5] = h.count;
-    out[6] = low(h.reserved as u64 / 256);
-    out[7] = low(h.reserved as u64);
+    let reserved = h.reserved.to_be_bytes();
+    out[6] = reserved[0];
+    out[7] = reserved[1];
 }
 
 // Bytes 0 to 11.
@@ -126,7 +52,7 @@ fn put_header(out: &mut [u8], h: Header)
     ensures { out.new ≡ header_bytes h ++ drop 12 out.old }
 {
     put_front(out, h);
-    put4(&mut out[8..], h.session as u64);
+    put4(&mut out[8..], h.session);
 }
 
 // A header and the values after it at the front of out; answers their number of bytes, 0 where out is too short.
@@ -146,7 +72,7 @@ fn write_values(h: Header, values: &[u64], out: &mut [u8]) -> usize
 fn write_counted(h: Header, values: &[u64], out: &mut [u8]) -> usize
     ensures { Wrote (counted_values h values.now out.old) out.old result out.new }
 {
-    let count = h.count as usize;
+    let count = usize::from(h.count);
     if values.len() < count {
         return 0;
     }
@@ -175,20 +101,10 @@ pub fn write_message(
 {
     let h = header_for(m, version, sender, session);
     match m {
-        Message::Send { instance: _, value } => write_plain(h, value, out),
-        Message::Echo { instance: _, value } => write_plain(h, value, out),
-        Message::Ready { instance: _, value } => write_plain(h, value, out),
-        Message::Est {
-            instance: _,
-            round: _,
-            value,
-        } => write_plain(h, value as u64, out),
-        Message::Aux {
-            instance: _,
-            round: _,
-            value,
-        } => write_plain(h, value as u64, out),
-        Message::Commit { count: _ } => write_counted(h, values, out),
-        Message::Finish { instance: _, value } => write_plain(h, value as u64, out),
+        Message::Send { value, .. } | Message::Echo { value, .. } | Message::Ready { value, .. } =>
+            write_plain(h, value, out),
+        Message::Est { value, .. } | Message::Aux { value, .. } | Message::Finish { value, .. } =>
+            write_plain(h, u64::from(value), out),
+        Message::Commit { .. } => write_counted(h, values, out),
     }
 }

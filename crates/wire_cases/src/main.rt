@@ -2,13 +2,14 @@
 // is of version 1, but for FINISHes.
 #![tactic(auto)]
 
+use settings::Refusal;
 use std::io::Result;
-use wire::{Message, Parsed};
+use wire::Message;
 
-fn answer(p: Parsed) -> u64 {
+fn answer(p: std::result::Result<Message, Refusal>) -> u64 {
     match p {
-        Parsed::Refused(number) => number,
-        Parsed::Taken(_) => 0,
+        Err(k) => u64::from(k),
+        Ok(_) => 0,
     }
 }
 

@@ -1,4 +1,5 @@
 -- What is taken is the bytes of a message that keeps to the layout.
+use Rattle.std.specs.Prelude.{Result, Ok, Err}
 use Prim.Native.Nat.{ℕ, zero, suc, ◌+◌, ◌*◌, ◌≤◌}
 use mathlib.Core.Path.{◌≡◌, refl, ap, ap₂, sym, subst, ◌∙◌}
 use mathlib.Core.Bool.{Bool, true, false, cond, not, false≢true, ◌&&◌}
@@ -15,20 +16,19 @@ use Rattle.wire.specs.Reading.{within, length_right, header_of, broadcast_fields
 use Rattle.wire.specs.declared.Header.{Header}
 use Rattle.wire.specs.declared.Message.{Message}
 use Rattle.wire.specs.declared.Message.TheVariants.{Send, Echo, Ready, Est, Aux, Commit, Finish}
-use Rattle.wire.specs.declared.Parsed.{Parsed}
-use Rattle.wire.specs.declared.Parsed.TheVariants.{Refused, Taken}
 use Rattle.quorum.specs.laws.Bools.{and_left, and_right}
 use Rattle.wire_laws.specs.Proper.{Layout}
 use Rattle.wire_laws.proofs.laws.Forms.{Form}
 use Rattle.wire_laws.specs.RoundTrip.{OnlyEncodings}
 use Rattle.wire_laws.proofs.Parts.{length_values, values_fitting, bytes_values, bytes_header, all_drop}
+use Rattle.settings.specs.declared.refusal.Refusal.{Refusal}
 
 -- where a test stands before a refusal and the message was taken, it was passed
-pub passed : (t : Bool) (p : Parsed) (k : ℕ) (m : Message) → cond (not t) (Refused k) p ≡ Taken m → (t ≡ true) × (p ≡ Taken m)
+pub passed : (t : Bool) (p : Result Message Refusal) (k : Refusal) (m : Message) → cond (not t) (Err k) p ≡ Ok m → (t ≡ true) × (p ≡ Ok m)
 passed true p k m e = (refl, e)
 passed false p k m e = absurd (let z : ◌≡◌ {A = ℕ} 0 1 = cc in omega arith)
 
-same_taken : (a b : Message) → Taken a ≡ Taken b → a ≡ b
+same_taken : (a b : Message) → ◌≡◌ {A = Result Message Refusal} (Ok a) (Ok b) → a ≡ b
 same_taken a b e = cc
 
 -- the tests of a message that was taken
@@ -43,7 +43,7 @@ pub record Passed (w n session link : ℕ) (b : List ℕ) (m : Message) : Type 0
   pub link_low : 1 ≤ link
   pub link_high : link ≤ n
   pub fields : fields_right n (header_of b) ≡ true
-  pub message : read_values (header_of b) (drop 12 b) ≡ Taken m
+  pub message : read_values (header_of b) (drop 12 b) ≡ Ok m
 
 within_low : (lo hi x : ℕ) → within lo hi x ≡ true → lo ≤ x
 within_low lo hi x e = leb-true lo x (and_left (leb lo x) (leb x hi) e)
@@ -51,7 +51,7 @@ within_low lo hi x e = leb-true lo x (and_left (leb lo x) (leb x hi) e)
 within_high : (lo hi x : ℕ) → within lo hi x ≡ true → x ≤ hi
 within_high lo hi x e = leb-true x hi (and_right (leb lo x) (leb x hi) e)
 
-pub taken_passed : (w n session link : ℕ) (b : List ℕ) (m : Message) → read_message w n session link b ≡ Taken m → Passed w n session link b m
+pub taken_passed : (w n session link : ℕ) (b : List ℕ) (m : Message) → read_message w n session link b ≡ Ok m → Passed w n session link b m
 unfolding read_message read_checked length_right header_of
 taken_passed w n session link b m e =
     let l = passed _ _ _ m e in
@@ -258,7 +258,7 @@ each_kind P (suc (suc (suc (suc (suc (suc zero)))))) lo hi a b c d e f g = f ref
 each_kind P (suc (suc (suc (suc (suc (suc (suc zero))))))) lo hi a b c d e f g = g refl
 each_kind P (suc (suc (suc (suc (suc (suc (suc (suc k)))))))) lo hi a b c d e f g = absurd (omega arith)
 
-pub taken_form : (w n session link : ℕ) (b : List ℕ) (m : Message) → read_message w n session link b ≡ Taken m → Form w n session link b m
+pub taken_form : (w n session link : ℕ) (b : List ℕ) (m : Message) → read_message w n session link b ≡ Ok m → Form w n session link b m
 taken_form w n session link b m e =
     let p : Passed w n session link b m = taken_passed w n session link b m e in
     each_kind (Form w n session link b m) (header_of b).kind p.kind_low (omega (arith, p.kind_high, last_high w))

@@ -1,4 +1,5 @@
 -- Reading what was written gives the message and its values back.
+use Rattle.std.specs.Prelude.{Ok}
 use Prim.Native.Nat.{ℕ, ◌+◌, ◌*◌, ◌^◌, ◌<◌, ◌≤◌}
 use mathlib.Core.Path.{◌≡◌, refl, ap, sym, ◌∙◌}
 use mathlib.Core.Bool.{true}
@@ -12,7 +13,6 @@ use Rattle.wire.specs.Message.{by_kind, last_kind, kind_of, instance_of, round_o
 use Rattle.wire.specs.Reading.{kind_known, length_right, header_of, fields_right, taken_if, read_values, read_checked, read_message}
 use Rattle.wire.specs.declared.Message.{Message}
 use Rattle.wire.specs.declared.Message.TheVariants.{Send, Echo, Ready, Est, Aux, Commit, Finish}
-use Rattle.wire.specs.declared.Parsed.TheVariants.{Taken}
 use Rattle.wire.proofs.Laws.{count_values, length_encode, value_of_values}
 use Rattle.wire_laws.specs.Proper.{Layout, Proper}
 use Rattle.wire_laws.specs.RoundTrip.{RoundTrip}
@@ -83,7 +83,7 @@ values_back : (w n s : ℕ) (m : Message) (xs : List ℕ) → Proper w n s m xs 
 values_back w n s m xs p =
     ap (λ (k : ℕ). values k (value_bytes (values_of m xs))) (sym (count_values m xs p.held)) ∙ values_value_bytes (values_of m xs) p.fits
 
-message_back : (w n s t : ℕ) (m : Message) (xs : List ℕ) → Proper w n s m xs → read_values (header_for m w s t) (value_bytes (values_of m xs)) ≡ Taken m
+message_back : (w n s t : ℕ) (m : Message) (xs : List ℕ) → Proper w n s m xs → read_values (header_for m w s t) (value_bytes (values_of m xs)) ≡ Ok m
 unfolding read_values header_for by_kind taken_if
 message_back w n s t (Send i v) xs p = rw (one_back v p.fits.0)
 message_back w n s t (Echo i v) xs p = rw (one_back v p.fits.0)

@@ -1,14 +1,13 @@
 -- The theorem of specs/AcceptedFirst.antt: the moments of a session by its calls, and by the lines of a journal.
-use Rattle.std.specs.Prelude.{ℕ, zero, suc, ◌+◌, ◌≤◌, ◌^◌, Bool, ◌&&◌, refl, leb, ltb, get_or}
+use Rattle.std.specs.Prelude.{ℕ, zero, suc, ◌+◌, ◌≤◌, ◌^◌, Bool, ◌&&◌, refl, leb, ltb, get_or, Option, Some, None, Ok, Result, Err}
 use Rattle.std.proofs.Math.Bool.{true, false, cond}
 use Rattle.std.proofs.lemmas.Bool.{false≢true}
 use mathlib.Core.List.{List, [], ◌∷◌}
-use Rattle.std.proofs.Math.Option.{Option, none, some}
 use Rattle.std.proofs.Math.Path.{◌≡◌, ap}
 use Rattle.std.proofs.Common.{sym, subst, ◌∙◌, arith}
 use Rattle.std.proofs.Math.Dec.{eqb}
 use Rattle.std.proofs.Math.ListN.{length}
-use borrow.Author.Tests.{eqb-true, lt-leb}
+use borrow.Author.Tests.{lt-leb}
 use Rattle.quorum.specs.Marks.{mark}
 use Rattle.quorum.specs.laws.Marks.{mark_zero}
 use Rattle.quorum.specs.Weights.{weight_of}
@@ -35,17 +34,17 @@ use Rattle.turn.specs.Due.{due}
 use Rattle.turn.specs.Turn.{move_outcome, outcome_of, turn_outcome, turn_words}
 use Rattle.turn.specs.laws.Told.{ActTold}
 use Rattle.turn.specs.laws.Admitting.{admitted_settings, admitted_ruled}
-use Rattle.turn.specs.laws.Turn.{Way, refused, taken, way}
-use Rattle.turn.specs.declared.Outcome.TheVariants.{Refused, Sent, MovedOut}
+use Rattle.turn.specs.laws.Turn.{Way, refused, taken, way, same_outcome}
+use Rattle.turn.specs.declared.Outcome.{Outcome}
+use Rattle.turn.specs.declared.Outcome.TheVariants.{Sent, MovedOut}
 use Rattle.text.specs.Fields.{fields, letter}
 use Rattle.text.specs.Numbers.{DECIMAL, value_of, values_of}
 use Rattle.journal.specs.Lines.{recording_forms}
-use Rattle.journal.specs.Journal.{acts, line_words, open_number, opened_words, delivered_words, record_words, turn_room, turned_words}
+use Rattle.journal.specs.Journal.{acts, line_words, open_line_answer, opened_words, delivered_words, record_words, turn_room, turned_words}
 use Rattle.restore.specs.Complete.{lines_of, joined}
 use Rattle.restore.specs.Reading.{proper, all_proper, field_at, forms_for, arguments_from, hex_right, bytes_of}
-use Rattle.restore.specs.Restoring.{Point, opened_from, opening_from, opening_read, first_of, first_line, delivered_from, turned_from, recorded_by, recorded_from, next_of, next_line, Replay, wrong, right, applied_or, further, replay_from, replay, replay_answer, replay_words, lent_answer, restore_answer, restored_words}
+use Rattle.restore.specs.Restoring.{Point, opened_from, opening_from, opening_read, first_of, first_line, delivered_from, turned_from, recorded_by, recorded_from, next_of, next_line, Replay, wrong, right, applied_or, further, replay_from, replay, replay_answer, replay_words, lent_answer, where_lent, restore_answer, restored_words}
 use Rattle.restore.specs.Restoring as restoring
-use Rattle.restore.specs.declared.Restored.TheVariants as restored
 use Rattle.calls.specs.Machine.{Call, opening, delivery, turn, report, restore, recording, place, left, words, traced}
 use Rattle.calls.specs.Engine.{engine}
 use Rattle.turn_bound.specs.TurnBound.{same_words}
@@ -56,6 +55,9 @@ use Rattle.accepted_first.specs.AcceptedFirst.{another, onward, after_lines, lin
 use Rattle.accepted_first.proofs.laws.Facts.{Facts, none_yet, facts_next}
 use Rattle.accepted_first.proofs.laws.Facts as facts
 use Rattle.accepted_first.proofs.laws.Stepping.{Onward, same_onward, turn_onward, recording_onward, delivery_onward}
+use Rattle.std.specs.Result.{is_ok}
+use Rattle.settings.specs.laws.Answers.{true_taken}
+use Rattle.settings.specs.declared.refusal.Refusal.{Refusal}
 
 -- what the moments of a session tell of round r of vote i, the newest being w, by the settings g
 abbrev Told : Settings → ℕ → ℕ → List ℕ → List (List ℕ) → Type 0
@@ -101,7 +103,7 @@ abbrev Standing : List ℕ → List (List ℕ) → Type 0
 Standing v [] = Unit {0}
 Standing v (w ∷ us) = (v ≡ w) × Past w us
 
-opened_standing : (w : List ℕ) (o : Arguments) → open_answer (length w) o ≡ 0 → Standing (opened w o) (opened w o ∷ [])
+opened_standing : (w : List ℕ) (o : Arguments) → open_answer (length w) o ≡ Ok tt → Standing (opened w o) (opened w o ∷ [])
 opened_standing w o e = (refl, subst (λ (t : List ℕ). Past t []) (sym (opened_new w o e)) (new_past o (opened_ruled w o e).few))
 
 next_standing : (v t : List ℕ) (us : List (List ℕ)) → Standing v us → Onward v t → Standing t (another t us)
@@ -111,75 +113,75 @@ next_standing v t (u ∷ us) h x = (refl, past_next u t us h.1 (subst (λ (y : L
 -- ---- the lines of a journal
 
 -- the words of a point, on top of the moments before it
-point_standing : (w : List ℕ) (us : List (List ℕ)) → Past w us → (x : Point) → Onward w x.words → Standing x.words (onward (some x) (w ∷ us))
+point_standing : (w : List ℕ) (us : List (List ℕ)) → Past w us → (x : Point) → Onward w x.words → Standing x.words (onward (Some x) (w ∷ us))
 point_standing w us h x y = (refl, past_next w x.words us h y)
 
-read_standing : (o : Arguments) (x : Point) → opened_from o ≡ some x → Standing x.words (x.words ∷ [])
+read_standing : (o : Arguments) (x : Point) → opened_from o ≡ Some x → Standing x.words (x.words ∷ [])
 unfolding opened_from opened
 read_standing o x e =
-    let z : Point = record { words = open_words o; turned = none } in
-    let t = some_if (eqb (open_answer 2048 o) 0) (some z) x e in
-    let taken : open_answer (length (blank 2048)) o ≡ 0 = rw length_blank (eqb-true _ 0 t.0) in
+    let z : Point = record { words = open_words o; turned = None } in
+    let t = some_if (is_ok (open_answer 2048 o)) (Some z) x e in
+    let taken : open_answer (length (blank 2048)) o ≡ Ok tt = rw length_blank (true_taken _ t.0) in
     let words : opened (blank 2048) o ≡ x.words = rw (length_blank, t.0) (words_of z x t.1) in
     subst (λ (y : List ℕ). Standing y (y ∷ [])) words (opened_standing (blank 2048) o taken)
 
-first_standing : (b : List ℕ) (x : Point) → first_line b ≡ some x → Standing x.words (onward (some x) [])
+first_standing : (b : List ℕ) (x : Point) → first_line b ≡ Some x → Standing x.words (onward (Some x) [])
 unfolding first_line first_of opening_read opening_from
 first_standing b x e = of (fields b) e
   where
-    numbers : (n : ℕ) (xs : List ℕ) → opening_from n xs ≡ some x → Standing x.words (x.words ∷ [])
+    numbers : (n : ℕ) (xs : List ℕ) → opening_from n xs ≡ Some x → Standing x.words (x.words ∷ [])
     numbers n xs e = read_standing (arguments_from n xs) x (some_if (ltb (get_or xs 5 0) (2 ^ 32)) (opened_from (arguments_from n xs)) x e).1
 
-    read : (n : ℕ) (fs : List (List ℕ)) → opening_read n fs ≡ some x → Standing x.words (x.words ∷ [])
+    read : (n : ℕ) (fs : List (List ℕ)) → opening_read n fs ≡ Some x → Standing x.words (x.words ∷ [])
     read n fs e =
         let xs = values_of (forms_for n (length fs)) fs in
         numbers n xs (some_if (leb n 16 && all_proper (forms_for n (length fs)) fs) (opening_from n xs) x e).1
 
-    of : (fs : List (List ℕ)) → first_of fs ≡ some x → Standing x.words (x.words ∷ [])
+    of : (fs : List (List ℕ)) → first_of fs ≡ Some x → Standing x.words (x.words ∷ [])
     of [] e = absurd (let z : ◌≡◌ {A = ℕ} 0 1 = cc in omega arith)
     of (f ∷ fs) e = read (value_of DECIMAL (field_at fs 1)) fs (some_if (eqb (letter f) 79) (opening_read (value_of DECIMAL (field_at fs 1)) fs) x e).1
 
 -- a further line is a call
 module _ (w : List ℕ) (y : Point) where
-  delivered_onward : (fs : List (List ℕ)) → delivered_from w fs ≡ some y → Onward w y.words
+  delivered_onward : (fs : List (List ℕ)) → delivered_from w fs ≡ Some y → Onward w y.words
   unfolding delivered_from
   delivered_onward [] e = absurd (let z : ◌≡◌ {A = ℕ} 0 1 = cc in omega arith)
   delivered_onward (l ∷ []) e = absurd (let z : ◌≡◌ {A = ℕ} 0 1 = cc in omega arith)
   delivered_onward (l ∷ b ∷ []) e =
-      let z : Point = record { words = delivered w (value_of DECIMAL l) (bytes_of b); turned = none } in
-      let t = some_if (proper DECIMAL l && (hex_right b && eqb (deliver_answer w (value_of DECIMAL l) (bytes_of b)) 0)) (some z) y e in
+      let z : Point = record { words = delivered w (value_of DECIMAL l) (bytes_of b); turned = None } in
+      let t = some_if (proper DECIMAL l && (hex_right b && is_ok (deliver_answer w (value_of DECIMAL l) (bytes_of b)))) (Some z) y e in
       rw (words_of z y t.1) at (delivery_onward w (value_of DECIMAL l) (bytes_of b))
   delivered_onward (l ∷ b ∷ c ∷ fs) e = absurd (let z : ◌≡◌ {A = ℕ} 0 1 = cc in omega arith)
 
-  turned_onward : (fs : List (List ℕ)) → turned_from w fs ≡ some y → Onward w y.words
+  turned_onward : (fs : List (List ℕ)) → turned_from w fs ≡ Some y → Onward w y.words
   unfolding turned_from
   turned_onward [] e =
-      let z : Point = record { words = turn_words w 140; turned = some w } in
-      let t = some_if (acts (turn_outcome w 140)) (some z) y e in
+      let z : Point = record { words = turn_words w 140; turned = Some w } in
+      let t = some_if (acts (turn_outcome w 140)) (Some z) y e in
       let size : length (blank 140) ≡ 140 = length_blank 140 in
       rw (words_of z y t.1) at (rw size at (turn_onward w (blank 140)))
   turned_onward (f ∷ fs) e = absurd (let z : ◌≡◌ {A = ℕ} 0 1 = cc in omega arith)
 
-  recorded_onward : (fs : List (List ℕ)) → recorded_from w fs ≡ some y → Onward w y.words
+  recorded_onward : (fs : List (List ℕ)) → recorded_from w fs ≡ Some y → Onward w y.words
   unfolding recorded_from recorded_by
   recorded_onward fs e =
       let xs = values_of recording_forms fs in
       let t = some_if (all_proper recording_forms fs) (recorded_by w xs) y e in
-      let z : Point = record { words = recorded_words w (get_or xs 0 0) (get_or xs 1 0) (get_or xs 2 0); turned = none } in
-      let q = some_if (eqb (record_answer w (get_or xs 0 0) (get_or xs 1 0) (get_or xs 2 0)) 0) (some z) y t.1 in
+      let z : Point = record { words = recorded_words w (get_or xs 0 0) (get_or xs 1 0) (get_or xs 2 0); turned = None } in
+      let q = some_if (is_ok (record_answer w (get_or xs 0 0) (get_or xs 1 0) (get_or xs 2 0))) (Some z) y t.1 in
       rw (words_of z y q.1) at (recording_onward w (get_or xs 0 0) (get_or xs 1 0) (get_or xs 2 0))
 
-  line_onward : (b : List ℕ) → next_line w b ≡ some y → Onward w y.words
+  line_onward : (b : List ℕ) → next_line w b ≡ Some y → Onward w y.words
   unfolding next_line next_of
   line_onward b e = of (fields b) e
     where
-      letters : (fs : List (List ℕ)) (d c t : Bool) → cond d (delivered_from w fs) (cond c (recorded_from w fs) (cond t (turned_from w fs) none)) ≡ some y → Onward w y.words
+      letters : (fs : List (List ℕ)) (d c t : Bool) → cond d (delivered_from w fs) (cond c (recorded_from w fs) (cond t (turned_from w fs) None)) ≡ Some y → Onward w y.words
       letters fs true c t e = delivered_onward fs e
       letters fs false true t e = recorded_onward fs e
       letters fs false false true e = turned_onward fs e
       letters fs false false false e = absurd (let z : ◌≡◌ {A = ℕ} 0 1 = cc in omega arith)
 
-      of : (fs : List (List ℕ)) → next_of w fs ≡ some y → Onward w y.words
+      of : (fs : List (List ℕ)) → next_of w fs ≡ Some y → Onward w y.words
       of [] e = absurd (let z : ◌≡◌ {A = ℕ} 0 1 = cc in omega arith)
       of (f ∷ fs) e = letters fs (eqb (letter f) 68) (eqb (letter f) 75) (eqb (letter f) 84) e
 
@@ -193,8 +195,8 @@ further_standing j y us h (b ∷ bs) x e = of (next_line y.words b) refl e (λ z
     of : (z : Option Point) → next_line y.words b ≡ z → replay_from (j + 1) (applied_or j z) bs ≡ right x →
         ((u : Point) → Past u.words (y.words ∷ us) → replay_from (j + 1) (right u) bs ≡ right x → Standing x.words (after_lines (u.words ∷ y.words ∷ us) bs)) →
         Standing x.words (after_lines (onward z (y.words ∷ us)) bs)
-    of none f e again = absurd (let q : wrong j ≡ right x = sym (wrong_stays (j + 1) j bs) ∙ e in let z : ◌≡◌ {A = ℕ} 0 1 = cc in omega arith)
-    of (some z) f e again = again z (past_next y.words z.words us h (line_onward y.words z b f)) e
+    of None f e again = absurd (let q : wrong j ≡ right x = sym (wrong_stays (j + 1) j bs) ∙ e in let z : ◌≡◌ {A = ℕ} 0 1 = cc in omega arith)
+    of (Some z) f e again = again z (past_next y.words z.words us h (line_onward y.words z b f)) e
 
 replay_standing : (ls : List (List ℕ)) (x : Point) → replay ls ≡ right x → Standing x.words (line_moments ls)
 unfolding replay applied_or line_moments
@@ -202,23 +204,23 @@ replay_standing [] x e = absurd (let z : ◌≡◌ {A = ℕ} 0 1 = cc in omega a
 replay_standing (b ∷ bs) x e = of (first_line b) refl e
   where
     of : (z : Option Point) → first_line b ≡ z → replay_from 2 (applied_or 1 z) bs ≡ right x → Standing x.words (after_lines (onward z []) bs)
-    of none f e = absurd (let q : wrong 1 ≡ right x = sym (wrong_stays 2 1 bs) ∙ e in let z : ◌≡◌ {A = ℕ} 0 1 = cc in omega arith)
-    of (some z) f e = further_standing 2 z [] (first_standing b z f).1 bs x e
+    of None f e = absurd (let q : wrong 1 ≡ right x = sym (wrong_stays 2 1 bs) ∙ e in let z : ◌≡◌ {A = ℕ} 0 1 = cc in omega arith)
+    of (Some z) f e = further_standing 2 z [] (first_standing b z f).1 bs x e
 
 -- ---- calls
 
 restore_standing : (v journal : List ℕ) (room : ℕ) → restoring.accepted (restore_answer v journal room) ≡ true → Standing (restored_words v journal room) (line_moments (lines_of journal))
 unfolding restore_answer restored_words restoring.accepted replay_answer replay_words
-restore_standing v journal room e = of (eqb (lent_answer (length v) room) 0) (replay (lines_of journal)) refl e
+restore_standing v journal room e = of (lent_answer (length v) room) (replay (lines_of journal)) refl e
   where
-    of : (b : Bool) (r : Replay) → replay (lines_of journal) ≡ r → restoring.accepted (cond b (replay_answer r (length (joined (lines_of journal)))) (restored.Refused (lent_answer (length v) room))) ≡ true → Standing (cond b (replay_words r v) v) (line_moments (lines_of journal))
-    of false r f e = absurd (false≢true e)
-    of true (wrong k) f e = absurd (false≢true e)
-    of true (right x) f e = replay_standing (lines_of journal) x f
+    of : (a : Result (Unit {0}) Refusal) (r : Replay) → replay (lines_of journal) ≡ r → restoring.accepted (where_lent a (replay_answer r (length (joined (lines_of journal))))) ≡ true → Standing (cond (is_ok a) (replay_words r v) v) (line_moments (lines_of journal))
+    of (Err k) r f e = absurd (false≢true e)
+    of (Ok tt) (wrong k) f e = absurd (false≢true e)
+    of (Ok tt) (right x) f e = replay_standing (lines_of journal) x f
 
 -- a call on the words w of a session
 module _ (w : List ℕ) (us : List (List ℕ)) (h : Standing w us) where
-  opening_standing : (o : Arguments) (room : ℕ) (b : Bool) → eqb (open_number (length w) o room) 0 ≡ b → Standing (opened_words w o room) (cond b (opened_words w o room ∷ []) us)
+  opening_standing : (o : Arguments) (room : ℕ) (b : Bool) → is_ok (open_line_answer (length w) o room) ≡ b → Standing (opened_words w o room) (cond b (opened_words w o room ∷ []) us)
   opening_standing o room true f =
       let t = open_taken w o room f in
       subst (λ (y : List ℕ). Standing y (y ∷ [])) (sym t.1) (opened_standing w o t.0)
@@ -312,15 +314,15 @@ module _ (w : List ℕ) (us : List (List ℕ)) (h : Past w us) (i r : ℕ) where
       let y : ActTold (settings_of w) w (act.Aux i r b) = subst (ActTold (settings_of w) w) e t in
       told_first b y.0.low (omega (arith, y.0.high, ruled.few)) y.1
 
-  sent_first : (b : ℕ) (out : List ℕ) → turn_outcome w (length out) ≡ Sent (message.Aux i r b) → First (settings_of w) (w ∷ us) i r b
+  sent_first : (b : ℕ) (out : List ℕ) → turn_outcome w (length out) ≡ Ok (Sent (message.Aux i r b)) → First (settings_of w) (w ∷ us) i r b
   sent_first b out e = of (way w out)
     where
       of : Way w out → First (settings_of w) (w ∷ us) i r b
-      of (refused k x) = absurd (let q : Refused k ≡ Sent (message.Aux i r b) = sym x.answer ∙ e in let z : ◌≡◌ {A = ℕ} 0 1 = cc in omega arith)
+      of (refused k x) = absurd (let q : ◌≡◌ {A = Result Outcome Refusal} (Err k) (Ok (Sent (message.Aux i r b))) = sym x.answer ∙ e in let z : ◌≡◌ {A = ℕ} 0 1 = cc in omega arith)
       of (taken x t) =
           let s : x.settings ≡ settings_of w = admitted_settings w (length out) x t.admits in
           let told : ActTold (settings_of w) w (due (settings_of w) w) = subst (λ (g : Settings). ActTold g w (due g w)) s t.told in
-          let is : due (settings_of w) w ≡ act.Aux i r b = subst (λ (g : Settings). due g w ≡ act.Aux i r b) s (aux_act_lem x.own w (due x.settings w) i r b (sym t.answer ∙ e)) in
+          let is : due (settings_of w) w ≡ act.Aux i r b = subst (λ (g : Settings). due g w ≡ act.Aux i r b) s (aux_act_lem x.own w (due x.settings w) i r b (same_outcome _ _ (sym t.answer ∙ e))) in
           due_first b (subst Ruled s (admitted_ruled w (length out) x t.admits)) (due (settings_of w) w) told is
 
 pub accepted_first_lem : AcceptedFirst
@@ -329,5 +331,5 @@ accepted_first_lem start cs q w us e =
     let h : Standing (words engine start cs q) (w ∷ us) = subst (Standing (words engine start cs q)) e (calls_standing start cs q) in
     record {
       current = h.0;
-      first = λ room line i r b f. sent_first w us h.1 i r b (blank (turn_room room line)) (subst (λ (k : ℕ). turn_outcome w k ≡ Sent (message.Aux i r b)) (sym (length_blank (turn_room room line))) f);
+      first = λ room line i r b f. sent_first w us h.1 i r b (blank (turn_room room line)) (subst (λ (k : ℕ). turn_outcome w k ≡ Ok (Sent (message.Aux i r b))) (sym (length_blank (turn_room room line))) f);
     }

@@ -1,10 +1,10 @@
 -- What one call changes of the values that are accepted in a round, and of the mark of the one accepted first.
-use Rattle.std.specs.Prelude.{ℕ, ◌+◌, ◌≤◌, Bool, ◌&&◌, ◌||◌, not, cond, List, ◌⊎◌, ◌≢◌, ◌≡◌, eqb, leb, length, drop}
+use Rattle.std.specs.Prelude.{ℕ, ◌+◌, ◌≤◌, Bool, ◌&&◌, ◌||◌, not, cond, List, ◌⊎◌, ◌≢◌, ◌≡◌, eqb, leb, length, drop, Ok, Result, Err}
 use Rattle.std.proofs.Math.Bool.{true, false, or-false}
-use Rattle.std.proofs.Common.{inl, inr, sym, ap₂, subst, ◌∙◌, arith}
+use Rattle.std.proofs.Common.{true≢false, inl, inr, sym, ap₂, subst, ◌∙◌, arith}
 use Rattle.std.proofs.Math.Path.{refl, ap}
 use Rattle.std.proofs.Math.Decide.{ℕ_discrete}
-use borrow.Author.Tests.{eqb-true, leb-true, le-leb, ne_eqb}
+use borrow.Author.Tests.{leb-true, le-leb, ne_eqb}
 use Rattle.quorum.specs.laws.Bools.{or_right, same_tests}
 use Rattle.quorum.specs.Marks.{mark}
 use Rattle.quorum.specs.laws.Marks.{mark_other}
@@ -40,6 +40,10 @@ use Rattle.turn.specs.laws.Admitting.{admitted_ruled}
 use Rattle.turn.specs.laws.Turn.{Taken, Way, refused, taken, way}
 use Rattle.held.specs.laws.Recording.{est_place}
 use Rattle.accepted_first.proofs.laws.Facts.{Change}
+use Rattle.std.specs.Result.{is_ok}
+use Rattle.settings.specs.laws.Answers.{true_taken}
+use Rattle.settings.specs.declared.refusal.Refusal.{Refusal}
+use Rattle.settings.specs.laws.Answers.{taken_true, refused_false}
 
 -- the changes in round r of vote i from the words w to the words t, by the settings g
 abbrev pub Changes : Settings → ℕ → ℕ → List ℕ → List ℕ → Type 0
@@ -112,7 +116,7 @@ unfolding settings_of
 state_few w x = x.ruled.few
 
 pub recording_onward : (w : List ℕ) (i r b : ℕ) → Onward w (recorded_words w i r b)
-recording_onward w i r b = of (eqb (record_answer w i r b) 0) refl
+recording_onward w i r b = of (is_ok (record_answer w i r b)) refl
   where
     at : recordings.Recordable w i r b → Onward w (with_bit w i r b)
     at x = at_words
@@ -130,8 +134,8 @@ recording_onward w i r b = of (eqb (record_answer w i r b) 0) refl
             (settings_same w (with_bit w i r b) (other n_at (inl (omega arith))) (other ta_at (inl (omega arith))) (other ts_at (inl (omega arith))) (other weights_at (inr (omega arith))))
             (λ a l. other a (inr (omega arith)))
 
-    of : (c : Bool) → eqb (record_answer w i r b) 0 ≡ c → Onward w (recorded_words w i r b)
-    of true e = subst (Onward w) (sym (recordings.accepted_marks w i r b e)) (at (recordings.accepted w i r b (eqb-true (record_answer w i r b) 0 e)))
+    of : (c : Bool) → is_ok (record_answer w i r b) ≡ c → Onward w (recorded_words w i r b)
+    of true e = subst (Onward w) (sym (recordings.accepted_marks w i r b e)) (at (recordings.accepted w i r b (true_taken (record_answer w i r b) e)))
     of false e = subst (Onward w) (sym (recordings.refused_same w i r b e)) (same_onward w)
 
 -- ---- a delivery
@@ -296,11 +300,11 @@ recorded_onward w link b m a =
 
 -- a delivery: refused, it changes nothing
 pub delivery_onward : (w : List ℕ) (link : ℕ) (b : List ℕ) → Onward w (delivered w link b)
-delivery_onward w link b = of (ℕ_discrete (deliver_answer w link b) 0)
+delivery_onward w link b = of (deliver_answer w link b) refl
   where
     taken_message : Taking w link b → Onward w (delivered w link b)
     taken_message k = subst (Onward w) (sym k.words) (recorded_onward w link b k.message (accepting w link b k.message k.accepted))
 
-    of : Dec (deliver_answer w link b ≡ 0) → Onward w (delivered w link b)
-    of (yes e) = taken_message (answer_accepted w link b e)
-    of (no ne) = subst (Onward w) (sym (answer_refused w link b ne)) (same_onward w)
+    of : (a : Result (Unit {0}) Refusal) → deliver_answer w link b ≡ a → Onward w (delivered w link b)
+    of (Ok tt) e = taken_message (answer_accepted w link b e)
+    of (Err k) e = subst (Onward w) (sym (answer_refused w link b (λ z. true≢false (sym (taken_true _ z) ∙ refused_false _ k e)))) (same_onward w)

@@ -8,7 +8,7 @@ use Rattle.acts.specs.Acts.{is_due, act_at, first_act}
 use Rattle.acts.specs.declared.Act.{Act}
 use Rattle.acts.specs.declared.Act.TheVariants.{Idle}
 
--- a loop `i = 0; while i < n { i += 1; let a = f(i); if is_due(a) { return a; } }` that has passed 1 to k
+-- a loop `for k in 0..n { let a = f(k + 1); if is_due(a) { return a; } }` that has passed 1 to k
 abbrev pub Quiet : (ℕ → Act) → ℕ → ℕ → Type 0
 Quiet f n k = Passed (λ i. is_due (f i)) n k
 

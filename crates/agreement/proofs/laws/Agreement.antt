@@ -7,7 +7,7 @@ use Rattle.exits.specs.Standing.{Standing}
 use Rattle.exits.proofs.laws.Agree.{Compatible, exits_agree}
 use Rattle.exits.proofs.laws.Fair.{named_only, named_fair}
 use Rattle.agreement.specs.Evidence.{World, Sound, Honest}
-use Rattle.agreement.proofs.laws.Evidence.{Some, backed_map, one_of}
+use Rattle.agreement.proofs.laws.Evidence.{Somebody, backed_map, one_of}
 use Rattle.agreement.specs.History.{Act, send, commit, History, Single, Did, Event, zero, one, Stands, Naming, Guard, Lawful}
 use Rattle.agreement.proofs.laws.Broadcasts.{output_agree, output_sent}
 use Rattle.agreement.proofs.laws.Votes.{decided_keep, decided_agree}
@@ -67,7 +67,7 @@ module _ (W : World) (G : ℕ → Act → Type 0) where
     pub force_named : (h : History) → Lawful W G h → (X : List ℕ) → InForce W h X → NamedBefore W h X
     force_named h law X x = let o = one_of W so (omega arith) x in commit_named X h law o.who o.has
 
-    shown_naming : (h : History) → Lawful W G h → (X : List ℕ) → Shown W h X → Some (Naming W h X)
+    shown_naming : (h : History) → Lawful W G h → (X : List ℕ) → Shown W h X → Somebody (Naming W h X)
     shown_naming h law X (by_exits p x) = record { who = p; has = x }
     shown_naming h law X (by_in_force x) =
         let b = force_named h law X x in
@@ -77,7 +77,7 @@ module _ (W : World) (G : ℕ → Act → Type 0) where
     pub honest_sent : (h : History) → Lawful W G h → (X : List ℕ) → Shown W h X → HonestSent W h X
     honest_sent h law X x = of (shown_naming h law X x)
       where
-        of : Some (Naming W h X) → HonestSent W h X
+        of : Somebody (Naming W h X) → HonestSent W h X
         of o =
             let s = o.has.standing in
             let f = named_fair W.settings so.ruled W.honest (omega arith) s o.has.names.exit in
@@ -95,7 +95,7 @@ module _ (W : World) (G : ℕ → Act → Type 0) where
     pub validity : (h : History) → Lawful W G h → (v : ℕ) → ((i u : ℕ) → Honest W i → Did h i (send u) → u ≡ v) → (X : List ℕ) → Shown W h X → X ≡ v ∷ []
     validity h law v same X x = of (shown_naming h law X x)
       where
-        of : Some (Naming W h X) → X ≡ v ∷ []
+        of : Somebody (Naming W h X) → X ≡ v ∷ []
         of o =
             let s = o.has.standing in
             sym o.has.names.set

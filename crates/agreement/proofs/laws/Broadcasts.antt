@@ -3,7 +3,7 @@
 use Rattle.std.specs.Prelude.{ℕ, ◌≡◌}
 use Rattle.std.proofs.Common.{inl, inr, arith}
 use Rattle.agreement.specs.Evidence.{World, whole, Sound, Honest, Backed}
-use Rattle.agreement.proofs.laws.Evidence.{Some, backed_map, one_of, two_of}
+use Rattle.agreement.proofs.laws.Evidence.{Somebody, backed_map, one_of, two_of}
 use Rattle.agreement.specs.History.{Act, send, echo, ready, History, Did, Single, Heard, Delivers, Guard, Lawful}
 use Rattle.agreement.proofs.laws.History.{by_history}
 
@@ -22,7 +22,7 @@ module _ (W : World) (G : ℕ → Act → Type 0) where
         step h p (inr x) rest = let o = one_of W so (omega arith) x in rest o.who o.has
 
     -- an output rests on a READY
-    output_ready : (h : History) (i v : ℕ) → Delivers W h i v → Some (λ m. Did h m (ready i v))
+    output_ready : (h : History) (i v : ℕ) → Delivers W h i v → Somebody (λ m. Did h m (ready i v))
     output_ready h i v x = one_of W so (omega arith) x
 
     -- an ECHO of an honest concentrator's broadcast rests on its SEND

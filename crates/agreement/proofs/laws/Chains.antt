@@ -1,7 +1,6 @@
 -- What holds of each opened one and of its journal: each line leads back to a state that belongs to its opening and holds only what was said.
-use Rattle.std.specs.Prelude.{ℕ, Bool, List, [], ◌∷◌, ◌⊎◌, ◌≡◌, refl}
+use Rattle.std.specs.Prelude.{ℕ, Bool, List, [], ◌∷◌, ◌⊎◌, ◌≡◌, refl, Option, Some, None}
 use Rattle.std.proofs.Common.{inl, inr, sym, eq-eqb}
-use Rattle.std.proofs.Math.Option.{Option, none, some}
 use Rattle.settings.specs.Rules.{Ruled}
 use Rattle.agreement.specs.Evidence.{World, Honest}
 use Rattle.agreement.specs.History.{Act, History, by, Lawful}
@@ -20,20 +19,20 @@ use Rattle.agreement.proofs.laws.Openings.{did, tell, status, history}
 module _ (M : Machine) (R : Reading M) (start : ℕ → M.Words) where
   -- the act of a line
   abbrev pub noted : Moment M → Option Act
-  noted [] = none
-  noted (opening p o ∷ cs) = none
-  noted (delivery p m b ∷ cs) = none
+  noted [] = None
+  noted (opening p o ∷ cs) = None
+  noted (delivery p m b ∷ cs) = None
   noted (turn p l ∷ cs) = R.act (words M start cs p) l
-  noted (report p r ∷ cs) = none
-  noted (restore p v r ∷ cs) = none
-  noted (recording p x ∷ cs) = none
+  noted (report p r ∷ cs) = None
+  noted (restore p v r ∷ cs) = None
+  noted (recording p x ∷ cs) = None
 
   -- a stands in a journal
   abbrev pub Noted : Journal M → Act → Type 0
   Noted [] a = ⊥
-  Noted (d ∷ js) a = (noted d ≡ some a) ⊎ Noted js a
+  Noted (d ∷ js) a = (noted d ≡ Some a) ⊎ Noted js a
 
-  pub noted_within : {d : Moment M} {ks js : Journal M} (a : Act) → Within (d ∷ ks) js → noted d ≡ some a → Noted js a
+  pub noted_within : {d : Moment M} {ks js : Journal M} (a : Act) → Within (d ∷ ks) js → noted d ≡ Some a → Noted js a
   noted_within a now e = inl e
   noted_within a (after c w) e = inr (noted_within a w e)
 
@@ -42,8 +41,8 @@ module _ (M : Machine) (R : Reading M) (start : ℕ → M.Words) where
   words_here c cs = rw (eq-eqb (place M c) (place M c) refl)
 
   tell_within : {k : History} (p : ℕ) (x : Option Act) (h : History) → Within k h → Within k (tell M R p x h)
-  tell_within p none h w = w
-  tell_within p (some a) h w = after (by p a) w
+  tell_within p None h w = w
+  tell_within p (Some a) h w = after (by p a) w
 
   pub history_within : {ds cs : List (Call M)} → Within ds cs → Within (history M R start ds) (history M R start cs)
   unfolding history
@@ -86,8 +85,8 @@ module _ (M : Machine) (R : Reading M) (H : ℕ → Bool) (κ : ℕ → ℕ → 
     pub chain : Chain o h p js
 
   abbrev pub At : Option M.Opening → History → ℕ → M.Words → Journal M → Type 0
-  At none h p w js = Unit {0}
-  At (some o) h p w js = Live o h p w js
+  At None h p w js = Unit {0}
+  At (Some o) h p w js = Live o h p w js
 
   pub record Good (cs : List (Call M)) : Type 0 where
     pub lawful : Lawful W (Gone W R.seen Left) (history M R start cs)
@@ -110,8 +109,8 @@ module _ {M : Machine} {R : Reading M} {H : ℕ → Bool} {κ : ℕ → ℕ → 
     keeps = rw (live.same, live.ends) newest_point.keeps
 
   point_keep : (x : Option Act) (q : ℕ) (d : Moment M) (ks : Journal M) → Point M R H κ start S calls o h p d ks → Point M R H κ start S calls o (tell M R q x h) p d ks
-  point_keep none q d ks x = x
-  point_keep (some a) q d ks x =
+  point_keep None q d ks x = x
+  point_keep (Some a) q d ks x =
       record { belongs = x.belongs; ran = x.ran; keeps = inv_keep (world_with M S H κ) R.seen (Left M R H κ start S calls) (by q a) h (Noted M R start (d ∷ ks)) p (words M start d p) x.keeps }
 
   module _ {w : M.Words} {js : Journal M} (live : Live M R H κ start S calls o h p w js) where
@@ -152,9 +151,9 @@ module _ {M : Machine} {R : Reading M} {H : ℕ → Bool} {κ : ℕ → ℕ → 
 
 module _ (M : Machine) (R : Reading M) (H : ℕ → Bool) (κ : ℕ → ℕ → Bool) (start : ℕ → M.Words) (S : M.Session) (calls : List (Call M)) where
   pub elsewhere : (st : Option M.Opening) (x : Option Act) (h : History) (p q : ℕ) (w : M.Words) (js : Journal M) → At M R H κ start S calls st h q w js → At M R H κ start S calls st (tell M R p x h) q w js
-  elsewhere none x h p q w js g = tt
-  elsewhere (some o) x h p q w js g = live_keep g x p
+  elsewhere None x h p q w js g = tt
+  elsewhere (Some o) x h p q w js g = live_keep g x p
 
   -- one that is opened is live
-  pub known_live : (cs : List (Call M)) → Good M R H κ start S calls cs → (p : ℕ) (o : M.Opening) → status M R start cs p ≡ some o → Live M R H κ start S calls o (history M R start cs) p (words M start cs p) (journal M start cs p)
+  pub known_live : (cs : List (Call M)) → Good M R H κ start S calls cs → (p : ℕ) (o : M.Opening) → status M R start cs p ≡ Some o → Live M R H κ start S calls o (history M R start cs) p (words M start cs p) (journal M start cs p)
   known_live cs g p o e = rw e at (g.each p)

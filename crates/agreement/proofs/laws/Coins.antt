@@ -1,9 +1,8 @@
 -- The coins of a session as one function of vote and round: the printed ones, or, in a boxed session, the bits that the opened honest ones
 -- recorded. Bits that agree two by two are those of such a function.
 use Prim.Native.Nat.{ℕ, ◌≤◌}
-use Rattle.std.specs.Prelude.{Bool, true, false, ◌&&◌, cond, List, [], ◌∷◌, ◌≡◌, eqb}
+use Rattle.std.specs.Prelude.{Bool, true, false, ◌&&◌, cond, List, [], ◌∷◌, ◌≡◌, eqb, Option, Some, None}
 use Rattle.std.proofs.lemmas.Bool.{false≢true}
-use Rattle.std.proofs.Math.Option.{Option, none, some}
 use Rattle.std.proofs.Math.Path.{refl, sym, ap}
 use Rattle.std.proofs.Common.{◌∙◌, arith, eq-eqb, eqb-true}
 use Rattle.votes.specs.Votes.{coin_value}
@@ -47,8 +46,8 @@ module _ (M : Machine) (R : Reading M) (start : ℕ → M.Words) where
   tells (turn p l) w st i r = false
   tells (report p l) w st i r = false
   tells (restore p v t) w st i r = false
-  tells (recording p x) w none i r = false
-  tells (recording p x) w (some o) i r = M.records w x && (eqb (M.vote x) i && eqb (M.round x) r)
+  tells (recording p x) w None i r = false
+  tells (recording p x) w (Some o) i r = M.records w x && (eqb (M.vote x) i && eqb (M.round x) r)
 
   abbrev told_bit : Call M → Bool
   told_bit (opening p o) = false
@@ -84,8 +83,8 @@ module _ (M : Machine) (R : Reading M) (start : ℕ → M.Words) where
       w = words M start cs p
 
       at : (st : Option M.Opening) → status M R start cs p ≡ st → tells (recording p x) w st i r ≡ true → Found (recording p x ∷ cs) i r
-      at none s f = absurd (false≢true f)
-      at (some o) s f =
+      at None s f = absurd (false≢true f)
+      at (Some o) s f =
           let a = and_true (M.records w x) (eqb (M.vote x) i && eqb (M.round x) r) f in
           let b = and_true (eqb (M.vote x) i) (eqb (M.round x) r) a.1 in
           record {

@@ -1,8 +1,7 @@
 -- Every machine that keeps the laws meets the claims of specs/DemandThree.antt.
-use Rattle.std.specs.Prelude.{ℕ, ◌≤◌, Bool, ◌≡◌}
+use Rattle.std.specs.Prelude.{ℕ, ◌≤◌, Bool, ◌≡◌, Option, Some, None}
 use mathlib.Core.List.{List, [], ◌∷◌}
 use Rattle.std.proofs.Common.{inl, inr, sym, ◌∙◌, arith}
-use Rattle.std.proofs.Math.Option.{Option, none, some}
 use Rattle.std.proofs.Math.Path.{refl, ap}
 use Rattle.agreement.specs.Evidence.{World, whole, liars, Sound, Backed}
 use Rattle.agreement.proofs.laws.Evidence.{sound, one_of}
@@ -132,11 +131,11 @@ module _ (M : Machine) (R : Reading M) (H : ℕ → Bool) (κ : ℕ → ℕ → 
     commit_earlier (c ∷ cs) k p d = at (did M R c (words M start cs (place M c)) (status M R start cs (place M c))) refl d (λ m e. commit_earlier cs (within_tail c k) m e)
       where
         at : (x : Option Act) → did M R c (words M start cs (place M c)) (status M R start cs (place M c)) ≡ x → Did (tell M R (place M c) x (told cs)) p (commit X) → ((m : ℕ) → Did (told cs) m (commit X) → Then cs) → Then (c ∷ cs)
-        at none e d rest = longer c cs (rest p d)
-        at (some a) e (inl z) rest =
+        at None e d rest = longer c cs (rest p d)
+        at (Some a) e (inl z) rest =
             let same : a ≡ commit X = cc in
-            committing c cs k (did_turn M R start c (words M start cs (place M c)) (status M R start cs (place M c)) (commit X) (e ∙ ap some same)) rest
-        at (some a) e (inr d) rest = longer c cs (rest p d)
+            committing c cs k (did_turn M R start c (words M start cs (place M c)) (status M R start cs (place M c)) (commit X) (e ∙ ap Some same)) rest
+        at (Some a) e (inr d) rest = longer c cs (rest p d)
 
     force_earlier : (cs : List (Call M)) → Here cs → (p : ℕ) → Opened M start cs p → M.InForce (words M start cs p) X → Then cs
     force_earlier cs k p o f =

@@ -1,9 +1,8 @@
 -- What a turn of the engine changes: nothing that is held, no mark of an ECHO or AUX vanishes, a new decision is that of the move.
-use Rattle.std.specs.Prelude.{ℕ, ◌+◌, ◌≤◌, true, false, not, List, ◌⊎◌, ◌≡◌, refl, eqb}
+use Rattle.std.specs.Prelude.{ℕ, ◌+◌, ◌≤◌, true, false, not, List, ◌⊎◌, ◌≡◌, refl, eqb, Option, Some, None}
 use Rattle.std.proofs.Math.Bool.{Bool}
 use Rattle.std.proofs.lemmas.Bool.{false≢true}
 use Rattle.std.proofs.Common.{inl, inr, sym, ap, ◌∙◌, eqb-true}
-use Rattle.std.proofs.Math.Option.{Option, none, some}
 use native.Mathlib.Omega.{arith}
 use Rattle.quorum.specs.laws.Bools.{and_right}
 use Rattle.settings.specs.Rules.{Ruled}
@@ -121,8 +120,8 @@ module _ (o : OpeningGiven) (H : ℕ → Bool) (κ : ℕ → ℕ → Bool) (w : 
   -- ---- the acts that show
 
   abbrev pub ShownActed : acts.Act → Option Act → Type 0
-  ShownActed a none = Unit {0}
-  ShownActed a (some b) = Acted W engine_seen w (applied w a) b
+  ShownActed a None = Unit {0}
+  ShownActed a (Some b) = Acted W engine_seen w (applied w a) b
 
   -- neither ECHO nor AUX
   plain : (g : Settings) (a : acts.Act) (b : Act) → Placed a → ((i : ℕ) → SameMove g a b i) → ((i v : ℕ) → b ≡ echo i v → ⊥) → ((i r c : ℕ) → b ≡ aux i r c → ⊥) → Acted W engine_seen w (applied w a) b

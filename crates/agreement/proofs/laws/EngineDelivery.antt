@@ -1,14 +1,13 @@
 -- The engine keeps the laws of delivery: a refused one leaves the words; after an accepted one they belong to the session as before, and
 -- hold at most one message more, which is what the bytes say; what is newly decided has its FINISHes. Bytes say one message.
-use Rattle.std.specs.Prelude.{ℕ, ◌≤◌, ◌<◌, ◌%◌, ◌^◌, Bool, ◌⊎◌, ◌≡◌, length, drop}
+use Rattle.std.specs.Prelude.{ℕ, ◌≤◌, ◌<◌, ◌%◌, ◌^◌, Bool, ◌⊎◌, ◌≡◌, length, drop, Ok, Result}
 use Rattle.std.proofs.Math.Bool.{true, false}
 use mathlib.Core.List.{List}
 use Rattle.std.proofs.Math.Logic.{inl, inr}
 use Rattle.std.proofs.Math.Path.{refl, sym, ap, subst}
-use Rattle.std.proofs.Common.{◌∙◌, eqb-true}
+use Rattle.std.proofs.Common.{true≢false, ◌∙◌}
 use native.Mathlib.Omega.{arith}
 use Rattle.std.proofs.Math.Nat.{mod-eq_of_lt}
-use Rattle.std.proofs.lemmas.Bool.{eqb-false}
 use Rattle.quorum.specs.Marks.{mark}
 use Rattle.settings.specs.declared.Settings.{Settings}
 use Rattle.records.specs.Layout.{n_at, ta_at, ts_at, own_at, session_at, input_at, weights_at, boxed_at, version_at, coin_at, aux_sent_at, echo_sent_at}
@@ -21,7 +20,6 @@ use Rattle.wire.specs.Message.{count_of, values_of}
 use Rattle.wire.specs.Reading.{read_message}
 use Rattle.wire.specs.declared.Message as wire_message
 use Rattle.wire.specs.declared.Message.TheVariants as wire
-use Rattle.wire.specs.declared.Parsed.TheVariants.{Taken}
 use Rattle.wire_laws.proofs.laws.Forms.{Form}
 use Rattle.wire_laws.specs.RoundTrip.{Encoded}
 use Rattle.wire_laws.specs.Proper.{Fitting, Layout}
@@ -32,7 +30,7 @@ use Rattle.delivery.specs.laws.Answers.{Taking, answer_accepted, answer_refused}
 use Rattle.delivery.specs.Delivery.{place_held, recorded, deliver_answer, delivered}
 use Rattle.delivery.specs.laws.Frame.{InLayout, length_recorded}
 use Rattle.delivery.specs.laws.Kept.{in_layout_lem, SetAfter, before, now, set_after, Untouched, word_untouched, word_free, ValueFits, fit_recorded}
-use Rattle.journal.specs.Journal.{LINE_BYTES, deliver_number, delivered_words}
+use Rattle.journal.specs.Journal.{LINE_BYTES, deliver_line_answer, delivered_words}
 use Rattle.journal.specs.laws.Journal.{line_taken, line_words_lem, line_stays}
 use Rattle.agreement.specs.Evidence.{World}
 use Rattle.agreement.specs.History.{Decision, zero, one}
@@ -45,6 +43,9 @@ use Rattle.calls.specs.Engine.{OpeningGiven, Agreed, Bytes, engine}
 use Rattle.agreement.proofs.laws.Machine.{at, Delivery}
 use Rattle.agreement.proofs.laws.EngineSeen.{engine_seen, coins_stay}
 use Rattle.agreement.proofs.laws.EngineReading.{Belongs, settings_same, Sets, Belonging, Says, engine_reading}
+use Rattle.settings.specs.laws.Answers.{true_taken}
+use Rattle.settings.specs.declared.refusal.Refusal.{Refusal}
+use Rattle.settings.specs.laws.Answers.{taken_true}
 
 -- the values of a message that is taken have 64 bits
 value_fits : (m : wire_message.Message) (xs v : List ℕ) → Fitting (values_of m xs) → ((j : ℕ) → value_at v j < 2 ^ 64) → ValueFits m v
@@ -160,7 +161,7 @@ module _ (o : OpeningGiven) (w : List ℕ) (B : Belongs o w) (v : List ℕ) (p :
 
 module _ (o : OpeningGiven) (w : List ℕ) (B : Belongs o w) (S : Sets o w) (p : ℕ) (b : Bytes) where
   -- the message is taken in the session of the opening
-  session_taken : (m : wire_message.Message) → Accepting w p b.list m → read_message o.given.version o.given.n o.given.session p b.list ≡ Taken m
+  session_taken : (m : wire_message.Message) → Accepting w p b.list m → read_message o.given.version o.given.n o.given.session p b.list ≡ Ok m
   unfolding session_of session_with settings_of
   session_taken m a =
       let number : word w session_at % 2 ^ 32 ≡ o.given.session = ap (λ (x : ℕ). x % 2 ^ 32) B.is_session ∙ mod-eq_of_lt o.session_fits in
@@ -174,7 +175,7 @@ module _ (o : OpeningGiven) (w : List ℕ) (B : Belongs o w) (S : Sets o w) (p :
     message_accepting : Accepting w p b.list t.message
     message_accepting = accepting w p b.list t.message t.accepted
 
-    read : read_message o.given.version o.given.n o.given.session p b.list ≡ Taken t.message
+    read : read_message o.given.version o.given.n o.given.session p b.list ≡ Ok t.message
     read = session_taken t.message message_accepting
 
     form : Form o.given.version o.given.n o.given.session p b.list t.message
@@ -210,23 +211,23 @@ module _ (o : OpeningGiven) (w : List ℕ) (B : Belongs o w) (S : Sets o w) (p :
 
 -- ---- the laws
 
-pub without_line : (w : List ℕ) (m : ℕ) (b : Bytes) → engine.accepts w m b ≡ true → (deliver_answer w m b.list ≡ 0) × (LINE_BYTES ≤ b.line)
-unfolding deliver_number
-without_line w m b e = line_taken _ b.line (eqb-true _ 0 e)
+pub without_line : (w : List ℕ) (m : ℕ) (b : Bytes) → engine.accepts w m b ≡ true → (deliver_answer w m b.list ≡ Ok tt) × (LINE_BYTES ≤ b.line)
+unfolding deliver_line_answer
+without_line w m b e = line_taken _ b.line (true_taken _ e)
 
 pub delivered_words_lem : (w : List ℕ) (m : ℕ) (b : Bytes) → LINE_BYTES ≤ b.line → engine.delivered w m b ≡ delivered w m b.list
 unfolding delivered_words
 delivered_words_lem w m b l = line_words_lem b.line w _ l
 
 pub deliver_refused : (w : List ℕ) (m : ℕ) (b : Bytes) → engine.accepts w m b ≡ false → engine.delivered w m b ≡ w
-unfolding deliver_number delivered_words
-deliver_refused w m b e = line_stays _ b.line w _ e (λ f. answer_refused w m b.list (eqb-false (deliver_answer w m b.list) 0 f))
+unfolding deliver_line_answer delivered_words
+deliver_refused w m b e = line_stays _ b.line w _ e (λ f. answer_refused w m b.list (λ z. true≢false (sym (taken_true _ z) ∙ f)))
 
 pub deliver_accepted : (H : ℕ → Bool) (κ : ℕ → ℕ → Bool) (o : OpeningGiven) (w : List ℕ) → Belonging o w → (m : ℕ) (b : Bytes) → engine.accepts w m b ≡ true →
     Delivery engine engine_reading H κ o w m b
 deliver_accepted H κ o w B m b e = taking_delivery o w B.words B.sets m b H κ (answer_accepted w m b.list (without_line w m b e).0) (without_line w m b e).1
 
-same_taken : (a b : wire_message.Message) → Taken a ≡ Taken b → a ≡ b
+same_taken : (a b : wire_message.Message) → ◌≡◌ {A = Result wire_message.Message Refusal} (Ok a) (Ok b) → a ≡ b
 same_taken a b e = cc
 
 pub says_one : (S : Agreed) (m : ℕ) (b : Bytes) (x y : Message) → Says S m b x → Says S m b y → x ≡ y

@@ -1,9 +1,8 @@
 -- An act that is due in the engine's words has its evidence there.
-use Rattle.std.specs.Prelude.{ℕ, ◌+◌, ◌*◌, ◌≤◌, Bool, true, false, ◌&&◌, ◌||◌, List, ◌⊎◌, ◌≡◌, length}
+use Rattle.std.specs.Prelude.{ℕ, ◌+◌, ◌*◌, ◌≤◌, Bool, true, false, ◌&&◌, ◌||◌, List, ◌⊎◌, ◌≡◌, length, Some, None, Option}
 use Rattle.std.proofs.Math.Bool.{and-false}
 use Rattle.std.proofs.Common.{true≢false, ◌∙◌, arith}
 use Rattle.std.proofs.Math.Logic.{inl, inr}
-use Rattle.std.proofs.Math.Option.{Option, none, some}
 use Rattle.std.proofs.Math.Path.{refl, sym}
 use Rattle.std.proofs.Math.Decide.{ℕ_discrete}
 use Rattle.std.proofs.Math.Dec.{eqb}
@@ -19,8 +18,6 @@ use Rattle.acts.specs.declared.View.{View}
 use Rattle.acts.specs.declared.View.TheVariants.{Only, Both}
 use Rattle.broadcasts.specs.Leading.{present, holders}
 use Rattle.broadcasts.specs.Broadcasts.{output}
-use Rattle.broadcasts.specs.declared.Output.{Output}
-use Rattle.broadcasts.specs.declared.Output.TheVariants.{Value, Nothing}
 use Rattle.broadcasts.specs.laws.Broadcasts.{ready_rests, output_holders}
 use Rattle.votes.specs.Votes.{est_count, accepted, carries, carriers, aux_count}
 use Rattle.votes.specs.Finishing.{finish_count}
@@ -46,14 +43,14 @@ some_held a b false true e = inr refl
 some_held a b false false e = absurd (true≢false (sym e ∙ rw (and-false a, and-false b)))
 
 -- a broadcast that has output has a value
-present_value : (x : Output) → present x ≡ true → (v : ℕ) × (x ≡ Value v)
-present_value (Value v) e = (v, refl)
-present_value Nothing e = absurd (true≢false (sym e))
+present_value : (x : Option ℕ) → present x ≡ true → (v : ℕ) × (x ≡ Some v)
+present_value (Some v) e = (v, refl)
+present_value None e = absurd (true≢false (sym e))
 
 -- an act that shows is due
 abbrev pub ShownDue : World → List ℕ → Option Act → Type 0
-ShownDue W s none = Unit {0}
-ShownDue W s (some a) = Due W engine_seen s a
+ShownDue W s None = Unit {0}
+ShownDue W s (Some a) = Due W engine_seen s a
 
 module _ (s : List ℕ) (ruled : Ruled (settings_of s)) (size : length s ≡ 2048) (H : ℕ → Bool) (coin : ℕ → ℕ → Bool) where
   abbrev g : Settings

@@ -1,8 +1,7 @@
 -- The engine reads back its journal: the words after each line are those after the call that wrote it, so a restore of a cut leaves the words
 -- after the last complete line.
-use Rattle.std.specs.Prelude.{ℕ, suc, ◌+◌, Bool, true, false, cond, List, [], ◌∷◌, ◌++◌, ◌≡◌, refl, eqb, length}
+use Rattle.std.specs.Prelude.{ℕ, suc, ◌+◌, true, false, cond, List, [], ◌∷◌, ◌++◌, ◌≡◌, refl, length, Option, Some, None, Result, Ok, Err}
 use Rattle.std.proofs.lemmas.Bool.{false≢true}
-use Rattle.std.proofs.Math.Option.{Option, none, some}
 use Rattle.std.proofs.Common.{sym, ap, ◌∙◌, arith}
 use Rattle.wire_laws.specs.Proper.{AllBytes}
 use Rattle.opening.specs.Opening.{open_answer}
@@ -10,7 +9,7 @@ use Rattle.text.specs.Fields.{LF}
 use Rattle.journal.specs.Lines.{opening_text, delivery_text, turn_text, recording_text, with_end}
 use Rattle.journal.specs.Journal.{turn_room}
 use Rattle.restore.specs.Complete.{lines_of, joined}
-use Rattle.restore.specs.Restoring.{Point, first_line, next_line, Replay, wrong, right, applied_or, further, replay, replay_answer, replay_words, lent_answer, accepted, restore_answer, restored_words}
+use Rattle.restore.specs.Restoring.{Point, first_line, next_line, Replay, wrong, right, applied_or, further, replay, replay_answer, replay_words, lent_answer, where_lent, accepted, restore_answer, restored_words}
 use Rattle.restore.specs.laws.Written.{Without, AllWithout, lines_joined, joined_more, all_more, free_part, replay_one, replay_more}
 use Rattle.restore.specs.laws.WrittenLines.{EachByte, opening_without, delivery_without, turn_without, recording_without, first_reads, delivery_reads, turn_reads, recording_reads}
 use Rattle.calls.specs.Machine.{Call, opening, delivery, turn, report, restore, recording}
@@ -19,19 +18,20 @@ use Rattle.calls.specs.Engine.{OpeningGiven, Bytes, TurnLent, RestoreLent, BitGi
 use Rattle.agreement.proofs.laws.Machine.{Ran, by_opening, by_delivery, by_turn, by_recording, Torn, nothing, part}
 use Rattle.agreement.proofs.laws.EngineOpening.{without_line, told, opened_first}
 use Rattle.agreement.specs.EngineRestores.{Last}
-use Rattle.restore.specs.declared.Restored.TheVariants as answer
 use Rattle.agreement.proofs.laws.EngineDelivery as deliveries
 use Rattle.agreement.proofs.laws.EngineRecording as recordings
+use Rattle.std.specs.Result.{is_ok}
+use Rattle.settings.specs.declared.refusal.Refusal.{Refusal}
 
 abbrev pub words_before : Last → Option (List ℕ)
-words_before none = none
-words_before (some x) = some x.0
+words_before None = None
+words_before (Some x) = Some x.0
 
 -- what lines come to
 abbrev pub point : List ℕ → Last → Point
 point w last = record { words = w; turned = words_before last }
 
-open_again : (w : List ℕ) (o : OpeningGiven) → engine.opens w o ≡ true → first_line (opening_text o.given) ≡ some (point (engine.opened w o) none)
+open_again : (w : List ℕ) (o : OpeningGiven) → engine.opens w o ≡ true → first_line (opening_text o.given) ≡ Some (point (engine.opened w o) None)
 open_again w o e =
     let taken = ap (λ (k : ℕ). open_answer k o.given) (sym (told w o e).size) ∙ (without_line w o e).0 in
     rw (opened_first w o e) (first_reads o.given taken o.session_fits o.input_fits o.coins_fit)
@@ -40,15 +40,15 @@ each_byte : (b : List ℕ) → AllBytes b → EachByte b
 each_byte [] h = tt
 each_byte (x ∷ b) h = (h 0, each_byte b (λ i. h (suc i)))
 
-deliver_again : (w : List ℕ) (m : ℕ) (b : Bytes) → engine.accepts w m b ≡ true → next_line w (delivery_text m b.list) ≡ some (point (engine.delivered w m b) none)
+deliver_again : (w : List ℕ) (m : ℕ) (b : Bytes) → engine.accepts w m b ≡ true → next_line w (delivery_text m b.list) ≡ Some (point (engine.delivered w m b) None)
 deliver_again w m b e =
     let k = deliveries.without_line w m b e in
     rw (deliveries.delivered_words_lem w m b k.1) (delivery_reads w m b.list (each_byte b.list b.each) k.0)
 
-turn_again : (w : List ℕ) (l : TurnLent) → engine.acts w l ≡ true → next_line w turn_text ≡ some (point (engine.turned w l) (some (w, l)))
+turn_again : (w : List ℕ) (l : TurnLent) → engine.acts w l ≡ true → next_line w turn_text ≡ Some (point (engine.turned w l) (Some (w, l)))
 turn_again w l e = turn_reads w (turn_room (length l.message) l.line) e
 
-record_again : (w : List ℕ) (x : BitGiven) → engine.records w x ≡ true → next_line w (recording_text x.vote x.round x.bit) ≡ some (point (engine.recorded w x) none)
+record_again : (w : List ℕ) (x : BitGiven) → engine.records w x ≡ true → next_line w (recording_text x.vote x.round x.bit) ≡ Some (point (engine.recorded w x) None)
 record_again w x e =
     let k = recordings.without_line w x e in
     rw (recordings.recorded_words_lem w x k.1) (recording_reads w x.vote x.round x.bit k.0)
@@ -60,7 +60,7 @@ pub record Lines (t : List ℕ) (x : Point) : Type 0 where
   pub text : t ≡ joined (oldest ∷ others)
   pub replays : replay (oldest ∷ others) ≡ right x
 
-more : (t : List ℕ) (x y : Point) (b l : List ℕ) → Lines t x → l ≡ b ++ (LF ∷ []) → Without LF b → next_line x.words b ≡ some y → Lines (t ++ l) y
+more : (t : List ℕ) (x y : Point) (b l : List ℕ) → Lines t x → l ≡ b ++ (LF ∷ []) → Without LF b → next_line x.words b ≡ Some y → Lines (t ++ l) y
 unfolding further applied_or
 more t x y b l s e f n =
     record {
@@ -81,9 +81,9 @@ ran_lines _ _ _ (by_opening w o e) =
       text = refl;
       replays = replay_one (opening_text o.given) ∙ ap (applied_or 1) (open_again w o e);
     }
-ran_lines _ _ _ (by_delivery t w last m b r e) = more t (point w last) (point (engine.delivered w m b) none) (delivery_text m b.list) (engine.delivery_line_lem m b) (ran_lines t w last r) refl (delivery_without m b.list) (deliver_again w m b e)
-ran_lines _ _ _ (by_turn t w last l r e) = more t (point w last) (point (engine.turned w l) (some (w, l))) turn_text engine.turn_line_lem (ran_lines t w last r) refl turn_without (turn_again w l e)
-ran_lines _ _ _ (by_recording t w last x r e) = more t (point w last) (point (engine.recorded w x) none) (recording_text x.vote x.round x.bit) (engine.recording_line_lem x) (ran_lines t w last r) refl (recording_without x.vote x.round x.bit) (record_again w x e)
+ran_lines _ _ _ (by_delivery t w last m b r e) = more t (point w last) (point (engine.delivered w m b) None) (delivery_text m b.list) (engine.delivery_line_lem m b) (ran_lines t w last r) refl (delivery_without m b.list) (deliver_again w m b e)
+ran_lines _ _ _ (by_turn t w last l r e) = more t (point w last) (point (engine.turned w l) (Some (w, l))) turn_text engine.turn_line_lem (ran_lines t w last r) refl turn_without (turn_again w l e)
+ran_lines _ _ _ (by_recording t w last x r e) = more t (point w last) (point (engine.recorded w x) None) (recording_text x.vote x.round x.bit) (engine.recording_line_lem x) (ran_lines t w last r) refl (recording_without x.vote x.round x.bit) (record_again w x e)
 
 torn_free : (rest : List ℕ) → Torn engine rest → Without LF rest
 unfolding with_end
@@ -115,17 +115,17 @@ cut_read text t rest w last r torn e =
 
 pub restore_refused : (v : List ℕ) (r : RestoreLent) → engine.restores v r ≡ false → engine.restored v r ≡ v
 unfolding restore_answer restored_words accepted replay_answer replay_words
-restore_refused v r e = at (eqb (lent_answer (length v) (length r.message)) 0) (replay (lines_of r.journal)) e
+restore_refused v r e = at (lent_answer (length v) (length r.message)) (replay (lines_of r.journal)) e
   where
-    at : (b : Bool) (x : Replay) → accepted (cond b (replay_answer x (length (joined (lines_of r.journal)))) (answer.Refused (lent_answer (length v) (length r.message)))) ≡ false → cond b (replay_words x v) v ≡ v
-    at false x f = refl
-    at true (wrong k) f = refl
-    at true (right x) f = absurd (false≢true (sym f))
+    at : (a : Result (Unit {0}) Refusal) (x : Replay) → accepted (where_lent a (replay_answer x (length (joined (lines_of r.journal))))) ≡ false → cond (is_ok a) (replay_words x v) v ≡ v
+    at (Err k) x f = refl
+    at (Ok tt) (wrong k) f = refl
+    at (Ok tt) (right x) f = absurd (false≢true (sym f))
 
 pub restore_ran : (v : List ℕ) (r : RestoreLent) (t rest w : List ℕ) (last : Last) → Ran engine t w last → Torn engine rest → r.journal ≡ t ++ rest → engine.restores v r ≡ true → engine.restored v r ≡ w
 unfolding restore_answer restored_words accepted replay_answer replay_words
-restore_ran v r t rest w last ran torn e f = rw (cut_read r.journal t rest w last ran torn e).replays (at (eqb (lent_answer (length v) (length r.message)) 0) f)
+restore_ran v r t rest w last ran torn e f = rw (cut_read r.journal t rest w last ran torn e).replays (at (lent_answer (length v) (length r.message)) f)
   where
-    at : (b : Bool) → accepted (cond b (replay_answer (replay (lines_of r.journal)) (length (joined (lines_of r.journal)))) (answer.Refused (lent_answer (length v) (length r.message)))) ≡ true → cond b w v ≡ w
-    at true g = refl
-    at false g = absurd (false≢true g)
+    at : (a : Result (Unit {0}) Refusal) → accepted (where_lent a (replay_answer (replay (lines_of r.journal)) (length (joined (lines_of r.journal))))) ≡ true → cond (is_ok a) w v ≡ w
+    at (Ok tt) g = refl
+    at (Err k) g = absurd (false≢true g)

@@ -1,5 +1,5 @@
 -- A turn of the engine with its line, as a turn without one: it has no bytes for a message where it is lent too few for its line.
-use Rattle.std.specs.Prelude.{ℕ, ◌≤◌, Bool, true, false, cond, List, [], ◌≡◌, refl, ltb, length, take}
+use Rattle.std.specs.Prelude.{ℕ, ◌≤◌, Bool, true, false, cond, List, [], ◌≡◌, refl, ltb, length, take, Ok}
 use Rattle.std.proofs.Common.{sym, ap, ◌∙◌, le-ltb}
 use Rattle.wire.specs.Message.{length_of}
 use Rattle.wire.specs.declared.Message as wire
@@ -23,7 +23,7 @@ room_same l = at (ltb l.line LINE_BYTES)
 -- a turn lent the bytes `lent`, with no line, answers that a message is sent, and b are its bytes
 pub record SendsPlain (w lent : List ℕ) (b : Bytes) : Type 0 where
   pub message : wire.Message
-  pub outcome : turn_outcome w (length lent) ≡ outcome.Sent message
+  pub outcome : turn_outcome w (length lent) ≡ Ok (outcome.Sent message)
   pub bytes : b.list ≡ take (length_of message) (turn_bytes w lent)
 
 pub sends_plain : (w : List ℕ) (l : TurnLent) (b : Bytes) → SendsBytes w l b → SendsPlain w (for_message l) b

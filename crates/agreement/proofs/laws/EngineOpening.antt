@@ -1,12 +1,12 @@
 -- The engine keeps the laws of opening: an accepted one has settings within the rules, its words belong to the session and show nothing,
 -- and a refused one leaves the words.
-use Rattle.std.specs.Prelude.{ℕ, ◌≤◌, ◌<◌, Bool, true, false, List, ◌≡◌, eqb, length}
+use Rattle.std.specs.Prelude.{ℕ, ◌≤◌, ◌<◌, Bool, true, false, List, ◌≡◌, eqb, length, Ok}
 use Rattle.std.proofs.Math.Bool.{true≢false}
 use Rattle.std.proofs.Common.{sym, subst, ◌∙◌, arith}
 use Rattle.std.proofs.Math.Path.{ap}
 use Rattle.std.proofs.Math.Decide.{ℕ_discrete}
 use Rattle.std.proofs.Math.Dec.{leb}
-use borrow.Author.Tests.{eqb-true, ne_eqb, leb-true}
+use borrow.Author.Tests.{ne_eqb, leb-true}
 use Rattle.quorum.specs.laws.Bools.{and_left, and_right}
 use Rattle.settings.specs.Rules.{Ruled}
 use Rattle.settings.specs.laws.Rules.{valid_rules, whole_few}
@@ -25,7 +25,7 @@ use Rattle.opening.specs.Given.{item}
 use Rattle.opening.specs.laws.Given.{weights_fit, CoinsGiven, coins_given_lem}
 use Rattle.opening.specs.laws.Opening.{coin_below, length_first, first_n, first_ta, first_ts, first_own, first_session, first_input, first_coin, first_weights, first_boxed, first_version, first_zero, fit_first}
 use Rattle.opening.specs.Opening.{open_answer, open_words, opened}
-use Rattle.journal.specs.Journal.{LINE_BYTES, open_number, opened_words}
+use Rattle.journal.specs.Journal.{LINE_BYTES, open_line_answer, opened_words}
 use Rattle.journal.specs.laws.Journal.{line_taken, line_words_lem, line_stays}
 use Rattle.agreement.specs.History.{Decision, zero, one}
 use Rattle.held.specs.laws.Held.{Message, SEND, ECHO, READY, EST, AUX, COMMIT, FINISH, holds}
@@ -34,11 +34,12 @@ use Rattle.calls.specs.Engine.{OpeningGiven, agreed, engine}
 use Rattle.agreement.proofs.laws.Machine.{at}
 use Rattle.agreement.proofs.laws.EngineSeen.{CoinShown, engine_seen}
 use Rattle.agreement.proofs.laws.EngineReading.{Belongs, Sets, Belonging, engine_reading}
+use Rattle.settings.specs.laws.Answers.{true_taken}
 
 module _ (w : List ℕ) (o : OpeningGiven) (e : engine.opens w o ≡ true) where
-  pub without_line : (open_answer (length w) o.given ≡ 0) × (LINE_BYTES ≤ o.line)
-  unfolding open_number
-  without_line = line_taken _ o.line (eqb-true _ 0 e)
+  pub without_line : (open_answer (length w) o.given ≡ Ok tt) × (LINE_BYTES ≤ o.line)
+  unfolding open_line_answer
+  without_line = line_taken _ o.line (true_taken _ e)
 
   pub told : Accepted (length w) o.given
   told = accepted (length w) o.given without_line.0
@@ -166,5 +167,5 @@ pub open_coins : (w : List ℕ) (o : OpeningGiven) → engine.opens w o ≡ true
 open_coins w o e i r c k = first_coins o (open_ruled w o e).few (coins_told w o e) i r c (rw (opened_first w o e) at k)
 
 pub open_refused : (w : List ℕ) (o : OpeningGiven) → engine.opens w o ≡ false → engine.opened w o ≡ w
-unfolding open_number opened_words opened
+unfolding open_line_answer opened_words opened
 open_refused w o e = line_stays _ o.line w _ e (λ f. rw f)

@@ -1,6 +1,5 @@
 -- The engine's words as a state of its session, the act of a turn, and what the bytes of a message say.
-use Rattle.std.specs.Prelude.{ℕ, ◌≤◌, ◌<◌, ◌^◌, true, List, ◌≡◌, length, drop}
-use Rattle.std.proofs.Math.Option.{Option, none, some}
+use Rattle.std.specs.Prelude.{ℕ, ◌≤◌, ◌<◌, ◌^◌, true, List, ◌≡◌, length, drop, Result, Ok, Err, Option, Some, None}
 use Rattle.settings.specs.Rules.{Ruled}
 use Rattle.settings.specs.laws.Versions.{Known}
 use Rattle.settings.specs.declared.Settings.{Settings}
@@ -14,18 +13,17 @@ use Rattle.wire.specs.Bytes.{values, rises}
 use Rattle.wire.specs.Message.{count_of}
 use Rattle.wire.specs.Reading.{read_message}
 use Rattle.wire.specs.declared.Message as wire
-use Rattle.wire.specs.declared.Parsed.TheVariants.{Taken}
 use Rattle.opening.specs.Arguments.{weights_by, ta_by, settings_by}
 use Rattle.turn.specs.Due.{due, commit_due}
 use Rattle.turn.specs.Turn.{admits}
-use Rattle.turn.specs.declared.Admitted.{Admitted}
-use Rattle.turn.specs.declared.Admitted.TheVariants as admitted
 use Rattle.held.specs.laws.Held.{Message, meaning}
 use Rattle.agreement.specs.History.{Act, send, echo, ready, start, relay, aux, move, commit, finish}
 use Rattle.calls.specs.Engine.{OpeningGiven, Agreed, Bytes, TurnLent, engine}
 use Rattle.agreement.proofs.laws.Machine.{Reading}
 use Rattle.agreement.proofs.laws.EngineSeen.{engine_seen}
 use Rattle.agreement.proofs.laws.EngineLent.{for_message}
+use Rattle.session.specs.declared.Session.{Session}
+use Rattle.settings.specs.declared.refusal.Refusal.{Refusal}
 
 -- the words hold the session of an accepted opening
 pub record Belongs (o : OpeningGiven) (w : List ℕ) : Type 0 where
@@ -61,21 +59,21 @@ pub record Belonging (o : OpeningGiven) (w : List ℕ) : Type 0 where
 
 -- the act that is due, and none where nothing shows
 abbrev pub shown_act : Settings → List ℕ → acts.Act → Option Act
-shown_act g s act.Idle = none
-shown_act g s act.InForce = none
-shown_act g s (act.Commit k) = some (commit (commit_due g s))
-shown_act g s (act.Send v) = some (send v)
-shown_act g s (act.Echo i v) = some (echo i v)
-shown_act g s (act.Ready i v) = some (ready i v)
-shown_act g s (act.Start i b) = some (start i b)
-shown_act g s (act.Relay i r b) = some (relay i r b)
-shown_act g s (act.Aux i r b) = some (aux i r b)
-shown_act g s (act.Move i r v) = some (move i r v)
-shown_act g s (act.Finish i b) = some (finish i b)
+shown_act g s act.Idle = None
+shown_act g s act.InForce = None
+shown_act g s (act.Commit k) = Some (commit (commit_due g s))
+shown_act g s (act.Send v) = Some (send v)
+shown_act g s (act.Echo i v) = Some (echo i v)
+shown_act g s (act.Ready i v) = Some (ready i v)
+shown_act g s (act.Start i b) = Some (start i b)
+shown_act g s (act.Relay i r b) = Some (relay i r b)
+shown_act g s (act.Aux i r b) = Some (aux i r b)
+shown_act g s (act.Move i r v) = Some (move i r v)
+shown_act g s (act.Finish i b) = Some (finish i b)
 
-unfoldable pub admitted_act : Admitted → List ℕ → Option Act
-admitted_act (admitted.Refused k) s = none
-admitted_act (admitted.Open x) s = shown_act x.settings s (due x.settings s)
+unfoldable pub admitted_act : Result Session Refusal → List ℕ → Option Act
+admitted_act (Err k) s = None
+admitted_act (Ok x) s = shown_act x.settings s (due x.settings s)
 
 unfoldable pub act_of : List ℕ → TurnLent → Option Act
 act_of w l = admitted_act (admits w (length (for_message l))) w
@@ -83,7 +81,7 @@ act_of w l = admitted_act (admits w (length (for_message l))) w
 -- the bytes b from the link of concentrator m say x
 pub record Says (S : Agreed) (m : ℕ) (b : Bytes) (x : Message) : Type 0 where
   pub message : wire.Message
-  pub taken : read_message S.version S.settings.n S.number m b.list ≡ Taken message
+  pub taken : read_message S.version S.settings.n S.number m b.list ≡ Ok message
   pub means : x ≡ meaning message (values (count_of message) (drop 12 b.list))
 
 abbrev pub engine_reading : Reading engine

@@ -1,9 +1,9 @@
 -- The engine keeps the laws of recording: a refused one leaves the words; after an accepted one they belong to the session as before, and show
 -- nothing new but the coin of its vote and round, which is its bit. A printed session accepts none.
-use Rattle.std.specs.Prelude.{ℕ, ◌≤◌, ◌<◌, Bool, true, false, List, ◌⊎◌, ◌≢◌, ◌≡◌, refl, length}
+use Rattle.std.specs.Prelude.{ℕ, ◌≤◌, ◌<◌, Bool, true, false, List, ◌⊎◌, ◌≢◌, ◌≡◌, refl, length, Ok}
 use Rattle.std.proofs.lemmas.Bool.{false≢true, eqb-false}
 use Rattle.std.proofs.Math.Logic.{inl}
-use Rattle.std.proofs.Common.{inr, subst, ◌∙◌, arith, eqb-true, eq-eqb}
+use Rattle.std.proofs.Common.{inr, subst, ◌∙◌, arith, eq-eqb}
 use Rattle.std.proofs.Math.Path.{sym, ap}
 use Rattle.std.proofs.Math.Decide.{ℕ_discrete}
 use Rattle.quorum.specs.Marks.{mark}
@@ -16,7 +16,7 @@ use Rattle.votes.specs.Votes.{coin_value}
 use Rattle.held.specs.laws.Keeping.{Holding, early, middle, late, held_back, count_back, set_back}
 use Rattle.recording.specs.Recording.{bit_mark, record_answer, with_bit, recorded_words}
 use Rattle.recording.specs.laws.Recording.{Recordable, accepted, accepted_marks, refused_same, other_word, coin_here, coin_elsewhere}
-use Rattle.journal.specs.Journal.{LINE_BYTES, record_number, record_words}
+use Rattle.journal.specs.Journal.{LINE_BYTES, record_line_answer, record_words}
 use Rattle.journal.specs.laws.Journal.{line_taken, line_words_lem, line_stays}
 use Rattle.agreement.specs.Evidence.{World}
 use Rattle.agreement.specs.History.{Decision, zero, one}
@@ -26,6 +26,8 @@ use Rattle.agreement.proofs.laws.Machine.{at, BitRecorded}
 use Rattle.agreement.proofs.laws.Coins.{bit_value_lem}
 use Rattle.agreement.proofs.laws.EngineSeen.{CoinShown, engine_seen}
 use Rattle.agreement.proofs.laws.EngineReading.{Belongs, Sets, Belonging, engine_reading}
+use Rattle.settings.specs.laws.Answers.{true_taken}
+use Rattle.settings.specs.laws.Answers.{taken_true}
 
 -- ---- words that differ in coin words only
 
@@ -57,9 +59,9 @@ module _ (s t : List ℕ) (size : length s ≡ 2048) (sizes : length t ≡ lengt
 -- ---- an accepted recording, without its line
 
 module _ (w : List ℕ) (b : BitGiven) where
-  pub without_line : engine.records w b ≡ true → (record_answer w b.vote b.round b.bit ≡ 0) × (LINE_BYTES ≤ b.line)
-  unfolding record_number
-  without_line e = line_taken _ b.line (eqb-true _ 0 e)
+  pub without_line : engine.records w b ≡ true → (record_answer w b.vote b.round b.bit ≡ Ok tt) × (LINE_BYTES ≤ b.line)
+  unfolding record_line_answer
+  without_line e = line_taken _ b.line (true_taken _ e)
 
   pub recorded_words_lem : LINE_BYTES ≤ b.line → engine.recorded w b ≡ recorded_words w b.vote b.round b.bit
   unfolding record_words
@@ -71,7 +73,7 @@ module _ (w : List ℕ) (b : BitGiven) where
   marks_bit : engine.records w b ≡ true → engine.recorded w b ≡ with_bit w b.vote b.round b.bit
   marks_bit e =
       let k = without_line e in
-      recorded_words_lem k.1 ∙ accepted_marks w b.vote b.round b.bit (eq-eqb _ 0 k.0)
+      recorded_words_lem k.1 ∙ accepted_marks w b.vote b.round b.bit (taken_true _ k.0)
 
 -- ---- a bit recorded in words of a session
 
@@ -154,7 +156,7 @@ module _ (o : OpeningGiven) (w : List ℕ) (B : Belongs o w) (b : BitGiven) (k :
 -- ---- the laws
 
 pub record_refused : (w : List ℕ) (b : BitGiven) → engine.records w b ≡ false → engine.recorded w b ≡ w
-unfolding record_number record_words
+unfolding record_line_answer record_words
 record_refused w b e = line_stays _ b.line w _ e (λ f. refused_same w b.vote b.round b.bit f)
 
 pub record_binary : (w : List ℕ) (b : BitGiven) → engine.records w b ≡ true → b.bit ≤ 1

@@ -1,7 +1,6 @@
 -- The laws of the report, of the engine: what it names is what the exits name, and a set in force has its COMMITs.
-use Rattle.std.specs.Prelude.{ℕ, Bool, List, ◌≢◌, length, take}
+use Rattle.std.specs.Prelude.{ℕ, Bool, List, ◌≢◌, length, take, Result, Ok, Err, Some}
 use Rattle.std.proofs.Math.Bool.{true, false}
-use Rattle.std.proofs.Math.Option.{some}
 use Rattle.std.proofs.Math.Path.{◌≡◌, refl, sym, subst}
 use Rattle.std.proofs.Common.{ap, ◌∙◌, arith}
 use Rattle.std.proofs.Math.Decide.{ℕ_discrete}
@@ -20,8 +19,6 @@ use Rattle.opening.specs.Arguments.{settings_by}
 use Rattle.turn.specs.laws.Due.{leader_holds}
 use Rattle.turn.specs.laws.Admitting.{admitting}
 use Rattle.turn.specs.Turn.{admits}
-use Rattle.turn.specs.declared.Admitted.{Admitted}
-use Rattle.turn.specs.declared.Admitted.TheVariants as admitted
 use Rattle.report.specs.Report.{in_force_set, figures_of, report_named, report_in_force}
 use Rattle.report.specs.laws.Report.{Reported, reported, report_gives, report_names, report_enforces, front_read}
 use Rattle.report.specs.declared.Figures.{Figures}
@@ -36,6 +33,8 @@ use Rattle.agreement.proofs.laws.EngineLent.{for_message}
 use Rattle.agreement.proofs.laws.EngineReading.{Belongs, settings_same, admitted_act, act_of}
 use Rattle.agreement.proofs.laws.EngineDue.{outputs_held, force_due}
 use Rattle.wire.specs.Message.{at_front}
+use Rattle.session.specs.declared.Session.{Session}
+use Rattle.settings.specs.declared.refusal.Refusal.{Refusal}
 
 -- a set is read from the front of the words that were lent for it
 read_set : (k : ℕ) (xs old all X : List ℕ) → X ≡ take k all → all ≡ at_front xs old → k ≡ length xs → X ≡ xs
@@ -77,15 +76,15 @@ module _ (o : OpeningGiven) (H : ℕ → Bool) (κ : ℕ → ℕ → Bool) (w : 
           }
 
   -- a turn that acts has a state, and its report is given
-  acting_state : (l : TurnLent) (a : Act) → act_of w l ≡ some a → State w
+  acting_state : (l : TurnLent) (a : Act) → act_of w l ≡ Some a → State w
   unfolding act_of admitted_act
   acting_state l a e = go (admits w (length (for_message l))) refl e
     where
-      go : (v : Admitted) → admits w (length (for_message l)) ≡ v → admitted_act v w ≡ some a → State w
-      go (admitted.Refused k) f h = absurd (let z : ◌≡◌ {A = ℕ} 0 1 = cc in omega arith)
-      go (admitted.Open y) f h = (admitting w (length (for_message l)) y f).state
+      go : (v : Result Session Refusal) → admits w (length (for_message l)) ≡ v → admitted_act v w ≡ Some a → State w
+      go (Err k) f h = absurd (let z : ◌≡◌ {A = ℕ} 0 1 = cc in omega arith)
+      go (Ok y) f h = (admitting w (length (for_message l)) y f).state
 
-  pub exits_names : (l : TurnLent) (a : Act) → act_of w l ≡ some a → (X : List ℕ) → Names W.settings (engine_seen.standing w) X → ReportNames w X
+  pub exits_names : (l : TurnLent) (a : Act) → act_of w l ≡ Some a → (X : List ℕ) → Names W.settings (engine_seen.standing w) X → ReportNames w X
   unfolding exit_now figures_of
   exits_names l a e X h =
       let is : is_state w ≡ true = state_is w (acting_state l a e) in

@@ -1,6 +1,5 @@
 -- A cut of an honest one's journal gives back its state and its last message, proved of every list of calls that meets the conditions.
-use Rattle.std.specs.Prelude.{ℕ, ◌≤◌, true, List, ◌∷◌, ◌++◌, ◌≡◌, refl, length, take}
-use Rattle.std.proofs.Math.Option.{none, some}
+use Rattle.std.specs.Prelude.{ℕ, ◌≤◌, true, List, ◌∷◌, ◌++◌, ◌≡◌, refl, length, take, Some, None, Ok}
 use Rattle.std.proofs.Common.{ap, ◌∙◌, le-ltb}
 use Rattle.records.specs.Layout.{state_words}
 use Rattle.turn.specs.Turn.{sent_length}
@@ -27,7 +26,7 @@ use Rattle.agreement.specs.EngineRestores.{Last, sent_again, message_again, Sent
 use Rattle.agreement.proofs.laws.EngineJournal.{words_before, CutRead, cut_read}
 use Rattle.agreement.proofs.laws.EngineDemand.{engine_laws}
 
-lent_enough : (words room : ℕ) → words ≡ state_words → MESSAGE_BYTES ≤ room → lent_answer words room ≡ 0
+lent_enough : (words room : ℕ) → words ≡ state_words → MESSAGE_BYTES ≤ room → lent_answer words room ≡ Ok tt
 unfolding lent_answer
 lent_enough words room e l = rw (e, le-ltb room MESSAGE_BYTES l)
 
@@ -54,8 +53,8 @@ record Acting (w : List ℕ) (l : TurnLent) : Type 0 where
   ours : Ours w
 
 abbrev Acted : Last → Type 0
-Acted none = Unit {0}
-Acted (some x) = Acting x.0 x.1
+Acted None = Unit {0}
+Acted (Some x) = Acting x.0 x.1
 
 ran_acted : (t w : List ℕ) (last : Last) → Ran engine t w last → Acted last
 ran_acted _ _ _ (by_opening w o e) = tt
@@ -65,17 +64,17 @@ ran_acted _ _ _ (by_recording t w last x r e) = tt
 
 again_length : (last : Last) → Acted last → length_again (words_before last) ≡ sent_again last
 unfolding length_again
-again_length none a = refl
-again_length (some (w, l)) a = ap sent_length (acts_outcome w (turn_room (length l.message) l.line) a.acted)
+again_length None a = refl
+again_length (Some (w, l)) a = ap sent_length (acts_outcome w (turn_room (length l.message) l.line) a.acted)
 
 again_bytes : (last : Last) (lent : List ℕ) → bytes_again (words_before last) lent ≡ message_again last lent
 unfolding bytes_again
-again_bytes none lent = refl
-again_bytes (some (w, l)) lent = refl
+again_bytes None lent = refl
+again_bytes (Some (w, l)) lent = refl
 
 again_sent : (last : Last) → Acted last → (lent : List ℕ) → MESSAGE_BYTES ≤ length lent → (b : Bytes) → SentLast last b → b.list ≡ take (sent_again last) (message_again last lent)
-again_sent none a lent room b h = absurd h
-again_sent (some (w, l)) a lent room b h = sends_again a.ours.by_opening w a.ours.belongs l b h lent room
+again_sent None a lent room b h = absurd h
+again_sent (Some (w, l)) a lent room b h = sends_again a.ours.by_opening w a.ours.belongs l b h lent room
 
 -- what is read of a cut is given
 read_gives : (start : ℕ → List ℕ) (p : ℕ) (d : Moment engine) (lines text v lent : List ℕ) → Acted (last_turn engine start d) → CutRead text lines (words engine start d p) (last_turn engine start d) → length v ≡ state_words → MESSAGE_BYTES ≤ length lent → Gives start p d lines text v lent

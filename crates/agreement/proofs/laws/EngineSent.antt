@@ -1,10 +1,9 @@
 -- The bytes that a turn of the engine sends say the message of its act.
 use Prim.Native.Nat.{ℕ, zero, suc, ◌+◌, ◌*◌, ◌≤◌, ◌<◌, ◌^◌}
-use Rattle.std.specs.Prelude.{Bool, ◌⊎◌, length, take, drop}
+use Rattle.std.specs.Prelude.{Bool, ◌⊎◌, length, take, drop, Some, Option, None, Ok}
 use Rattle.std.proofs.Math.Bool.{true, false, cond}
 use mathlib.Core.List.{List, [], ◌∷◌, Memᴰ}
 use Rattle.std.proofs.Common.{inl, inr, sym, subst, ◌∙◌, arith, take_all}
-use Rattle.std.proofs.Math.Option.{Option, none, some}
 use Rattle.std.proofs.Math.Path.{◌≡◌, refl, ap}
 use Rattle.std.proofs.Math.Dec.{ltb}
 use Rattle.std.proofs.Math.Seq.{take_at}
@@ -24,7 +23,6 @@ use Rattle.acts.specs.declared.View.TheVariants.{Only, Both}
 use Rattle.broadcasts.specs.Leading.{holders}
 use Rattle.broadcasts.specs.Broadcasts.{output}
 use Rattle.broadcasts.specs.laws.Broadcasts.{holders_some, ready_rests, output_holders}
-use Rattle.broadcasts.specs.declared.Output.TheVariants.{Value}
 use Rattle.votes.specs.Votes.{estimate}
 use Rattle.votes.specs.laws.Told.{MoveTold, Shown}
 use Rattle.exits.specs.Exits.{Exit, outputs_of_s}
@@ -50,7 +48,7 @@ use Rattle.opening.specs.Arguments.{settings_by}
 use Rattle.turn.specs.Due.{due, commit_due}
 use Rattle.turn.specs.Turn.{move_outcome, outcome_of, bytes_after, turn_outcome, turn_bytes}
 use Rattle.turn.specs.laws.Told.{ActTold, Rests, on_exit, on_copies}
-use Rattle.turn.specs.laws.Turn.{Taken}
+use Rattle.turn.specs.laws.Turn.{Taken, same_outcome}
 use Rattle.turn.specs.declared.Outcome.{Outcome}
 use Rattle.turn.specs.declared.Outcome.TheVariants as outcome
 use Rattle.agreement.specs.Evidence.{World}
@@ -86,7 +84,7 @@ fitting_listed f zero h = tt
 fitting_listed f (suc k) h = (h 1, fitting_listed (λ j. f (suc j)) k (λ j. h (suc j)))
 
 module _ (g : Settings) (s : List ℕ) (fit : Fit s) where
-  output_fits : (i v : ℕ) → output g s i ≡ Value v → v < 2 ^ 64
+  output_fits : (i v : ℕ) → output g s i ≡ Some v → v < 2 ^ 64
   unfolding ready_value
   output_fits i v e = let h = (output_holders g s i v e).holder in rw (← h.same) (fit (495 + 16 * i + h.at))
 
@@ -173,8 +171,8 @@ module _ (o : OpeningGiven) (H : ℕ → Bool) (κ : ℕ → ℕ → Bool) (w : 
   -- ---- what an act sends
 
   abbrev ShownMessage : Option Act → Message → Type 0
-  ShownMessage none y = ⊥
-  ShownMessage (some a) y = runs.message W a ≡ y
+  ShownMessage None y = ⊥
+  ShownMessage (Some a) y = runs.message W a ≡ y
 
   record Sending (a : Option Act) (m : wire.Message) : Type 0 where
     proper : Proper o.given.version o.given.n o.given.own m xs
@@ -184,10 +182,10 @@ module _ (o : OpeningGiven) (H : ℕ → Bool) (κ : ℕ → ℕ → Bool) (w : 
   sending : (a : Option Act) (m0 m : wire.Message) → outcome.Sent m0 ≡ outcome.Sent m → Sending a m0 → Sending a m
   sending a m0 m e s = let same : m0 ≡ m = cc in subst (Sending a) same s
 
-  est_sending : (a : Act) (i r b : ℕ) → 1 ≤ i → i ≤ o.given.n → 1 ≤ r → r ≤ 32 → b ≤ 1 → runs.message W a ≡ EST i r b → Sending (some a) (message.Est i r b)
+  est_sending : (a : Act) (i r b : ℕ) → 1 ≤ i → i ≤ o.given.n → 1 ≤ r → r ≤ 32 → b ≤ 1 → runs.message W a ≡ EST i r b → Sending (Some a) (message.Est i r b)
   est_sending a i r b lo hi begun ended bit e = record { proper = single (message.Est i r b) b (first_kinds (omega arith)) (lo, hi, begun, ended, bit) refl refl (omega arith); shows = e }
 
-  commit_sending : (k : ℕ) → 1 ≤ k → length xs ≡ k → Good xs → Sending (some (commit xs)) (message.Commit k)
+  commit_sending : (k : ℕ) → 1 ≤ k → length xs ≡ k → Good xs → Sending (Some (commit xs)) (message.Commit k)
   commit_sending k least len good =
       let all : take k xs ≡ xs = take_all k xs (omega arith) in
       record {
@@ -196,11 +194,11 @@ module _ (o : OpeningGiven) (H : ℕ → Bool) (κ : ℕ → ℕ → Bool) (w : 
       }
 
   move_sending : (i r : ℕ) (v : View) (m : wire.Message) → 1 ≤ i → i ≤ o.given.n → MoveTold g w i r v → estimate (records.coin w i r) v ≤ 1 → move_outcome w i r v ≡ outcome.Sent m →
-      Sending (some (move i r v)) m
+      Sending (Some (move i r v)) m
   unfolding move_outcome
   move_sending i r v m lo hi told bit e = go (ltb r 32) refl e
     where
-      go : (b : Bool) → ltb r 32 ≡ b → cond b (outcome.Sent (message.Est i (r + 1) (estimate (records.coin w i r) v))) outcome.MovedOut ≡ outcome.Sent m → Sending (some (move i r v)) m
+      go : (b : Bool) → ltb r 32 ≡ b → cond b (outcome.Sent (message.Est i (r + 1) (estimate (records.coin w i r) v))) outcome.MovedOut ≡ outcome.Sent m → Sending (Some (move i r v)) m
       go true l f =
           sending _ (message.Est i (r + 1) (estimate (records.coin w i r) v)) m f
           (est_sending _ i (r + 1) (estimate (records.coin w i r) v) lo hi (omega arith) (omega (arith, ltb-true r 32 l)) bit (rw (coin_same o H κ w x coins g i r v lo hi told) (ap (λ (q : ℕ). EST i q (estimate (W.coin i r) v)) (next r))))
@@ -245,9 +243,9 @@ module _ (o : OpeningGiven) (H : ℕ → Bool) (κ : ℕ → ℕ → Bool) (w : 
       written version = encode m version o.given.own o.given.session xs
 
   -- the bytes of a message do not depend on what was lent
-  pub same_bytes : (lent other : List ℕ) → Taken w lent session → Taken w other session → (m : wire.Message) → turn_outcome w (length lent) ≡ outcome.Sent m → take (length_of m) (turn_bytes w lent) ≡ take (length_of m) (turn_bytes w other)
+  pub same_bytes : (lent other : List ℕ) → Taken w lent session → Taken w other session → (m : wire.Message) → turn_outcome w (length lent) ≡ Ok (outcome.Sent m) → take (length_of m) (turn_bytes w lent) ≡ take (length_of m) (turn_bytes w other)
   same_bytes lent other t u m e =
-      let f = sym t.answer ∙ e in
+      let f = same_outcome _ _ (sym t.answer ∙ e) in
       let b = (act_sending (due g w) t.told m f).proper.held in
       sent_bytes lent t m b f ∙ sym (sent_bytes other u m b f)
 
@@ -261,19 +259,19 @@ module _ (o : OpeningGiven) (H : ℕ → Bool) (κ : ℕ → ℕ → Bool) (w : 
         means = ap (meaning m) (rw e (sym back.all_values_lem));
       }
 
-  pub shown_says : (lent : List ℕ) → Taken w lent session → (b : Bytes) → SendsPlain w lent b → (a : Act) → shown_act g w (due g w) ≡ some a →
+  pub shown_says : (lent : List ℕ) → Taken w lent session → (b : Bytes) → SendsPlain w lent b → (a : Act) → shown_act g w (due g w) ≡ Some a →
       Says (agreed o.given) o.given.own b (runs.message W a)
   shown_says lent t b h a e =
-      of (act_sending (due g w) t.told h.message (sym t.answer ∙ h.outcome))
+      of (act_sending (due g w) t.told h.message (same_outcome _ _ (sym t.answer ∙ h.outcome)))
     where
       of : Sending (shown_act g w (due g w)) h.message → Says (agreed o.given) o.given.own b (runs.message W a)
       of s =
           let is : runs.message W a ≡ meaning h.message (values_of h.message xs) = (rw e at s).shows in
-          rw is (encoded_says h.message s.proper b (h.bytes ∙ sent_bytes lent t h.message s.proper.held (sym t.answer ∙ h.outcome)))
+          rw is (encoded_says h.message s.proper b (h.bytes ∙ sent_bytes lent t h.message s.proper.held (same_outcome _ _ (sym t.answer ∙ h.outcome))))
 
   -- an act that shows nothing sends nothing
-  pub silent : (lent : List ℕ) → Taken w lent session → (b : Bytes) → SendsPlain w lent b → shown_act g w (due g w) ≡ none → ⊥
-  silent lent t b h e = of (act_sending (due g w) t.told h.message (sym t.answer ∙ h.outcome))
+  pub silent : (lent : List ℕ) → Taken w lent session → (b : Bytes) → SendsPlain w lent b → shown_act g w (due g w) ≡ None → ⊥
+  silent lent t b h e = of (act_sending (due g w) t.told h.message (same_outcome _ _ (sym t.answer ∙ h.outcome)))
     where
       of : Sending (shown_act g w (due g w)) h.message → ⊥
       of s = (rw e at s).shows

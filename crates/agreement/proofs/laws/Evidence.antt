@@ -19,7 +19,7 @@ sound W L r b f =
     }
 
 -- somebody has P
-pub record Some (P : ℕ → Type 0) : Type 0 where
+pub record Somebody (P : ℕ → Type 0) : Type 0 where
   pub who : ℕ
   pub has : P who
 
@@ -28,18 +28,18 @@ module _ (W : World) where
   backed_map f x = record { set = x.set; enough = x.enough; each = λ m hm t. f m hm (x.each m hm t) }
 
   -- two sets that together outweigh the whole and the liars have an honest member in common
-  pub two_of : {L k l s t : ℕ} {P Q : ℕ → Type 0} → Sound W L → whole W + L + s + t < k + l → Backed W k s P → Backed W l t Q → Some (λ m. P m × Q m)
+  pub two_of : {L k l s t : ℕ} {P Q : ℕ → Type 0} → Sound W L → whole W + L + s + t < k + l → Backed W k s P → Backed W l t Q → Somebody (λ m. P m × Q m)
   two_of {P = P} {Q = Q} so lt x y = pick (honest_common (weight_of W.settings.weights) W.settings.n W.honest x.set y.set (omega arith))
     where
-      pick : HonestCommon W.settings.n x.set y.set W.honest → Some (λ m. P m × Q m)
+      pick : HonestCommon W.settings.n x.set y.set W.honest → Somebody (λ m. P m × Q m)
       pick c =
           let hm : Honest W c.at = record { low = c.low; high = c.high; fair = c.honest } in
           record { who = c.at; has = (x.each c.at hm c.left, y.each c.at hm c.right) }
 
   -- a set that outweighs the liars has an honest member
-  pub one_of : {L k s : ℕ} {P : ℕ → Type 0} → Sound W L → L + s < k → Backed W k s P → Some P
+  pub one_of : {L k s : ℕ} {P : ℕ → Type 0} → Sound W L → L + s < k → Backed W k s P → Somebody P
   one_of {P = P} so lt x =
       first (two_of {l = whole W} {t = 0} {Q = λ m. Unit {0}} so (omega arith) x (record { set = everyone; enough = omega arith; each = λ m hm t. tt }))
     where
-      first : Some (λ m. P m × Unit {0}) → Some P
+      first : Somebody (λ m. P m × Unit {0}) → Somebody P
       first o = record { who = o.who; has = o.has.0 }

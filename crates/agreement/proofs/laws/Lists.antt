@@ -1,10 +1,9 @@
 -- A list of calls that meets the conditions makes a lawful history of the opened ones' acts, lost lines included, and each opened one's state,
 -- and every state that its journal leads back to, holds only what was said in it.
-use Rattle.std.specs.Prelude.{ℕ, Bool, true, false, ◌&&◌, cond, ◌⊎◌, ◌≡◌, eqb, length}
+use Rattle.std.specs.Prelude.{ℕ, Bool, true, false, ◌&&◌, cond, ◌⊎◌, ◌≡◌, eqb, length, Option, Some, None}
 use Rattle.std.proofs.lemmas.Bool.{false≢true}
 use mathlib.Core.List.{List, [], ◌∷◌, ◌++◌}
 use Rattle.std.proofs.Common.{inl, inr, sym, ap, ◌∙◌, eq-eqb, ne_eqb, eqb-true}
-use Rattle.std.proofs.Math.Option.{Option, none, some}
 use Rattle.std.proofs.Math.Path.{refl}
 use Rattle.std.proofs.Math.Decide.{ℕ_discrete}
 use Rattle.agreement.specs.Evidence.{World, Honest}
@@ -59,7 +58,7 @@ module _ (M : Machine) (R : Reading M) (H : ℕ → Bool) (κ : ℕ → ℕ → 
   record SentAct (cs : List (Call M)) (m : ℕ) (x : Message) (s : Moment M) : Type 0 where
     act : Act
     says : x ≡ message W act
-    notes : noted M R start s ≡ some act
+    notes : noted M R start s ≡ Some act
     done : Did (history M R start cs) m act
 
   sent_act : (cs : List (Call M)) → ((ds : List (Call M)) → Within ds cs → Good ds) → (m : ℕ) (b : M.Bytes) (x : Message) → R.Says S m b x → (sent : Sent M start cs m b) → SentAct cs m x (turn m sent.lent ∷ sent.past)
@@ -79,8 +78,8 @@ module _ (M : Machine) (R : Reading M) (H : ℕ → Bool) (κ : ℕ → ℕ → 
           live = known_live M R H κ start S calls sent.past (past sent.past (within_tail (turn m sent.lent) within)) m k.by_opening k.known
 
           go : (y : Option Act) → R.act w sent.lent ≡ y → Turned M R H κ k.by_opening w sent.lent y → SentAct cs m x (turn m sent.lent ∷ sent.past)
-          go none e q = absurd (q.silent b sent.sends)
-          go (some a) e q =
+          go None e q = absurd (q.silent b sent.sends)
+          go (Some a) e q =
               let s : R.Says S m b (message W a) = rw (live.session, live.numbered) at (q.says b sent.sends) in
               let d : Did (history M R start (turn m sent.lent ∷ sent.past)) m a = rw (k.known, e) (inl refl) in
               record { act = a; says = laws.says_one S m b x (message W a) says s; notes = e; done = did_later a (history_within M R start within) d }
@@ -144,7 +143,7 @@ module _ (M : Machine) (R : Reading M) (H : ℕ → Bool) (κ : ℕ → ℕ → 
             nothing a (inl e) = none_some a e
             nothing a (inr x) = x
 
-        fresh : (a : Bool) → eqb (M.own o) p ≡ a → (b : Bool) → M.opens w o ≡ b → At (cond (a && b) (some o) none) h p (M.opened w o) (cond b (d ∷ []) js)
+        fresh : (a : Bool) → eqb (M.own o) p ≡ a → (b : Bool) → M.opens w o ≡ b → At (cond (a && b) (Some o) None) h p (M.opened w o) (cond b (d ∷ []) js)
         fresh true e true t =
             let num : M.own o ≡ p = eqb-true (M.own o) p e in
             let same : M.session o ≡ S = c.agree p o cs now num t in
@@ -168,14 +167,14 @@ module _ (M : Machine) (R : Reading M) (H : ℕ → Bool) (κ : ℕ → ℕ → 
         fresh true e false t = tt
         fresh false e b t = tt
 
-        again : (u : M.Opening) → Live u h p w js → (a b : Bool) → b ≡ false → At (cond (a && b) (some o) (some u)) h p w (cond b (d ∷ []) js)
+        again : (u : M.Opening) → Live u h p w js → (a b : Bool) → b ≡ false → At (cond (a && b) (Some o) (Some u)) h p w (cond b (d ∷ []) js)
         again u live a true f = absurd (false≢true (sym f))
         again u live true false f = live
         again u live false false f = live
 
         go : (st : Option M.Opening) → now_status p ≡ st → At st h p w js → Placed (opening p o) st
-        go none e silent = record { lawful = good_now.lawful; at = fresh (eqb (M.own o) p) refl (M.opens w o) refl }
-        go (some u) e live =
+        go None e silent = record { lawful = good_now.lawful; at = fresh (eqb (M.own o) p) refl (M.opens w o) refl }
+        go (Some u) e live =
             let f : M.opens w o ≡ false = c.once p o cs now (known_opened M R start cs p u e).is_opened_lem in
             record {
               lawful = good_now.lawful;
@@ -195,7 +194,7 @@ module _ (M : Machine) (R : Reading M) (H : ℕ → Bool) (κ : ℕ → ℕ → 
         d : Moment M
         d = delivery p m b ∷ cs
 
-        verdict : (o : M.Opening) → now_status p ≡ some o → Live o h p w js → (t : Bool) → M.accepts w m b ≡ t → Live o h p (M.delivered w m b) (cond t (d ∷ js) js)
+        verdict : (o : M.Opening) → now_status p ≡ Some o → Live o h p w js → (t : Bool) → M.accepts w m b ≡ t → Live o h p (M.delivered w m b) (cond t (d ∷ js) js)
         verdict o e live false t = rw (laws.deliver_refused w m b t) live
         verdict o e live true t =
             let x = laws.deliver_accepted o w (belongs live) m b t in
@@ -208,7 +207,7 @@ module _ (M : Machine) (R : Reading M) (H : ℕ → Bool) (κ : ℕ → ℕ → 
             } in
             let here : words M start d p ≡ M.delivered w m b = words_here M R start (delivery p m b) cs in
             let kept = inv_delivered W R.seen Left h (Noted M R start js) p w (M.delivered w m b) (keeps live) (λ i r k y. (keeps live).coins i r k (x.coins i r k y)) m x.said credit (rw live.session at x.holds) in
-            live_line live none d (M.delivered w m b) here
+            live_line live None d (M.delivered w m b) here
             (record {
               belongs = rw here x.belongs;
               ran = rw here (by_delivery (bytes M js) w (last_turn M start live.last) m b (ran live) t);
@@ -220,8 +219,8 @@ module _ (M : Machine) (R : Reading M) (H : ℕ → Bool) (κ : ℕ → ℕ → 
             older a (inr x) = x
 
         go : (st : Option M.Opening) → now_status p ≡ st → At st h p w js → Placed (delivery p m b) st
-        go none e silent = record { lawful = good_now.lawful; at = tt }
-        go (some o) e live = record { lawful = good_now.lawful; at = verdict o e live (M.accepts w m b) refl }
+        go None e silent = record { lawful = good_now.lawful; at = tt }
+        go (Some o) e live = record { lawful = good_now.lawful; at = verdict o e live (M.accepts w m b) refl }
 
     placed_turn : (p : ℕ) (l : M.Lent) → Placed (turn p l) (now_status p)
     unfolding bytes
@@ -251,9 +250,9 @@ module _ (M : Machine) (R : Reading M) (H : ℕ → Bool) (κ : ℕ → ℕ → 
             })
 
         took : (o : M.Opening) → Live o h p w js → (x : Option Act) → R.act w l ≡ x → Turned M R H κ o w l x → Lawful W (Gone W R.seen Left) (tell M R p x h) × Live o (tell M R p x h) p (M.turned w l) (cond (M.acts w l) (d ∷ js) js)
-        took o live none e q = (
+        took o live None e q = (
           good_now.lawful,
-          written o live none
+          written o live None
               (inv_fewer W R.seen Left h (Noted M R start js) (Noted M R start (d ∷ js)) p (M.turned w l) older
               (inv_kept W R.seen Left h (Noted M R start js) p w (M.turned w l) (keeps live) (λ i r k y. (keeps live).coins i r k (q.coins i r k y)) (rw live.session at q.kept)))
               (M.acts w l) refl,
@@ -262,25 +261,25 @@ module _ (M : Machine) (R : Reading M) (H : ℕ → Bool) (κ : ℕ → ℕ → 
             older : (a : Act) → Noted M R start (d ∷ js) a → Noted M R start js a
             older a (inl f) = absurd (none_some a (sym e ∙ f))
             older a (inr x) = x
-        took o live (some a) e q =
+        took o live (Some a) e q =
             let outs = rw live.session at (laws.outputs_held o w (belongs live)) in
             let due = rw live.session at q.due in (
               (good_now.lawful, due_guard W R.seen Left h (Noted M R start js) p w (keeps live) outs a due),
-              written o live (some a)
+              written o live (Some a)
                   (inv_acted W R.seen Left h (Noted M R start js) p w (M.turned w l) (keeps live) (λ i r k y. (keeps live).coins i r k (q.coins i r k y)) a due (rw live.session at q.acted) (Noted M R start (d ∷ js)) only)
                   (M.acts w l) refl,
             )
           where
             only : (b : Act) → Noted M R start (d ∷ js) b → (b ≡ a) ⊎ Noted M R start js b
-            only b (inl f) = inl (let z : some a ≡ some b = sym e ∙ f in cc)
+            only b (inl f) = inl (let z : Some a ≡ Some b = sym e ∙ f in cc)
             only b (inr x) = inr x
 
         coins_at : (o : M.Opening) (live : Live o h p w js) → CoinsAre (world_with M (M.session o) H κ) R.seen w
         coins_at o live = (keeps live).coins
 
         go : (st : Option M.Opening) → At st h p w js → Placed (turn p l) st
-        go none silent = record { lawful = good_now.lawful; at = tt }
-        go (some o) live =
+        go None silent = record { lawful = good_now.lawful; at = tt }
+        go (Some o) live =
             let x = took o live (R.act w l) refl (laws.turn_told o w (belongs live) (coins_at o live) l) in
             record { lawful = x.0; at = x.1 }
 
@@ -314,20 +313,20 @@ module _ (M : Machine) (R : Reading M) (H : ℕ → Bool) (κ : ℕ → ℕ → 
               chain = λ g ls u. live.chain g ls (within_trans u inside);
             }
 
-        verdict : (o : M.Opening) → now_status p ≡ some o → Live o h p w js → (t : Bool) → M.restores v r ≡ t → Live o h p (M.restored v r) (cond t (complete M k js) js)
+        verdict : (o : M.Opening) → now_status p ≡ Some o → Live o h p w js → (t : Bool) → M.restores v r ≡ t → Live o h p (M.restored v r) (cond t (complete M k js) js)
         verdict o e live false t = rw (laws.restore_refused v r t, c.not_lost p v r cs now (known_opened M R start cs p o e).is_opened_lem t) live
         verdict o e live true t = back o live (c.falls_back p v r cs now (known_opened M R start cs p o e).is_opened_lem t) t (complete M k js) refl
 
         go : (st : Option M.Opening) → now_status p ≡ st → At st h p w js → Placed (restore p v r) st
-        go none e silent = record { lawful = good_now.lawful; at = tt }
-        go (some o) e live = record { lawful = good_now.lawful; at = verdict o e live (M.restores v r) refl }
+        go None e silent = record { lawful = good_now.lawful; at = tt }
+        go (Some o) e live = record { lawful = good_now.lawful; at = verdict o e live (M.restores v r) refl }
 
     placed_recording : (p : ℕ) (x : M.Recording) → Within (recording p x ∷ cs) calls → Placed (recording p x) (now_status p)
     placed_recording p x inside = go (now_status p) refl (good_now.each p)
       where
         go : (st : Option M.Opening) → now_status p ≡ st → At st h p (now_words p) (now_journal p) → Placed (recording p x) st
-        go none e silent = record { lawful = good_now.lawful; at = tt }
-        go (some o) e live =
+        go None e silent = record { lawful = good_now.lawful; at = tt }
+        go (Some o) e live =
             record { lawful = good_now.lawful; at = live_recording M R H κ laws start S calls coined cs p x inside (known_opened M R start cs p o e).is_opened_lem o h live (M.records (now_words p) x) refl }
 
     placed : (c : Call M) → Within (c ∷ cs) calls → Conditions M start S H (c ∷ cs) → Placed c (now_status (place M c))

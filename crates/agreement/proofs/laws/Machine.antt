@@ -13,12 +13,10 @@
 --              does is told for all coins κ that agree with those shown: so a move reads no coin that is not shown.
 --   report     an output has its READYs; the set named is the exits'; a set in force has its COMMITs.
 --   standing   an output that the words show is one, and what is decided 1 shows.
-use Rattle.std.specs.Prelude.{ℕ, ◌≤◌, Bool, true, false, List, [], ◌++◌, ◌⊎◌, ◌≢◌, ◌≡◌}
-use Rattle.std.proofs.Math.Option.{Option, none, some}
+use Rattle.std.specs.Prelude.{ℕ, ◌≤◌, Bool, true, false, List, [], ◌++◌, ◌⊎◌, ◌≢◌, ◌≡◌, Some, Option, None}
 use Rattle.settings.specs.Rules.{Ruled}
 use Rattle.votes.specs.Votes.{coin_value}
 use Rattle.agreement.specs.Evidence.{World, whole}
-use Rattle.broadcasts.specs.declared.Output.TheVariants.{Value}
 use Rattle.agreement.specs.History.{Act, send, Decision, Names}
 use Rattle.held.specs.laws.Held.{Message, COMMIT}
 use Rattle.agreement.proofs.laws.Runs.{message, Seen, HeldFrom, OutputsHeld, Due, Kept, Delivered, Acted, Blank, CoinsAre, CoinsStay}
@@ -29,10 +27,10 @@ use Rattle.agreement.proofs.laws.Worlds.{world_with}
 -- w are the words after calls that wrote the lines t, each accepted, one after another; `last` has those before the last call, and what it was
 -- lent, where it is a turn
 pub data Ran (M : Machine) : List ℕ → M.Words → Option (M.Words × M.Lent) → Type 0 where
-  by_opening : (w : M.Words) (o : M.Opening) → M.opens w o ≡ true → Ran M (M.opening_line_lem o) (M.opened w o) none
-  by_delivery : (t : List ℕ) (w : M.Words) (last : Option (M.Words × M.Lent)) (m : ℕ) (b : M.Bytes) → Ran M t w last → M.accepts w m b ≡ true → Ran M (t ++ M.delivery_line_lem m b) (M.delivered w m b) none
-  by_turn : (t : List ℕ) (w : M.Words) (last : Option (M.Words × M.Lent)) (l : M.Lent) → Ran M t w last → M.acts w l ≡ true → Ran M (t ++ M.turn_line_lem) (M.turned w l) (some (w, l))
-  by_recording : (t : List ℕ) (w : M.Words) (last : Option (M.Words × M.Lent)) (x : M.Recording) → Ran M t w last → M.records w x ≡ true → Ran M (t ++ M.recording_line_lem x) (M.recorded w x) none
+  by_opening : (w : M.Words) (o : M.Opening) → M.opens w o ≡ true → Ran M (M.opening_line_lem o) (M.opened w o) None
+  by_delivery : (t : List ℕ) (w : M.Words) (last : Option (M.Words × M.Lent)) (m : ℕ) (b : M.Bytes) → Ran M t w last → M.accepts w m b ≡ true → Ran M (t ++ M.delivery_line_lem m b) (M.delivered w m b) None
+  by_turn : (t : List ℕ) (w : M.Words) (last : Option (M.Words × M.Lent)) (l : M.Lent) → Ran M t w last → M.acts w l ≡ true → Ran M (t ++ M.turn_line_lem) (M.turned w l) (Some (w, l))
+  by_recording : (t : List ℕ) (w : M.Words) (last : Option (M.Words × M.Lent)) (x : M.Recording) → Ran M t w last → M.records w x ≡ true → Ran M (t ++ M.recording_line_lem x) (M.recorded w x) None
 
 -- what a cut leaves of the line that it falls into: nothing, or a part that is not the whole
 pub data Torn (M : Machine) (rest : List ℕ) : Type 0 where
@@ -83,8 +81,8 @@ module _ (M : Machine) (R : Reading M) (H : ℕ → Bool) (κ : ℕ → ℕ → 
     pub input : (v : ℕ) → a ≡ send v → v ≡ M.input o
 
   abbrev pub Turned : M.Opening → M.Words → M.Lent → Option Act → Type 0
-  Turned o w l none = Quiet o w l
-  Turned o w l (some a) = Active o w l a
+  Turned o w l None = Quiet o w l
+  Turned o w l (Some a) = Active o w l a
 
   pub record Laws : Type 0 where
     -- opening
@@ -113,8 +111,8 @@ module _ (M : Machine) (R : Reading M) (H : ℕ → Bool) (κ : ℕ → ℕ → 
     -- report: what is named is what the exits name, and it is reported at least where a turn acts
     pub outputs_held : (o : M.Opening) (w : M.Words) → R.Belongs o w → OutputsHeld (at o) R.seen w
     pub names_exits : (o : M.Opening) (w : M.Words) → R.Belongs o w → (X : List ℕ) → M.Names w X → Names (at o).settings (R.seen.standing w) X
-    pub exits_names : (o : M.Opening) (w : M.Words) → R.Belongs o w → (l : M.Lent) (a : Act) → R.act w l ≡ some a → (X : List ℕ) → Names (at o).settings (R.seen.standing w) X → M.Names w X
+    pub exits_names : (o : M.Opening) (w : M.Words) → R.Belongs o w → (l : M.Lent) (a : Act) → R.act w l ≡ Some a → (X : List ℕ) → Names (at o).settings (R.seen.standing w) X → M.Names w X
     pub force_held : (o : M.Opening) (w : M.Words) → R.Belongs o w → (X : List ℕ) → M.InForce w X → HeldFrom (at o) R.seen w (whole (at o)) (at o).settings.ts (COMMIT X)
     -- outputs and decisions
-    pub shown_outputs : (o : M.Opening) (w : M.Words) → R.Belongs o w → (i v : ℕ) → (R.seen.standing w).out i ≡ Value v → M.Outputs w i v
+    pub shown_outputs : (o : M.Opening) (w : M.Words) → R.Belongs o w → (i v : ℕ) → (R.seen.standing w).out i ≡ Some v → M.Outputs w i v
     pub one_decided : (o : M.Opening) (w : M.Words) → R.Belongs o w → (i : ℕ) → M.DecidedOne w i → Decision (R.seen.standing w) i 1

@@ -1,9 +1,8 @@
 -- Which concentrators are opened after a list of calls, and the history of their acts.
-use Rattle.std.specs.Prelude.{ℕ, Bool, ◌&&◌, ◌≡◌}
+use Rattle.std.specs.Prelude.{ℕ, Bool, ◌&&◌, ◌≡◌, Option, Some, None}
 use Rattle.std.proofs.Math.Bool.{true, false, cond}
 use mathlib.Core.List.{List, [], ◌∷◌}
 use Rattle.std.proofs.Common.{inl, inr, ap, ◌∙◌, arith}
-use Rattle.std.proofs.Math.Option.{Option, none, some}
 use Rattle.std.proofs.Math.Path.{refl, sym}
 use Rattle.std.proofs.Math.Dec.{eqb}
 use borrow.Author.Tests.{eq-eqb, eqb-true}
@@ -13,13 +12,13 @@ use Rattle.calls.specs.Machine.{Machine, Call, opening, delivery, turn, report, 
 use Rattle.agreement.specs.DemandThree.{Opened}
 use Rattle.agreement.proofs.laws.Machine.{Reading}
 
-pub none_some : {A : Type 0} (x : A) → none ≡ some x → ⊥
+pub none_some : {A : Type 0} (x : A) → None ≡ Some x → ⊥
 none_some x e = let z : ◌≡◌ {A = ℕ} 0 1 = cc in omega arith
 
 module _ (M : Machine) (R : Reading M) where
   -- the opening by which one is opened after a call
   abbrev pub becomes : Call M → M.Words → Option M.Opening → Option M.Opening
-  becomes (opening p o) w st = cond (eqb (M.own o) p && M.opens w o) (some o) st
+  becomes (opening p o) w st = cond (eqb (M.own o) p && M.opens w o) (Some o) st
   becomes (delivery p m b) w st = st
   becomes (turn p l) w st = st
   becomes (report p r) w st = st
@@ -28,22 +27,22 @@ module _ (M : Machine) (R : Reading M) where
 
   -- the act of a call: only the turns of an opened one count
   abbrev pub did : Call M → M.Words → Option M.Opening → Option Act
-  did (opening p o) w st = none
-  did (delivery p m b) w st = none
-  did (turn p l) w none = none
-  did (turn p l) w (some o) = R.act w l
-  did (report p r) w st = none
-  did (restore p v r) w st = none
-  did (recording p x) w st = none
+  did (opening p o) w st = None
+  did (delivery p m b) w st = None
+  did (turn p l) w None = None
+  did (turn p l) w (Some o) = R.act w l
+  did (report p r) w st = None
+  did (restore p v r) w st = None
+  did (recording p x) w st = None
 
   abbrev pub tell : ℕ → Option Act → History → History
-  tell p none h = h
-  tell p (some a) h = by p a ∷ h
+  tell p None h = h
+  tell p (Some a) h = by p a ∷ h
 
 module _ (M : Machine) (R : Reading M) (start : ℕ → M.Words) where
   -- the opening by which q is opened, if it is
   unfoldable pub status : List (Call M) → ℕ → Option M.Opening
-  status [] q = none
+  status [] q = None
   status (c ∷ cs) q = cond (eqb q (place M c)) (becomes M R c (words M start cs q) (status cs q)) (status cs q)
 
   unfoldable pub history : List (Call M) → History
@@ -54,17 +53,17 @@ module _ (M : Machine) (R : Reading M) (start : ℕ → M.Words) where
 
   pub record Known (cs : List (Call M)) (p : ℕ) : Type 0 where
     pub by_opening : M.Opening
-    pub known : status cs p ≡ some by_opening
+    pub known : status cs p ≡ Some by_opening
 
   becomes_some : (c : Call M) (cs : List (Call M)) (p : ℕ) → Known cs p → Known (c ∷ cs) p
   unfolding status
   becomes_some c cs p k = at (eqb p (place M c)) refl
     where
-      opened_or_not : (b : Bool) (o : M.Opening) (u : M.Opening) → (v : M.Opening) × (cond b (some o) (some u) ≡ some v)
+      opened_or_not : (b : Bool) (o : M.Opening) (u : M.Opening) → (v : M.Opening) × (cond b (Some o) (Some u) ≡ Some v)
       opened_or_not true o u = (o, refl)
       opened_or_not false o u = (u, refl)
 
-      call : (c : Call M) (w : M.Words) (u : M.Opening) → (v : M.Opening) × (becomes M R c w (some u) ≡ some v)
+      call : (c : Call M) (w : M.Words) (u : M.Opening) → (v : M.Opening) × (becomes M R c w (Some u) ≡ Some v)
       call (opening q o) w u = opened_or_not (eqb (M.own o) q && M.opens w o) o u
       call (delivery q m b) w u = (u, refl)
       call (turn q l) w u = (u, refl)
@@ -102,12 +101,12 @@ module _ (M : Machine) (R : Reading M) (start : ℕ → M.Words) where
         same = x.same;
       }
 
-  pub known_opened : (cs : List (Call M)) (p : ℕ) (o : M.Opening) → status cs p ≡ some o → OpenedBy cs p o
+  pub known_opened : (cs : List (Call M)) (p : ℕ) (o : M.Opening) → status cs p ≡ Some o → OpenedBy cs p o
   unfolding status
   known_opened [] p o e = absurd (none_some o e)
   known_opened (c ∷ cs) p o e = at (eqb p (place M c)) refl e (λ x. opened_later c cs p o (known_opened cs p o x))
     where
-      opens : (q : ℕ) (u : M.Opening) → p ≡ q → c ≡ opening q u → (a b : Bool) → eqb (M.own u) q ≡ a → M.opens (words M start cs p) u ≡ b → cond (a && b) (some u) (status cs p) ≡ some o → (status cs p ≡ some o → OpenedBy (c ∷ cs) p o) → OpenedBy (c ∷ cs) p o
+      opens : (q : ℕ) (u : M.Opening) → p ≡ q → c ≡ opening q u → (a b : Bool) → eqb (M.own u) q ≡ a → M.opens (words M start cs p) u ≡ b → cond (a && b) (Some u) (status cs p) ≡ Some o → (status cs p ≡ Some o → OpenedBy (c ∷ cs) p o) → OpenedBy (c ∷ cs) p o
       opens q u s t true true x y f rest =
           let here : c ≡ opening p u = rw s t in
           let z : u ≡ o = cc in
@@ -119,7 +118,7 @@ module _ (M : Machine) (R : Reading M) (start : ℕ → M.Words) where
       opens q u s t true false x y f rest = rest f
       opens q u s t false b x y f rest = rest f
 
-      call : (d : Call M) → c ≡ d → p ≡ place M d → becomes M R d (words M start cs p) (status cs p) ≡ some o → (status cs p ≡ some o → OpenedBy (c ∷ cs) p o) → OpenedBy (c ∷ cs) p o
+      call : (d : Call M) → c ≡ d → p ≡ place M d → becomes M R d (words M start cs p) (status cs p) ≡ Some o → (status cs p ≡ Some o → OpenedBy (c ∷ cs) p o) → OpenedBy (c ∷ cs) p o
       call (opening q u) t s f rest = opens q u s t (eqb (M.own u) q) (M.opens (words M start cs p) u) refl refl f rest
       call (delivery q m b) t s f rest = rest f
       call (turn q l) t s f rest = rest f
@@ -127,7 +126,7 @@ module _ (M : Machine) (R : Reading M) (start : ℕ → M.Words) where
       call (restore q v r) t s f rest = rest f
       call (recording q x) t s f rest = rest f
 
-      at : (b : Bool) → eqb p (place M c) ≡ b → cond b (becomes M R c (words M start cs p) (status cs p)) (status cs p) ≡ some o → (status cs p ≡ some o → OpenedBy (c ∷ cs) p o) → OpenedBy (c ∷ cs) p o
+      at : (b : Bool) → eqb p (place M c) ≡ b → cond b (becomes M R c (words M start cs p) (status cs p)) (status cs p) ≡ Some o → (status cs p ≡ Some o → OpenedBy (c ∷ cs) p o) → OpenedBy (c ∷ cs) p o
       at true x f rest = call c refl (eqb-true p (place M c) x) f rest
       at false x f rest = rest f
 
@@ -135,14 +134,14 @@ module _ (M : Machine) (R : Reading M) (start : ℕ → M.Words) where
   pub record TurnDid (w : M.Words) (st : Option M.Opening) (a : Act) : Type 0 where
     pub lent : M.Lent
     pub by_opening : M.Opening
-    pub known : st ≡ some by_opening
-    pub acts : R.act w lent ≡ some a
+    pub known : st ≡ Some by_opening
+    pub acts : R.act w lent ≡ Some a
 
-  pub did_turn : (c : Call M) (w : M.Words) (st : Option M.Opening) (a : Act) → did M R c w st ≡ some a → TurnDid w st a
+  pub did_turn : (c : Call M) (w : M.Words) (st : Option M.Opening) (a : Act) → did M R c w st ≡ Some a → TurnDid w st a
   did_turn (opening p o) w st a e = absurd (none_some a e)
   did_turn (delivery p m b) w st a e = absurd (none_some a e)
-  did_turn (turn p l) w none a e = absurd (none_some a e)
-  did_turn (turn p l) w (some o) a e = record { lent = l; by_opening = o; known = refl; acts = e }
+  did_turn (turn p l) w None a e = absurd (none_some a e)
+  did_turn (turn p l) w (Some o) a e = record { lent = l; by_opening = o; known = refl; acts = e }
   did_turn (report p r) w st a e = absurd (none_some a e)
   did_turn (restore p v r) w st a e = absurd (none_some a e)
   did_turn (recording p x) w st a e = absurd (none_some a e)
@@ -164,9 +163,9 @@ module _ (M : Machine) (R : Reading M) (start : ℕ → M.Words) where
       later x = record { call = x.call; past = x.past; within = after c x.within; here = x.here; turn = x.turn }
 
       at : (x : Option Act) → did M R c (words M start cs (place M c)) (status cs (place M c)) ≡ x → Did (tell M R (place M c) x (history cs)) p a → (Did (history cs) p a → ActedAt (c ∷ cs) p a) → ActedAt (c ∷ cs) p a
-      at none e d rest = rest d
-      at (some b) e (inl z) rest =
+      at None e d rest = rest d
+      at (Some b) e (inl z) rest =
           let same : b ≡ a = cc in
           let here : place M c ≡ p = cc in
-          record { call = c; past = cs; within = now; here = here; turn = rw here at (did_turn c (words M start cs (place M c)) (status cs (place M c)) a (e ∙ ap some same)) }
-      at (some b) e (inr d) rest = rest d
+          record { call = c; past = cs; within = now; here = here; turn = rw here at (did_turn c (words M start cs (place M c)) (status cs (place M c)) a (e ∙ ap Some same)) }
+      at (Some b) e (inr d) rest = rest d

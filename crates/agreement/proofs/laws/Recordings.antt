@@ -1,8 +1,7 @@
 -- The coins that an opened one shows are the session's: after its opening, and after a recording, which keeps all else that holds there.
-use Rattle.std.specs.Prelude.{ℕ, Bool, true, false, cond, List, ◌∷◌, ◌⊎◌, ◌≡◌, refl}
+use Rattle.std.specs.Prelude.{ℕ, Bool, true, false, cond, List, ◌∷◌, ◌⊎◌, ◌≡◌, refl, None}
 use Rattle.std.proofs.lemmas.Bool.{false≢true}
 use Rattle.std.proofs.Common.{inl, inr, sym, ◌∙◌, arith}
-use Rattle.std.proofs.Math.Option.{none}
 use Rattle.votes.specs.Votes.{coin_value}
 use Rattle.agreement.specs.Evidence.{World}
 use Rattle.agreement.specs.History.{Act, History}
@@ -70,7 +69,7 @@ module _ (M : Machine) (R : Reading M) (H : ℕ → Bool) (κ : ℕ → ℕ → 
           let y = laws.record_accepted o w (belongs live) x t in
           let here : words M start d p ≡ M.recorded w x = words_here M R start (recording p x) cs in
           let kept = inv_kept W R.seen (Left M R H κ start S calls) h (Noted M R start js) p w (M.recorded w x) (keeps live) coins (rw live.session at y.kept) in
-          live_line live none d (M.recorded w x) here
+          live_line live None d (M.recorded w x) here
           (record {
             belongs = rw here y.belongs;
             ran = rw here (by_recording (bytes M js) w (last_turn M start live.last) x (ran live) t);

@@ -1,12 +1,11 @@
 -- From states to lawful histories: what a state shows, when an act is due in it, and what a delivery and a turn may change. All laws go in
 -- one direction: nothing is held that was not delivered, no mark of an ECHO or AUX vanishes, a new decision is that of the move, or has its
 -- FINISHes. Marks tell of the acts that are on record at the concentrator; the history may have more of its acts.
-use Rattle.std.specs.Prelude.{ℕ, suc, ◌+◌, ◌*◌, ◌≤◌, Bool, List, ◌∷◌, ◌⊎◌, ◌≡◌, refl}
+use Rattle.std.specs.Prelude.{ℕ, suc, ◌+◌, ◌*◌, ◌≤◌, Bool, List, ◌∷◌, ◌⊎◌, ◌≡◌, refl, Some}
 use Rattle.std.proofs.Common.{inl, inr, sym, subst, arith}
 use Rattle.acts.specs.declared.View.{View}
 use Rattle.acts.specs.declared.View.TheVariants.{Only}
 use Rattle.votes.specs.Votes.{estimate, coin_value}
-use Rattle.broadcasts.specs.declared.Output.TheVariants.{Value}
 use Rattle.exits.specs.Standing.{Standing}
 use Rattle.held.specs.laws.Held.{Message, SEND, ECHO, READY, EST, AUX, COMMIT, FINISH}
 use Rattle.agreement.specs.Evidence.{World, whole, Honest, Backed}
@@ -122,7 +121,7 @@ module _ (W : World) {St : Type 0} (S : Seen St) where
   Due s (send v) = Unit {0}
   Due s (echo i v) = (S.echoed s i → ⊥) × S.holds s i (SEND v)
   Due s (ready i v) = HeldFrom s (whole W) W.settings.ts (ECHO i v) ⊎ HeldFrom s (W.settings.ts + 1) 0 (READY i v)
-  Due s (start i b) = b ≡ 1 → (v : ℕ) × ((S.standing s).out i ≡ Value v)
+  Due s (start i b) = b ≡ 1 → (v : ℕ) × ((S.standing s).out i ≡ Some v)
   Due s (relay i r b) = HeldFrom s (W.settings.ta + 1) 0 (EST i r b)
   Due s (aux i r b) = S.auxed s i r → ⊥
   Due s (move i r v) = MoveDue s i r v
@@ -137,7 +136,7 @@ module _ (W : World) {St : Type 0} (S : Seen St) where
 
   -- an output has its READYs
   abbrev pub OutputsHeld : St → Type 0
-  OutputsHeld s = (i v : ℕ) → 1 ≤ i → i ≤ W.settings.n → (S.standing s).out i ≡ Value v → HeldFrom s (whole W) W.settings.ts (READY i v)
+  OutputsHeld s = (i v : ℕ) → 1 ≤ i → i ≤ W.settings.n → (S.standing s).out i ≡ Some v → HeldFrom s (whole W) W.settings.ts (READY i v)
 
   -- from s to t: what is held was held or is new, marks stay, decisions stood or are new
   pub record Changed (s t : St) (new : ℕ → Message → Type 0) (decision : ℕ → ℕ → Type 0) : Type 0 where

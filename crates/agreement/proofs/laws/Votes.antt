@@ -8,7 +8,7 @@ use Rattle.acts.specs.declared.View.{View}
 use Rattle.acts.specs.declared.View.TheVariants.{Only, Both}
 use Rattle.votes.specs.Votes.{estimate, coin_value}
 use Rattle.agreement.specs.Evidence.{World, Sound}
-use Rattle.agreement.proofs.laws.Evidence.{Some, backed_map, one_of, two_of}
+use Rattle.agreement.proofs.laws.Evidence.{Somebody, backed_map, one_of, two_of}
 use Rattle.agreement.specs.History.{Act, start, relay, move, finish, History, Did, Event, Single, Occurs, Own, started, moved, Est, own, relayed, Accepted, Moving, Deciding, Decided, by_move, by_finish, Guard, Lawful}
 use Rattle.agreement.proofs.laws.History.{by_history}
 
@@ -47,21 +47,21 @@ module _ (W : World) (G : ℕ → Act → Type 0) (so : Sound W W.settings.ta) w
   -- ---- where an EST comes from
 
   -- a relayed value was some honest one's own
-  relay_own : (i r b : ℕ) (h : History) → Lawful W G h → (p : ℕ) → Did h p (relay i r b) → Some (Own W h i r b)
-  relay_own i r b = by_history W G (relay i r b) (λ h. Some (Own W h i r b)) (λ e h o. record { who = o.who; has = own_keep W e h i r b o.who o.has }) step
+  relay_own : (i r b : ℕ) (h : History) → Lawful W G h → (p : ℕ) → Did h p (relay i r b) → Somebody (Own W h i r b)
+  relay_own i r b = by_history W G (relay i r b) (λ h. Somebody (Own W h i r b)) (λ e h o. record { who = o.who; has = own_keep W e h i r b o.who o.has }) step
     where
-      from : (h : History) → ((m : ℕ) → Did h m (relay i r b) → Some (Own W h i r b)) → (m : ℕ) → Est W h i r b m → Some (Own W h i r b)
+      from : (h : History) → ((m : ℕ) → Did h m (relay i r b) → Somebody (Own W h i r b)) → (m : ℕ) → Est W h i r b m → Somebody (Own W h i r b)
       from h rest m (own x) = record { who = m; has = x }
       from h rest m (relayed d) = rest m d
 
-      step : (h : History) (p : ℕ) → Guard W G h p (relay i r b) → ((m : ℕ) → Did h m (relay i r b) → Some (Own W h i r b)) → Some (Own W h i r b)
+      step : (h : History) (p : ℕ) → Guard W G h p (relay i r b) → ((m : ℕ) → Did h m (relay i r b) → Somebody (Own W h i r b)) → Somebody (Own W h i r b)
       step h p g rest = let o = one_of W so (omega arith) g in from h rest o.who o.has
 
   -- an accepted value was some honest one's own
-  accepted_own : (h : History) → Lawful W G h → (i r b : ℕ) → Accepted W h i r b → Some (Own W h i r b)
+  accepted_own : (h : History) → Lawful W G h → (i r b : ℕ) → Accepted W h i r b → Somebody (Own W h i r b)
   accepted_own h law i r b x = let o = one_of W so (omega arith) x in from o.who o.has
     where
-      from : (m : ℕ) → Est W h i r b m → Some (Own W h i r b)
+      from : (m : ℕ) → Est W h i r b m → Somebody (Own W h i r b)
       from m (own y) = record { who = m; has = y }
       from m (relayed d) = relay_own i r b h law m d
 
@@ -116,16 +116,16 @@ module _ (W : World) (G : ℕ → Act → Type 0) (so : Sound W W.settings.ta) w
   -- ---- decisions agree
 
   -- a FINISH goes back to a deciding move
-  finish_deciding : (i b : ℕ) (h : History) → Lawful W G h → (p : ℕ) → Did h p (finish i b) → Some (Deciding W h i b)
-  finish_deciding i b = by_history W G (finish i b) (λ h. Some (Deciding W h i b)) (λ e h o. record { who = o.who; has = deciding_keep W e h i b o.who o.has }) step
+  finish_deciding : (i b : ℕ) (h : History) → Lawful W G h → (p : ℕ) → Did h p (finish i b) → Somebody (Deciding W h i b)
+  finish_deciding i b = by_history W G (finish i b) (λ h. Somebody (Deciding W h i b)) (λ e h o. record { who = o.who; has = deciding_keep W e h i b o.who o.has }) step
     where
-      step : (h : History) (p : ℕ) → Guard W G h p (finish i b) → ((m : ℕ) → Did h m (finish i b) → Some (Deciding W h i b)) → Some (Deciding W h i b)
+      step : (h : History) (p : ℕ) → Guard W G h p (finish i b) → ((m : ℕ) → Did h m (finish i b) → Somebody (Deciding W h i b)) → Somebody (Deciding W h i b)
       step h p (inl (by_move x)) rest = record { who = p; has = x }
       step h p (inl (by_finish x)) rest = let o = one_of W so (omega arith) x in rest o.who o.has
       step h p (inr x) rest = let o = one_of W so (omega arith) x in rest o.who o.has
 
   -- and so does a decision, maybe to another's move
-  decided_deciding : (h : History) → Lawful W G h → (p i b : ℕ) → Decided W h p i b → Some (Deciding W h i b)
+  decided_deciding : (h : History) → Lawful W G h → (p i b : ℕ) → Decided W h p i b → Somebody (Deciding W h i b)
   decided_deciding h law p i b (by_move x) = record { who = p; has = x }
   decided_deciding h law p i b (by_finish x) = let o = one_of W so (omega arith) x in finish_deciding i b h law o.who o.has
 
@@ -137,7 +137,7 @@ module _ (W : World) (G : ℕ → Act → Type 0) (so : Sound W W.settings.ta) w
     pub decided_agree : (p q b c : ℕ) → Decided W h p i b → Decided W h q i c → b ≡ c
     decided_agree p q b c x y = go (decided_deciding h law p i b x) (decided_deciding h law q i c y)
       where
-        go : Some (Deciding W h i b) → Some (Deciding W h i c) → b ≡ c
+        go : Somebody (Deciding W h i b) → Somebody (Deciding W h i c) → b ≡ c
         go u v =
             elim (dec_le u.has.round v.has.round) [ yes le ↦ sym (later_agrees b c u.who v.who u.has v.has le) | no l ↦ later_agrees c b v.who u.who v.has u.has (omega arith) ]
 
@@ -145,7 +145,7 @@ module _ (W : World) (G : ℕ → Act → Type 0) (so : Sound W W.settings.ta) w
 
   module _ (h : History) (law : Lawful W G h) (i b : ℕ) where
     abbrev Started : Type 0
-    Started = Some (λ m. Did h m (start i b))
+    Started = Somebody (λ m. Did h m (start i b))
 
     -- an own EST goes back, round by round, to a start: a move sees what it takes with it, and what it sees was some honest one's own there
     own_started : (r m : ℕ) → Own W h i r b m → Started

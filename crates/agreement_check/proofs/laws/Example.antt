@@ -1,5 +1,5 @@
 -- The test `passes`: a list that passes it is an example.
-use Rattle.std.specs.Prelude.{ℕ, Bool, false, ◌&&◌, ◌||◌, not, List, ◌≡◌, refl, eqb, take}
+use Rattle.std.specs.Prelude.{ℕ, Bool, false, ◌&&◌, ◌||◌, not, List, ◌≡◌, refl, eqb, take, Result, Ok, Err}
 use Rattle.std.proofs.Math.Bool.{true}
 use Rattle.std.proofs.lemmas.Bool.{false≢true}
 use borrow.Author.Tests.{eqb-true, eqb-false, leb-true, not-true}
@@ -10,7 +10,6 @@ use Rattle.quorum.specs.laws.Every.{every_each}
 use Rattle.records.specs.Words.{blank}
 use Rattle.records.specs.laws.Fill.{length_blank}
 use Rattle.report.specs.Report.{report_answer, report_named, report_in_force}
-use Rattle.report.specs.declared.Answer.{Answer}
 use Rattle.agreement.specs.Evidence.{liars, Honest}
 use Rattle.calls.specs.Machine.{Call, words}
 use Rattle.agreement.proofs.laws.Worlds.{world}
@@ -22,12 +21,13 @@ use Rattle.agreement_check.proofs.laws.Entries.{or_second, not_of_true, same_lis
 use Rattle.agreement_check.proofs.laws.Tracks.{Tracks}
 use Rattle.agreement_check.proofs.laws.Tracking.{AllSized, run_tracks}
 use Rattle.agreement_check.specs.Example.{Shown, Supposed, Example, Sized}
-use Rattle.report.specs.declared.Answer.TheVariants as answer
+use Rattle.report.specs.declared.Figures.{Figures}
+use Rattle.settings.specs.declared.refusal.Refusal.{Refusal}
 
 -- an answer of the report with these words for the sets: Exit k names X, and X is in force
-unfoldable pub closes_with : Answer → List ℕ → List ℕ → ℕ → List ℕ → Bool
-closes_with (answer.Refused j) named set_in_force k X = false
-closes_with (answer.Given f) named set_in_force k X =
+unfoldable pub closes_with : Result Figures Refusal → List ℕ → List ℕ → ℕ → List ℕ → Bool
+closes_with (Err j) named set_in_force k X = false
+closes_with (Ok f) named set_in_force k X =
     not (eqb f.exit 0)
     && (eqb f.exit k
     && (same_list X (take f.named named)
@@ -62,9 +62,9 @@ closes_closed : (w : List ℕ) (k : ℕ) (X : List ℕ) → closes w k X ≡ tru
 unfolding closes closes_with
 closes_closed w k X = go (report_answer w 16 16) refl
   where
-    go : (a : Answer) → report_answer w 16 16 ≡ a → closes_with a (report_named w (blank 16) 16) (report_in_force w 16 (blank 16)) k X ≡ true → Closed w k X
-    go (answer.Refused j) g e = absurd (false≢true e)
-    go (answer.Given f) g e =
+    go : (a : Result Figures Refusal) → report_answer w 16 16 ≡ a → closes_with a (report_named w (blank 16) 16) (report_in_force w 16 (blank 16)) k X ≡ true → Closed w k X
+    go (Err j) g e = absurd (false≢true e)
+    go (Ok f) g e =
         let e1 = and_right (not (eqb f.exit 0)) _ e in
         let e2 = and_right (eqb f.exit k) _ e1 in
         let e3 = and_right (same_list X (take f.named (report_named w (blank 16) 16))) _ e2 in

@@ -1,5 +1,5 @@
 -- No call changes the number of words; of a restore it is known where its words are.
-use Rattle.std.specs.Prelude.{ℕ, Bool, true, false, cond, List, ◌≡◌, refl, eqb, ltb, length, drop}
+use Rattle.std.specs.Prelude.{ℕ, Bool, true, false, cond, List, ◌≡◌, refl, ltb, length, drop, Result, Ok, Err}
 use Rattle.std.proofs.Common.{◌∙◌}
 use Rattle.records.specs.Layout.{state_words, coin_at}
 use Rattle.records.specs.Words.{word, put, set_mark}
@@ -9,23 +9,23 @@ use Rattle.opening.specs.Opening.{open_answer, open_words, opened}
 use Rattle.opening.specs.laws.Opening.{length_first}
 use Rattle.delivery.specs.Delivery.{verdict, words_after, delivered}
 use Rattle.delivery.specs.laws.Frame.{length_recorded}
-use Rattle.delivery.specs.declared.Verdict.{Verdict}
-use Rattle.delivery.specs.declared.Verdict.TheVariants.{Refused, Accepted}
 use Rattle.quorum.specs.Marks.{with_mark}
 use Rattle.recording.specs.Recording.{bit_mark, record_answer, with_bit, recorded_words}
 use Rattle.turn.specs.Due.{due}
 use Rattle.turn.specs.Turn.{admits, taking, turn_words}
 use Rattle.turn.proofs.laws.Frame.{length_applied}
-use Rattle.turn.specs.declared.Admitted.{Admitted}
-use Rattle.turn.specs.declared.Admitted.TheVariants as admitted
 use Rattle.journal.specs.Journal.{LINE_BYTES, line_words, opened_words, delivered_words, record_words, turn_room}
 use Rattle.agreement.specs.Plain.{NoRestore}
 use Rattle.calls.specs.Machine.{Call, opening, delivery, turn, report, restore, recording, left}
 use Rattle.calls.specs.Engine.{engine}
+use Rattle.wire.specs.declared.Message.{Message}
+use Rattle.settings.specs.declared.refusal.Refusal.{Refusal}
+use Rattle.session.specs.declared.Session.{Session}
+use Rattle.std.specs.Result.{is_ok}
 
 length_opened : (s : List ℕ) (o : Arguments) → length s ≡ state_words → length (opened s o) ≡ state_words
 unfolding opened
-length_opened s o e = go (eqb (open_answer (length s) o) 0)
+length_opened s o e = go (is_ok (open_answer (length s) o))
   where
     go : (b : Bool) → length (cond b (open_words o) s) ≡ state_words
     go true = length_first o
@@ -35,21 +35,21 @@ length_delivered : (s : List ℕ) (link : ℕ) (b : List ℕ) → length (delive
 unfolding delivered words_after
 length_delivered s link b = go (verdict s link b)
   where
-    go : (x : Verdict) → length (words_after x s link b) ≡ length s
-    go (Refused k) = refl
-    go (Accepted m) = length_recorded s (drop 12 b) link m
+    go : (x : Result Message Refusal) → length (words_after x s link b) ≡ length s
+    go (Err k) = refl
+    go (Ok m) = length_recorded s (drop 12 b) link m
 
 length_turned : (s : List ℕ) (room : ℕ) → length (turn_words s room) ≡ length s
 unfolding taking turn_words
 length_turned s room = go (admits s room) refl
   where
-    go : (x : Admitted) → admits s room ≡ x → length (turn_words s room) ≡ length s
-    go (admitted.Refused k) e = rw e
-    go (admitted.Open x) e = rw e (length_applied s (due x.settings s))
+    go : (x : Result Session Refusal) → admits s room ≡ x → length (turn_words s room) ≡ length s
+    go (Err k) e = rw e
+    go (Ok x) e = rw e (length_applied s (due x.settings s))
 
 length_recording : (s : List ℕ) (i r b : ℕ) → length (recorded_words s i r b) ≡ length s
 unfolding recorded_words with_bit set_mark
-length_recording s i r b = go (eqb (record_answer s i r b) 0)
+length_recording s i r b = go (is_ok (record_answer s i r b))
   where
     go : (t : Bool) → length (cond t (put s (coin_at i) (with_mark (word s (coin_at i)) (bit_mark r b))) s) ≡ length s
     go true = length_put _ _ _

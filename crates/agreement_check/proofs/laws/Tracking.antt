@@ -2,7 +2,7 @@
 -- those of the concentrators, whatever 2,048 words each buffer held at the start, and whatever 2,048 words a restore finds.
 use Prim.Native.Nat.{ℕ}
 use Rattle.std.proofs.Math.Bool.{Bool, true, false, not, cond, false≢true}
-use Rattle.std.specs.Prelude.{◌&&◌, ◌||◌, ◌⊎◌, ◌≡◌, length, take}
+use Rattle.std.specs.Prelude.{◌&&◌, ◌||◌, ◌⊎◌, ◌≡◌, length, take, Ok, Result, Err}
 use mathlib.Core.List.{List, [], ◌∷◌}
 use Rattle.std.proofs.Common.{inl, sym, subst, ◌∙◌}
 use Rattle.std.proofs.Math.Logic.{inr}
@@ -31,6 +31,7 @@ use Rattle.agreement_check.proofs.laws.Entries.{or_second, not_of_true, same_lis
 use Rattle.agreement_check.proofs.laws.Tracks.{words_here, journal_here, words_else, journal_else, size_next, opens_sized, opened_sized, Tracks, listed_honest, entry_next, line_next}
 use Rattle.agreement_check.proofs.laws.Restores.{restore_next}
 use Rattle.agreement_check.proofs.laws.Journals.{SentAt, Matches, AllMatch, sent_in_lem, sent_of, IsGone}
+use Rattle.settings.specs.declared.refusal.Refusal.{Refusal}
 
 -- each restore of a list finds 2,048 words
 abbrev pub AllSized : List (Call engine) → Type 0
@@ -124,18 +125,18 @@ module _ (start : ℕ → List ℕ) (S : Agreed) (H : ℕ → Bool) (v : ℕ →
         out : List ℕ
         out = turned_message before l.message l.line
 
-        one : (b : Bytes) (m : Message) → turned_outcome before (length l.message) l.line ≡ outcome.Sent m → (t : Bool) → same_list (take (length_of m) out) b.list ≡ t → t || false ≡ true → SentAt start p (turn p l ∷ cs) b
+        one : (b : Bytes) (m : Message) → turned_outcome before (length l.message) l.line ≡ Ok (outcome.Sent m) → (t : Bool) → same_list (take (length_of m) out) b.list ≡ t → t || false ≡ true → SentAt start p (turn p l ∷ cs) b
         one b m e true f g =
             let sends : SendsBytes before l b = record { message = m; outcome = e; bytes = sym (same_list_lem _ b.list f) } in
             record { lent = l; past = cs; is = refl; opened = x.some p k; sends = rw (x.equal p k) sends }
         one b m e false f g = absurd (false≢true g)
 
-        by : (b : Bytes) (u : Outcome) → turned_outcome before (length l.message) l.line ≡ u → among (sent_in u out) b.list ≡ true → SentAt start p (turn p l ∷ cs) b
-        by b (outcome.Refused j) e f = absurd (false≢true f)
-        by b outcome.Idle e f = absurd (false≢true f)
-        by b (outcome.Sent m) e f = one b m e (same_list (take (length_of m) out) b.list) refl f
-        by b outcome.MovedOut e f = absurd (false≢true f)
-        by b outcome.InForce e f = absurd (false≢true f)
+        by : (b : Bytes) (u : Result Outcome Refusal) → turned_outcome before (length l.message) l.line ≡ u → among (sent_in u out) b.list ≡ true → SentAt start p (turn p l ∷ cs) b
+        by b (Err j) e f = absurd (false≢true f)
+        by b (Ok outcome.Idle) e f = absurd (false≢true f)
+        by b (Ok (outcome.Sent m)) e f = one b m e (same_list (take (length_of m) out) b.list) refl f
+        by b (Ok outcome.MovedOut) e f = absurd (false≢true f)
+        by b (Ok outcome.InForce) e f = absurd (false≢true f)
 
     turn_next : Tracks start S H v (turn p l ∷ cs) (states_after (turn p l) xs) gs
     unfolding states_after turn_lines

@@ -1,6 +1,6 @@
 -- The list of specs/Boxed.antt meets the conditions, waits for its coins and closes by Exit 2.
 use Rattle.std.specs.Prelude.{true, [], ◌∷◌, ◌≡◌, refl}
-use Rattle.settings.specs.Refusals.{COIN}
+use Rattle.settings.specs.declared.refusal.Refusal.TheVariants as refusal
 use Rattle.agreement_check.proofs.laws.Example.{passes, passes_example}
 use Rattle.agreement_check.proofs.laws.Refusals.{refusals}
 use Rattle.agreement_check.proofs.laws.Tracking.{AllSized}
@@ -26,6 +26,6 @@ unfolding calls checks openings turns to_both from_both twice with_readies with_
 waits = record { before = refl; again = refl; after = refl }
 
 -- one recording is refused, and no other call
-pub boxed_refusals : (refusals session first_two input_five boxed_calls).numbers ≡ COIN ∷ []
+pub boxed_refusals : (refusals session first_two input_five boxed_calls).list ≡ refusal.Coin ∷ []
 unfolding calls checks openings turns to_both from_both twice with_readies with_auxes with_last_auxes with_sets recorded waiting told boxed_calls
 boxed_refusals = refl

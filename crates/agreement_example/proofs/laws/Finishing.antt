@@ -34,6 +34,6 @@ decided_by_finishes =
     }
 
 -- no call is refused
-pub finishing_refusals : (refusals session first_two input_five finishing_calls).numbers ≡ []
+pub finishing_refusals : (refusals session first_two input_five finishing_calls).list ≡ []
 unfolding calls checks openings turns to_both from_both twice until_readies until_auxes first_finishes until_finishes last_finish finishing_calls
 finishing_refusals = refl

@@ -1,6 +1,6 @@
 -- The list of specs/Four.antt passes the test.
 use Rattle.std.specs.Prelude.{true, [], ◌∷◌, ◌≡◌, refl}
-use Rattle.settings.specs.Refusals.{SENDER, CLOSED, HELD}
+use Rattle.settings.specs.declared.refusal.Refusal.TheVariants as refusal
 use Rattle.agreement_check.proofs.laws.Example.{passes, passes_example}
 use Rattle.agreement_check.proofs.laws.Refusals.{refusals}
 use Rattle.agreement_check.proofs.laws.Tracking.{AllSized}
@@ -21,6 +21,6 @@ pub four_meet : FourMeet
 four_meet start room = passes_example start session first_three input_five four_calls room four_sized 1 (5 ∷ []) four_pass
 
 -- the refusals, the last first: every other delivery is recorded
-pub four_refusals : (refusals session first_three input_five four_calls).numbers ≡ CLOSED ∷ HELD ∷ SENDER ∷ []
+pub four_refusals : (refusals session first_three input_five four_calls).list ≡ refusal.Closed ∷ refusal.Held ∷ refusal.Sender ∷ []
 unfolding calls checks turns to_all from_all openings until_sends honest_echoes until_echoes until_readies four_calls
 four_refusals = refl

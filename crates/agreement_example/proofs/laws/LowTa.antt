@@ -1,8 +1,7 @@
 -- The lists of specs/LowTa.antt and specs/UnnamedTa.antt, computed.
-use Rattle.std.specs.Prelude.{ℕ, ◌<◌, true, List, [], ◌∷◌, ◌≡◌, refl}
+use Rattle.std.specs.Prelude.{ℕ, ◌<◌, true, List, [], ◌∷◌, ◌≡◌, refl, Some}
 use Rattle.std.proofs.Common.{ap, ◌∙◌, arith}
 use Rattle.broadcasts.specs.Broadcasts.{output}
-use Rattle.broadcasts.specs.declared.Output.TheVariants.{Value}
 use Rattle.turn_bound.proofs.laws.Computing.{calls}
 use Rattle.agreement.specs.Evidence.{liars}
 use Rattle.calls.specs.Machine.{Call}
@@ -25,8 +24,8 @@ record Computed (S : Agreed) (cs : List (Call engine)) : Type 0 where
   pass : passes_at S first_two input_five first_two 1 (5 ∷ []) cs ≡ true
   first : is_opened (run S first_two input_five cs).states 1 ≡ true
   second : is_opened (run S first_two input_five cs).states 2 ≡ true
-  at_first : output S.settings (words_of (run S first_two input_five cs).states 1) 3 ≡ Value 6
-  at_second : output S.settings (words_of (run S first_two input_five cs).states 2) 3 ≡ Value 8
+  at_first : output S.settings (words_of (run S first_two input_five cs).states 1) 3 ≡ Some 6
+  at_second : output S.settings (words_of (run S first_two input_five cs).states 2) 3 ≡ Some 8
 
 over_ta : (S : Agreed) (cs : List (Call engine)) → Computed S cs → FromAny S first_two (λ start. OverTa start S cs)
 over_ta S cs c start room =

@@ -17,7 +17,7 @@ module _ (v w : List ℕ) where
   lost_passes = refl
 
   -- no opening, delivery or turn is refused
-  pub lost_refusals : (refusals session everyone input_five (lost_calls v w)).numbers ≡ []
+  pub lost_refusals : (refusals session everyone input_five (lost_calls v w)).list ≡ []
   unfolding calls checks from once_restored twice_restored lost_calls
   lost_refusals = refl
 

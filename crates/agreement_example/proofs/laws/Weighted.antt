@@ -20,6 +20,6 @@ pub weighted_meet : WeightedMeet
 weighted_meet start room = passes_example start session first_two input_five weighted_calls room weighted_sized 2 (5 ∷ []) weighted_pass
 
 -- no call is refused
-pub weighted_refusals : (refusals session first_two input_five weighted_calls).numbers ≡ []
+pub weighted_refusals : (refusals session first_two input_five weighted_calls).list ≡ []
 unfolding calls checks openings turns to_both from_both twice with_readies with_auxes with_last_auxes with_sets weighted_calls
 weighted_refusals = refl

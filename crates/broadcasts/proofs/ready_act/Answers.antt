@@ -5,8 +5,8 @@ use Rattle.broadcasts.proofs.ready_act.Goals as goal
 pub returns-then-ready_sent : goal.returns-then-ready_sent
 returns-then-ready_sent c = search ready_cases
 
-pub returns-in-Value : goal.returns-in-Value
-returns-in-Value c = search ready_cases
+pub returns-in-Some : goal.returns-in-Some
+returns-in-Some c = search ready_cases
 
-pub returns-in-Nothing : goal.returns-in-Nothing
-returns-in-Nothing c = search ready_cases
+pub returns-in-None : goal.returns-in-None
+returns-in-None c = search ready_cases

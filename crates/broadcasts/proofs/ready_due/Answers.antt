@@ -2,8 +2,8 @@
 use Rattle.broadcasts.specs.laws.Cases.{due_cases}
 use Rattle.broadcasts.proofs.ready_due.Goals as goal
 
-pub returns-in-Value : goal.returns-in-Value
-returns-in-Value c = search due_cases
+pub returns-in-Some : goal.returns-in-Some
+returns-in-Some c = search due_cases
 
-pub returns-in-Nothing : goal.returns-in-Nothing
-returns-in-Nothing c = search due_cases
+pub returns-in-None : goal.returns-in-None
+returns-in-None c = search due_cases

@@ -1,5 +1,5 @@
 -- What a leading value and an output are, and that they are unique.
-use Rattle.std.specs.Prelude.{ℕ, ◌+◌, ◌≤◌, ◌<◌, Bool, true, false, ◌&&◌, cond, List, ◌≢◌, ◌⊎◌, ◌≡◌, leb}
+use Rattle.std.specs.Prelude.{ℕ, ◌+◌, ◌≤◌, ◌<◌, Bool, true, false, ◌&&◌, cond, List, ◌≢◌, ◌⊎◌, ◌≡◌, leb, Option, Some, None}
 use Rattle.std.proofs.Math.Logic.{inl, inr}
 use Rattle.std.proofs.Math.Path.{refl, sym}
 use Rattle.std.proofs.Common.{ap, ◌∙◌, arith}
@@ -21,8 +21,6 @@ use Rattle.broadcasts.specs.Leading.{holders, leads, value_of, leading, or_outpu
 use Rattle.broadcasts.specs.Broadcasts.{output, ready_due}
 use Rattle.broadcasts.specs.Outputs.{output_at, Outputs}
 use Rattle.broadcasts.specs.laws.Storing.{at_present}
-use Rattle.broadcasts.specs.declared.Output.{Output}
-use Rattle.broadcasts.specs.declared.Output.TheVariants.{Value, Nothing}
 
 -- a sender of 1 to n that holds v
 pub record Holder (held : ℕ → Bool) (value : ℕ → ℕ) (n v : ℕ) : Type 0 where
@@ -39,19 +37,19 @@ pub record Led (g : Settings) (held : ℕ → Bool) (value : ℕ → ℕ) (q v :
   pub first : (p : ℕ) → 1 ≤ p → p < holder.at → held p ≡ true → holders g held value (value p) < q
 
 -- value_of, inverted
-value_at : (value : ℕ → ℕ) (p v : ℕ) → value_of value p ≡ Value v → (p ≢ 0) × (value p ≡ v)
+value_at : (value : ℕ → ℕ) (p v : ℕ) → value_of value p ≡ Some v → (p ≢ 0) × (value p ≡ v)
 unfolding value_of
 value_at value p v e = go (eqb p 0) refl e
   where
-    go : (b : Bool) → eqb p 0 ≡ b → cond b Nothing (Value (value p)) ≡ Value v → (p ≢ 0) × (value p ≡ v)
+    go : (b : Bool) → eqb p 0 ≡ b → cond b None (Some (value p)) ≡ Some v → (p ≢ 0) × (value p ≡ v)
     go true t h = absurd (let z : ◌≡◌ {A = ℕ} 0 1 = cc in omega arith)
     go false t h = (eqb-false p 0 t, cc)
 
-nothing_at : (value : ℕ → ℕ) (p : ℕ) → value_of value p ≡ Nothing → p ≡ 0
+nothing_at : (value : ℕ → ℕ) (p : ℕ) → value_of value p ≡ None → p ≡ 0
 unfolding value_of
 nothing_at value p e = go (eqb p 0) refl e
   where
-    go : (b : Bool) → eqb p 0 ≡ b → cond b Nothing (Value (value p)) ≡ Nothing → p ≡ 0
+    go : (b : Bool) → eqb p 0 ≡ b → cond b None (Some (value p)) ≡ None → p ≡ 0
     go true t h = eqb-true p 0 t
     go false t h = absurd (let z : ◌≡◌ {A = ℕ} 0 1 = cc in omega arith)
 
@@ -94,7 +92,7 @@ module _ (g : Settings) (held : ℕ → Bool) (value : ℕ → ℕ) where
     unfolding leads
     leads_few p e h = leb-false q (holders g held value (value p)) (rw h at e)
 
-    pub leading_value : (v : ℕ) → leading g held value q ≡ Value v → Led g held value q v
+    pub leading_value : (v : ℕ) → leading g held value q ≡ Some v → Led g held value q v
     unfolding leading
     leading_value v e = go (lowest (leads g held value q) g.n) refl e
       where
@@ -106,18 +104,18 @@ module _ (g : Settings) (held : ℕ → Bool) (value : ℕ → ℕ) where
               first = λ k a b h. leads_few k (x.first k a b) h;
             }
 
-        go : (p : ℕ) → lowest (leads g held value q) g.n ≡ p → value_of value p ≡ Value v → Led g held value q v
+        go : (p : ℕ) → lowest (leads g held value q) g.n ≡ p → value_of value p ≡ Some v → Led g held value q v
         go p t h =
             let was : (p ≢ 0) × (value p ≡ v) = value_at value p v h in
             let x : Lowest (leads g held value q) g.n p = lowest_is (leads g held value q) g.n p t was.0 in
             at p x was.1 (leads_enough p x.holds)
 
-    pub leading_nothing : leading g held value q ≡ Nothing → (p : ℕ) → 1 ≤ p → p ≤ g.n → held p ≡ true → holders g held value (value p) < q
+    pub leading_nothing : leading g held value q ≡ None → (p : ℕ) → 1 ≤ p → p ≤ g.n → held p ≡ true → holders g held value (value p) < q
     unfolding leading
     leading_nothing e p a b h = leads_few p (lowest_none (leads g held value q) g.n (nothing_at value (lowest (leads g held value q) g.n) e) p a b) h
 
     -- a value held from q senders leads, or another does
-    pub leading_some : (v : ℕ) → 1 ≤ q → q ≤ holders g held value v → leading g held value q ≡ Nothing → ⊥
+    pub leading_some : (v : ℕ) → 1 ≤ q → q ≤ holders g held value v → leading g held value q ≡ None → ⊥
     leading_some v a h e = go (holders_some v (omega arith))
       where
         go : Holder held value g.n v → ⊥
@@ -127,32 +125,32 @@ module _ (g : Settings) (held : ℕ → Bool) (value : ℕ → ℕ) where
             omega (arith, same few)
 
     -- a value held from more than half of the senders is the one that leads
-    pub leading_unique : (v : ℕ) → whole_of g.weights g.n < q + q → q ≤ holders g held value v → leading g held value q ≡ Value v
+    pub leading_unique : (v : ℕ) → whole_of g.weights g.n < q + q → q ≤ holders g held value v → leading g held value q ≡ Some v
     leading_unique v a h = go (leading g held value q) refl
       where
-        go : (o : Output) → leading g held value q ≡ o → o ≡ Value v
-        go (Value u) e = ap Value (holders_same u v (omega (arith, (leading_value u e).enough)))
-        go Nothing e = absurd (leading_some v (omega arith) h e)
+        go : (o : Option ℕ) → leading g held value q ≡ o → o ≡ Some v
+        go (Some u) e = ap Some (holders_same u v (omega (arith, (leading_value u e).enough)))
+        go None e = absurd (leading_some v (omega arith) h e)
 
 module _ (g : Settings) (s : List ℕ) (i : ℕ) where
   -- READYs of weight W − ts hold the output
-  pub output_holders : (v : ℕ) → output g s i ≡ Value v → Led g (ready_held s i) (ready_value s i) (quorum g) v
+  pub output_holders : (v : ℕ) → output g s i ≡ Some v → Led g (ready_held s i) (ready_value s i) (quorum g) v
   unfolding output
   output_holders v e = leading_value g (ready_held s i) (ready_value s i) (quorum g) v e
 
   -- a value that READYs of weight W − ts hold is the output: within the rules there is no other (PROTOCOL 4.3)
-  pub output_unique : (v : ℕ) → Ruled g → quorum g ≤ holders g (ready_held s i) (ready_value s i) v → output g s i ≡ Value v
+  pub output_unique : (v : ℕ) → Ruled g → quorum g ≤ holders g (ready_held s i) (ready_value s i) v → output g s i ≡ Some v
   unfolding output
   output_unique v r h = leading_unique g (ready_held s i) (ready_value s i) (quorum g) v (omega (arith, quorum_sum g r, r.sum)) h
 
   -- a READY rests on ECHOs of weight W − ts or on READYs of weight ts + 1 (PROTOCOL 4.5)
-  pub ready_rests : (v : ℕ) → ready_due g s i ≡ Value v → (quorum g ≤ holders g (echo_held s i) (echo_value s i) v) ⊎ (repeat g ≤ holders g (ready_held s i) (ready_value s i) v)
+  pub ready_rests : (v : ℕ) → ready_due g s i ≡ Some v → (quorum g ≤ holders g (echo_held s i) (echo_value s i) v) ⊎ (repeat g ≤ holders g (ready_held s i) (ready_value s i) v)
   unfolding ready_due
   ready_rests v e = go (leading g (echo_held s i) (echo_value s i) (quorum g)) refl e
     where
-      go : (o : Output) → leading g (echo_held s i) (echo_value s i) (quorum g) ≡ o → or_output o (leading g (ready_held s i) (ready_value s i) (repeat g)) ≡ Value v → (quorum g ≤ holders g (echo_held s i) (echo_value s i) v) ⊎ (repeat g ≤ holders g (ready_held s i) (ready_value s i) v)
-      go (Value w) t h = inl (leading_value g (echo_held s i) (echo_value s i) (quorum g) v (t ∙ h)).enough
-      go Nothing t h = inr (leading_value g (ready_held s i) (ready_value s i) (repeat g) v h).enough
+      go : (o : Option ℕ) → leading g (echo_held s i) (echo_value s i) (quorum g) ≡ o → or_output o (leading g (ready_held s i) (ready_value s i) (repeat g)) ≡ Some v → (quorum g ≤ holders g (echo_held s i) (echo_value s i) v) ⊎ (repeat g ≤ holders g (ready_held s i) (ready_value s i) v)
+      go (Some w) t h = inl (leading_value g (echo_held s i) (echo_value s i) (quorum g) v (t ∙ h)).enough
+      go None t h = inr (leading_value g (ready_held s i) (ready_value s i) (repeat g) v h).enough
 
 -- the array within the rules
 module _ (g : Settings) (s : List ℕ) (outputs : ℕ) (values : List ℕ) (r : Ruled g) (x : Outputs g s g.n outputs values) where

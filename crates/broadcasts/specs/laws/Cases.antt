@@ -1,5 +1,5 @@
 -- The paths of the code.
-use Rattle.std.specs.Prelude.{ℕ, ◌+◌, ◌-◌, ◌^◌, ◌≤◌, ◌<◌, Bool, true, false, ◌&&◌, List, ◌≡◌, leb}
+use Rattle.std.specs.Prelude.{ℕ, ◌+◌, ◌-◌, ◌^◌, ◌≤◌, ◌<◌, Bool, true, false, ◌&&◌, List, ◌≡◌, leb, Option, Some, None}
 use Rattle.std.proofs.Math.Bool.{and-false, and_comm}
 use Rattle.std.proofs.Math.Path.{sym}
 use Rattle.std.proofs.Common.{ap, ◌∙◌, zero-add}
@@ -24,8 +24,6 @@ use Rattle.acts.specs.declared.Act.TheVariants.{Idle, Echo, Ready}
 use Rattle.broadcasts.specs.laws.Leading.{held_count}
 use Rattle.broadcasts.specs.Leading.{holders, leads, value_of, leading}
 use Rattle.broadcasts.specs.Broadcasts.{ready_due, echo_act, ready_act}
-use Rattle.broadcasts.specs.declared.Output.{Output}
-use Rattle.broadcasts.specs.declared.Output.TheVariants.{Value, Nothing}
 
 -- the senders that hold v, by their marks; `held` and `value` stand as arguments, so that a search reads them
 module _ (g : Settings) (s : List ℕ) (k b v q m x : ℕ) (held : ℕ → Bool) (value : ℕ → ℕ) (i : MarksOf (equal_at s (b + 1) v) g.n m) (e : x ≡ word s k) (h : g.weights < 2 ^ 64) (d : (λ p. marked s k p) ≡ held) (j : (λ p. word s (b + p)) ≡ value) where
@@ -62,20 +60,20 @@ module _ (g : Settings) (held : ℕ → Bool) (value : ℕ → ℕ) (q : ℕ) wh
   leads_missing p b e t = rw (← e, t)
 
   -- the loop of `leading`
-  pub leading_found : (k u : ℕ) (b : Bool) → Passed (leads g held value q) g.n k → k < g.n → b ≡ leads g held value q (k + 1) → b ≡ true → u ≡ value (k + 1) → Value u ≡ leading g held value q
+  pub leading_found : (k u : ℕ) (b : Bool) → Passed (leads g held value q) g.n k → k < g.n → b ≡ leads g held value q (k + 1) → b ≡ true → u ≡ value (k + 1) → Some u ≡ leading g held value q
   unfolding leading value_of
   leading_found k u b i l e t s =
       let p : k + 1 ≡ lowest (leads g held value q) g.n = passed_found (leads g held value q) g.n k b i l e t in
       rw (← p, ne_eqb (k + 1) 0 (λ z. omega arith), s)
 
-  pub leading_missing : (k : ℕ) → Passed (leads g held value q) g.n k → g.n ≤ k → Nothing ≡ leading g held value q
+  pub leading_missing : (k : ℕ) → Passed (leads g held value q) g.n k → g.n ≤ k → None ≡ leading g held value q
   unfolding leading value_of
   leading_missing k i l =
       let p : 0 ≡ lowest (leads g held value q) g.n = passed_missing (leads g held value q) g.n k i l in
       rw (← p)
 
   -- fewer than q hold anything
-  pub leading_few : (c : ℕ) → c ≡ weighed g held → c < q → Nothing ≡ leading g held value q
+  pub leading_few : (c : ℕ) → c ≡ weighed g held → c < q → None ≡ leading g held value q
   unfolding leading value_of leads holders
   leading_few c e l = rw (none_lowest (leads g held value q) g.n none)
     where
@@ -86,7 +84,7 @@ module _ (g : Settings) (held : ℕ → Bool) (value : ℕ → ℕ) (q : ℕ) wh
       none p a b = rw (lt-leb q (weighed g (λ k. held k && eqb (value k) (value p))) (omega (arith, fewer (value p)))) (and-false (held p))
 
   -- of the settings only n and the weights are read
-  pub leading_counted : (o : Output) → o ≡ leading (counting g.n g.weights) held value q → o ≡ leading g held value q
+  pub leading_counted : (o : Option ℕ) → o ≡ leading (counting g.n g.weights) held value q → o ≡ leading g held value q
   unfolding leading leads holders
   leading_counted o e = e
 
@@ -114,11 +112,11 @@ module _ (s : List ℕ) (i : ℕ) where
 pub ruleset echo_cases = (echo_was_sent, echo_due, echo_not_due)
 
 module _ (g : Settings) (s : List ℕ) (i : ℕ) where
-  pub due_by_echoes : (o : Output) (q v : ℕ) → q ≡ quorum g → o ≡ leading g (echo_held s i) (echo_value s i) q → o ≡ Value v → Value v ≡ ready_due g s i
+  pub due_by_echoes : (o : Option ℕ) (q v : ℕ) → q ≡ quorum g → o ≡ leading g (echo_held s i) (echo_value s i) q → o ≡ Some v → Some v ≡ ready_due g s i
   unfolding ready_due
   due_by_echoes o q v e f h = rw (← e, ← f, h)
 
-  pub due_by_readies : (o r : Output) (q k : ℕ) → q ≡ quorum g → o ≡ leading g (echo_held s i) (echo_value s i) q → o ≡ Nothing → k ≡ repeat g → r ≡ leading g (ready_held s i) (ready_value s i) k → r ≡ ready_due g s i
+  pub due_by_readies : (o r : Option ℕ) (q k : ℕ) → q ≡ quorum g → o ≡ leading g (echo_held s i) (echo_value s i) q → o ≡ None → k ≡ repeat g → r ≡ leading g (ready_held s i) (ready_value s i) k → r ≡ ready_due g s i
   unfolding ready_due
   due_by_readies o r q k e f h u w = rw (← e, ← f, h, ← u, ← w)
 
@@ -126,11 +124,11 @@ module _ (g : Settings) (s : List ℕ) (i : ℕ) where
   unfolding ready_act
   ready_was_sent a e t = rw (← e, t)
 
-  pub ready_due_lem : (a : Bool) (o : Output) (v : ℕ) → a ≡ ready_sent s i → a ≡ false → o ≡ ready_due g s i → o ≡ Value v → Ready i v ≡ ready_act g s i
+  pub ready_due_lem : (a : Bool) (o : Option ℕ) (v : ℕ) → a ≡ ready_sent s i → a ≡ false → o ≡ ready_due g s i → o ≡ Some v → Ready i v ≡ ready_act g s i
   unfolding ready_act
   ready_due_lem a o v e t f h = rw (← e, t, ← f, h)
 
-  pub ready_not_due : (a : Bool) (o : Output) → a ≡ ready_sent s i → a ≡ false → o ≡ ready_due g s i → o ≡ Nothing → Idle ≡ ready_act g s i
+  pub ready_not_due : (a : Bool) (o : Option ℕ) → a ≡ ready_sent s i → a ≡ false → o ≡ ready_due g s i → o ≡ None → Idle ≡ ready_act g s i
   unfolding ready_act
   ready_not_due a o e t f h = rw (← e, t, ← f, h)
 

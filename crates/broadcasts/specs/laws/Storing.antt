@@ -1,5 +1,5 @@
 -- The array of outputs: what is read of it, and what the loop keeps that fills it.
-use Rattle.std.specs.Prelude.{ℕ, ◌+◌, ◌-◌, ◌≤◌, ◌<◌, Bool, ◌&&◌, List, ◌≢◌, ◌≡◌, leb, length}
+use Rattle.std.specs.Prelude.{ℕ, ◌+◌, ◌-◌, ◌≤◌, ◌<◌, Bool, ◌&&◌, List, ◌≢◌, ◌≡◌, leb, length, Option, Some, None}
 use Rattle.std.proofs.Math.Bool.{true, false, cond}
 use Rattle.std.proofs.Math.Path.{refl}
 use Rattle.std.proofs.Common.{sym, ap, subst, ◌∙◌, arith, le-leb}
@@ -14,23 +14,21 @@ use Rattle.broadcasts.specs.Leading.{present}
 use Rattle.broadcasts.specs.Broadcasts.{output}
 use Rattle.broadcasts.specs.Outputs.{output_at, Outputs}
 use Rattle.broadcasts.specs.laws.Outputs.{stored_marks, stored_values, Stored}
-use Rattle.broadcasts.specs.declared.Output.{Output}
-use Rattle.broadcasts.specs.declared.Output.TheVariants.{Value, Nothing}
 
 module _ (outputs : ℕ) (values : List ℕ) (i : ℕ) where
-  pub at_marked : i ≤ 16 → mark outputs i ≡ true → output_at outputs values i ≡ Value (word values (i - 1))
+  pub at_marked : i ≤ 16 → mark outputs i ≡ true → output_at outputs values i ≡ Some (word values (i - 1))
   unfolding output_at
   at_marked l e = rw (le-leb i 16 l, e)
 
-  pub at_clear : mark outputs i ≡ false → output_at outputs values i ≡ Nothing
+  pub at_clear : mark outputs i ≡ false → output_at outputs values i ≡ None
   unfolding output_at
   at_clear e = go (leb i 16)
     where
-      go : (b : Bool) → cond (b && mark outputs i) (Value (word values (i - 1))) Nothing ≡ Nothing
+      go : (b : Bool) → cond (b && mark outputs i) (Some (word values (i - 1))) None ≡ None
       go true = rw e
       go false = refl
 
-  pub at_above : 16 < i → output_at outputs values i ≡ Nothing
+  pub at_above : 16 < i → output_at outputs values i ≡ None
   unfolding output_at
   at_above l = rw (lt-leb i 16 l)
 
@@ -42,22 +40,22 @@ module _ (outputs : ℕ) (values : List ℕ) (i : ℕ) where
       go false e = ap present (at_clear e)
 
   -- the paths of `output_at`
-  pub read_none : i < 1 → Nothing ≡ output_at outputs values i
+  pub read_none : i < 1 → None ≡ output_at outputs values i
   read_none l = sym (at_clear (mark_low outputs i l))
 
-  pub read_above : 16 < i → Nothing ≡ output_at outputs values i
+  pub read_above : 16 < i → None ≡ output_at outputs values i
   read_above l = sym (at_above l)
 
-  pub read_marked : (b : Bool) (v : ℕ) → i ≤ 16 → b ≡ mark outputs i → b ≡ true → v ≡ word values (i - 1) → Value v ≡ output_at outputs values i
-  read_marked b v l e t w = sym (at_marked l (sym e ∙ t) ∙ ap Value (sym w))
+  pub read_marked : (b : Bool) (v : ℕ) → i ≤ 16 → b ≡ mark outputs i → b ≡ true → v ≡ word values (i - 1) → Some v ≡ output_at outputs values i
+  read_marked b v l e t w = sym (at_marked l (sym e ∙ t) ∙ ap Some (sym w))
 
-  pub read_clear : (b : Bool) → b ≡ mark outputs i → b ≡ false → Nothing ≡ output_at outputs values i
+  pub read_clear : (b : Bool) → b ≡ mark outputs i → b ≡ false → None ≡ output_at outputs values i
   read_clear b e t = sym (at_clear (sym e ∙ t))
 
 pub ruleset output_reads = (read_none, read_above, read_marked, read_clear)
 
 -- the path of `store_output`
-pub stored_value : (outputs : ℕ) (values : List ℕ) (i v : ℕ) (o : Output) (outputs' : ℕ) (values' : List ℕ) → o ≡ Value v → outputs' ≡ with_mark outputs i → values' ≡ put values (i - 1) v → Stored outputs values i o outputs' values'
+pub stored_value : (outputs : ℕ) (values : List ℕ) (i v : ℕ) (o : Option ℕ) (outputs' : ℕ) (values' : List ℕ) → o ≡ Some v → outputs' ≡ with_mark outputs i → values' ≡ put values (i - 1) v → Stored outputs values i o outputs' values'
 stored_value outputs values i v o outputs' values' e f h = rw e (record { new_marks = f; new_values = h })
 
 -- another broadcast's output stays
@@ -68,18 +66,18 @@ kept outputs values i j v a b ne =
     rw (mark_other outputs i j ne, word_put_other values (i - 1) v (j - 1) apart)
 
 -- the one that was stored is read back
-same : (outputs : ℕ) (values : List ℕ) (i v : ℕ) → 1 ≤ i → i ≤ 16 → length values ≡ 16 → output_at (with_mark outputs i) (put values (i - 1) v) i ≡ Value v
+same : (outputs : ℕ) (values : List ℕ) (i v : ℕ) → 1 ≤ i → i ≤ 16 → length values ≡ 16 → output_at (with_mark outputs i) (put values (i - 1) v) i ≡ Some v
 same outputs values i v a b e =
     at_marked (with_mark outputs i) (put values (i - 1) v) i b (mark_same outputs i a (omega arith))
-    ∙ ap Value (word_put_same values (i - 1) v (omega arith))
+    ∙ ap Some (word_put_same values (i - 1) v (omega arith))
 
 module _ (g : Settings) (s : List ℕ) where
   pub outputs_start : (values : List ℕ) → length values ≡ 16 → Outputs g s 0 0 values
   outputs_start values e =
       record { within = omega arith; size = e; each = λ i a b l. absurd (omega arith); none = λ i l. mark_zero i }
 
-  step : (k outputs : ℕ) (values : List ℕ) → Outputs g s k outputs values → k < g.n → (o : Output) → o ≡ output g s (k + 1) → Outputs g s (k + 1) (stored_marks outputs (k + 1) o) (stored_values values (k + 1) o)
-  step k outputs values x l (Value v) e =
+  step : (k outputs : ℕ) (values : List ℕ) → Outputs g s k outputs values → k < g.n → (o : Option ℕ) → o ≡ output g s (k + 1) → Outputs g s (k + 1) (stored_marks outputs (k + 1) o) (stored_values values (k + 1) o)
+  step k outputs values x l (Some v) e =
       record {
         within = omega arith;
         size = length_put values (k + 1 - 1) v ∙ x.size;
@@ -93,7 +91,7 @@ module _ (g : Settings) (s : List ℕ) where
           let z : k + 1 ≡ i = omega arith in
           let here : output_at (with_mark outputs (k + 1)) (put values (k + 1 - 1) v) (k + 1) ≡ output g s (k + 1) = same outputs values (k + 1) v (omega arith) (omega arith) x.size ∙ e in
           subst (λ (m : ℕ). output_at (with_mark outputs (k + 1)) (put values (k + 1 - 1) v) m ≡ output g s m) z here
-  step k outputs values x l Nothing e =
+  step k outputs values x l None e =
       record { within = omega arith; size = x.size; each = λ i a b h. go i a b h (dec_le i k); none = λ i h. x.none i (omega arith) }
     where
       go : (i : ℕ) → 1 ≤ i → i ≤ k + 1 → i ≤ 16 → Dec (i ≤ k) → output_at outputs values i ≡ output g s i
@@ -103,7 +101,7 @@ module _ (g : Settings) (s : List ℕ) where
           let here : output_at outputs values (k + 1) ≡ output g s (k + 1) = at_clear outputs values (k + 1) (x.none (k + 1) (omega arith)) ∙ e in
           subst (λ (m : ℕ). output_at outputs values m ≡ output g s m) z here
 
-  pub outputs_next : (k outputs : ℕ) (values : List ℕ) (o : Output) (outputs' : ℕ) (values' : List ℕ) → Outputs g s k outputs values → k < g.n → o ≡ output g s (k + 1) → Stored outputs values (k + 1) o outputs' values' → Outputs g s (k + 1) outputs' values'
+  pub outputs_next : (k outputs : ℕ) (values : List ℕ) (o : Option ℕ) (outputs' : ℕ) (values' : List ℕ) → Outputs g s k outputs values → k < g.n → o ≡ output g s (k + 1) → Stored outputs values (k + 1) o outputs' values' → Outputs g s (k + 1) outputs' values'
   outputs_next k outputs values o outputs' values' x l e t = rw (t.new_marks, t.new_values) (step k outputs values x l o e)
 
   pub outputs_done : (k outputs : ℕ) (values : List ℕ) → Outputs g s k outputs values → g.n ≤ k → Outputs g s g.n outputs values

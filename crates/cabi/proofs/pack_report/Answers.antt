@@ -5,8 +5,8 @@ use Rattle.cabi.proofs.pack_report.Goals as goal
 pub figures_number-requires : goal.figures_number-requires
 figures_number-requires c = search report_cases
 
-pub returns-in-Refused : goal.returns-in-Refused
-returns-in-Refused c = search report_cases
+pub returns-in-Err : goal.returns-in-Err
+returns-in-Err c = search report_cases
 
-pub returns-in-Given : goal.returns-in-Given
-returns-in-Given c = search report_cases
+pub returns-in-Ok : goal.returns-in-Ok
+returns-in-Ok c = search report_cases

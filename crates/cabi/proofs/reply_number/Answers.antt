@@ -8,5 +8,5 @@ overflow_mul-result c = search reply_cases
 pub overflow_add-result : goal.overflow_add-result
 overflow_add-result c = search reply_cases
 
-pub returns-in-Bit : goal.returns-in-Bit
-returns-in-Bit c = search reply_cases
+pub returns-in-Some : goal.returns-in-Some
+returns-in-Some c = search reply_cases

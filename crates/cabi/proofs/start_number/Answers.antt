@@ -5,5 +5,5 @@ use Rattle.cabi.proofs.start_number.Goals as goal
 pub overflow_mul-result : goal.overflow_mul-result
 overflow_mul-result c = search minutes
 
-pub returns-in-Minute : goal.returns-in-Minute
-returns-in-Minute c = search minutes
+pub returns-in-Ok : goal.returns-in-Ok
+returns-in-Ok c = search minutes

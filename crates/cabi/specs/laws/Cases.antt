@@ -1,7 +1,6 @@
 -- The cases of the code, and that a number gives its parts back.
-use Rattle.std.specs.Prelude.{ℕ, ◌+◌, ◌*◌, ◌/◌, ◌%◌, ◌^◌, ◌≤◌, ◌<◌, Bool, true, false, cond, List, ◌≡◌, refl, eqb, ltb, length}
-use Rattle.std.proofs.Math.Option.{Option, none, some}
-use Rattle.std.proofs.Common.{sym, ap, ◌∙◌, arith, eqb-true, lt-ltb, le-ltb, Fits}
+use Rattle.std.specs.Prelude.{ℕ, ◌+◌, ◌*◌, ◌/◌, ◌%◌, ◌^◌, ◌≤◌, ◌<◌, Bool, true, false, cond, List, ◌≡◌, refl, ltb, length, Result, Ok, Err, Option, Some, None}
+use Rattle.std.proofs.Common.{sym, ap, ◌∙◌, arith, lt-ltb, le-ltb, Fits}
 use Rattle.std.specs.Int.{w64}
 use Rattle.settings.specs.declared.Settings.{Settings}
 use Rattle.records.specs.Records.{coin}
@@ -16,44 +15,40 @@ use Rattle.turn.specs.Turn.{sent_length, move_outcome, outcome_of, admits, takin
 use Rattle.turn.specs.laws.Told.{ActTold}
 use Rattle.turn.specs.laws.Due.{due_told}
 use Rattle.turn.specs.laws.Admitting.{admitting, admitted_ruled}
-use Rattle.turn.specs.declared.Admitted.{Admitted}
-use Rattle.turn.specs.declared.Admitted.TheVariants as admitted
 use Rattle.turn.specs.declared.Outcome.{Outcome}
 use Rattle.turn.specs.declared.Outcome.TheVariants as turn
 use Rattle.report.specs.Report.{report_answer}
 use Rattle.report.specs.laws.Report.{reported, turns_few}
 use Rattle.report.specs.declared.Figures.{Figures}
-use Rattle.report.specs.declared.Answer.{Answer}
-use Rattle.report.specs.declared.Answer.TheVariants as report
 use Rattle.opening.specs.Arguments.{Arguments}
 use Rattle.journal.specs.laws.Journal.{line_taken}
-use Rattle.journal.specs.Journal.{line_entry, open_number, open_entry, deliver_number, deliver_entry, record_number, record_entry}
+use Rattle.journal.specs.Journal.{line_entry, open_line_answer, open_entry, deliver_line_answer, deliver_entry, record_line_answer, record_entry}
 use Rattle.journal.specs.laws.Fitting.{opening_fits, delivery_fits, recording_fits}
 use Rattle.coin_box.specs.Box.{request_reply}
-use Rattle.coin_box.specs.declared.Reply.{Reply}
-use Rattle.coin_box.specs.declared.Reply.TheVariants as box
-use Rattle.journal.specs.declared.Entry.{Entry}
-use Rattle.journal.specs.declared.Entry.TheVariants as journal
 use Rattle.restore.specs.Complete.{lines_of, joined}
-use Rattle.restore.specs.Restoring.{Replay, wrong, right, replay, length_again, replay_answer, lent_answer, restore_answer}
+use Rattle.restore.specs.Restoring.{Replay, wrong, right, replay, length_again, replay_answer, lent_answer, where_lent, restore_answer}
 use Rattle.restore.specs.declared.Restored.{Restored}
-use Rattle.restore.specs.declared.Restored.TheVariants as restore
+use Rattle.restore.specs.declared.RestoreError.{RestoreError}
+use Rattle.restore.specs.declared.RestoreError.TheVariants as failed
 use Rattle.cabi.specs.Answers.{entry_number, outcome_number, figures_number, report_number}
 use Rattle.cabi.specs.Restored.{restored_number}
 use Rattle.cabi.specs.Replies.{bit_value, reply_number}
+use Rattle.settings.specs.declared.refusal.Refusal.{Refusal}
+use Rattle.session.specs.declared.Session.{Session}
+use Rattle.settings.specs.declared.refusal.Refusal.TheVariants as refusal
+use Rattle.settings.specs.Refusals.{number_of}
 
 -- the length of a line that is written, and of a message that is given again
-abbrev pub line_length : Entry → ℕ
-line_length (journal.Refused k) = 0
-line_length (journal.Line l) = l
+abbrev pub line_length : Result ℕ Refusal → ℕ
+line_length (Err k) = 0
+line_length (Ok l) = l
 
-abbrev pub message_length : Restored → ℕ
-message_length (restore.Refused k) = 0
-message_length (restore.Journal k) = 0
-message_length (restore.Given m bytes) = m
+abbrev pub message_length : Result Restored RestoreError → ℕ
+message_length (Err k) = 0
+message_length (Ok r) = r.message
 
 -- a message that is sent has at most 16 values
-act_few : (own : ℕ) (g : Settings) (s : List ℕ) (a : Act) → ActTold g s a → sent_length (outcome_of own s a) ≤ 140
+act_few : (own : ℕ) (g : Settings) (s : List ℕ) (a : Act) → ActTold g s a → sent_length (Ok (outcome_of own s a)) ≤ 140
 unfolding outcome_of move_outcome
 act_few own g s Idle t = omega arith
 act_few own g s InForce t = omega arith
@@ -67,7 +62,7 @@ act_few own g s (Aux i r b) t = omega arith
 act_few own g s (Finish i b) t = omega arith
 act_few own g s (Move i r v) t = go (ltb r 32)
   where
-    go : (b : Bool) → sent_length (cond b (turn.Sent (message.Est i (r + 1) (estimate (coin s i r) v))) turn.MovedOut) ≤ 140
+    go : (b : Bool) → sent_length (Ok (cond b (turn.Sent (message.Est i (r + 1) (estimate (coin s i r) v))) turn.MovedOut)) ≤ 140
     go true = omega arith
     go false = omega arith
 
@@ -75,13 +70,13 @@ pub sent_few : (s : List ℕ) (room : ℕ) → sent_length (turn_outcome s room)
 unfolding taking turn_outcome
 sent_few s room = go (admits s room) refl
   where
-    go : (v : Admitted) → admits s room ≡ v → sent_length (turn_outcome s room) ≤ 140
-    go (admitted.Refused k) e = rw e (omega arith)
-    go (admitted.Open x) e = rw e (act_few x.own x.settings s (due x.settings s) (due_told x.settings s (admitted_ruled s room x (admitting s room x e))))
+    go : (v : Result Session Refusal) → admits s room ≡ v → sent_length (turn_outcome s room) ≤ 140
+    go (Err k) e = rw e (omega arith)
+    go (Ok x) e = rw e (act_few x.own x.settings s (due x.settings s) (due_told x.settings s (admitted_ruled s room x (admitting s room x e))))
 
-module _ (o : Outcome) (h : sent_length o ≤ 140) (m : Message) (e : o ≡ turn.Sent m) (l : ℕ) (f : l ≡ length_of m) where
+module _ (o : Result Outcome Refusal) (h : sent_length o ≤ 140) (x : Outcome) (y : o ≡ Ok x) (m : Message) (e : x ≡ turn.Sent m) (l : ℕ) (f : l ≡ length_of m) where
   length_few : l ≤ 140
-  length_few = rw f (rw e at h)
+  length_few = rw f (rw (y, e) at h)
 
   pub shifted_fits : Fits w64 (65536 * l)
   shifted_fits = record { fits = omega (arith, length_few) }
@@ -90,11 +85,11 @@ module _ (o : Outcome) (h : sent_length o ≤ 140) (m : Message) (e : o ≡ turn
   sum_fits = record { fits = omega (arith, length_few) }
 
   pub sent_number : 256 + 65536 * l ≡ outcome_number o
-  sent_number = rw (e, f)
+  sent_number = rw (y, e, f)
 
 pub ruleset outcome_cases = (shifted_fits, sum_fits, sent_number)
 
-module _ (s : List ℕ) (room : ℕ) (o : Outcome) (e : o ≡ turn_outcome s room) where
+module _ (s : List ℕ) (room : ℕ) (o : Result Outcome Refusal) (e : o ≡ turn_outcome s room) where
   pub turn_few : sent_length o ≤ 140
   turn_few = rw e (sent_few s room)
 
@@ -103,7 +98,7 @@ module _ (s : List ℕ) (room : ℕ) (o : Outcome) (e : o ≡ turn_outcome s roo
 
 pub ruleset turn_cases = (turn_few, turn_number)
 
-module _ (e : Entry) (h : line_length e ≤ 512) (l : ℕ) (f : e ≡ journal.Line l) where
+module _ (e : Result ℕ Refusal) (h : line_length e ≤ 512) (l : ℕ) (f : e ≡ Ok l) where
   pub line_fits : Fits w64 (65536 * l)
   line_fits = let q : l ≤ 512 = rw f at h in record { fits = omega arith }
 
@@ -112,33 +107,30 @@ module _ (e : Entry) (h : line_length e ≤ 512) (l : ℕ) (f : e ≡ journal.Li
 
 pub ruleset entry_cases = (line_fits, line_number)
 
-entry_few : (k : ℕ) (line : List ℕ) → (k ≡ 0 → length line ≤ 512) → line_length (line_entry k line) ≤ 512
+entry_few : (a : Result (Unit {0}) Refusal) (line : List ℕ) → (a ≡ Ok tt → length line ≤ 512) → line_length (line_entry a line) ≤ 512
 unfolding line_entry
-entry_few k line h = go (eqb k 0) refl
-  where
-    go : (b : Bool) → eqb k 0 ≡ b → line_length (cond b (journal.Line (length line)) (journal.Refused k)) ≤ 512
-    go true f = h (eqb-true k 0 f)
-    go false f = omega arith
+entry_few (Ok tt) line h = h refl
+entry_few (Err k) line h = omega arith
 
-module _ (words : ℕ) (o : Arguments) (room : ℕ) (e : Entry) (f : e ≡ open_entry words o room) where
+module _ (words : ℕ) (o : Arguments) (room : ℕ) (e : Result ℕ Refusal) (f : e ≡ open_entry words o room) where
   pub open_few : line_length e ≤ 512
-  unfolding open_entry open_number
+  unfolding open_entry open_line_answer
   open_few = rw f (entry_few _ _ (λ z. opening_fits words o (line_taken _ room z).0))
 
   pub open_number_lem : (r : ℕ) → r ≡ entry_number e → r ≡ entry_number (open_entry words o room)
   open_number_lem r g = g ∙ ap entry_number f
 
-module _ (s : List ℕ) (link : ℕ) (b : List ℕ) (room : ℕ) (e : Entry) (f : e ≡ deliver_entry s link b room) where
+module _ (s : List ℕ) (link : ℕ) (b : List ℕ) (room : ℕ) (e : Result ℕ Refusal) (f : e ≡ deliver_entry s link b room) where
   pub deliver_few : line_length e ≤ 512
-  unfolding deliver_entry deliver_number
+  unfolding deliver_entry deliver_line_answer
   deliver_few = rw f (entry_few _ _ (λ z. delivery_fits s link b (line_taken _ room z).0))
 
   pub deliver_number_lem : (r : ℕ) → r ≡ entry_number e → r ≡ entry_number (deliver_entry s link b room)
   deliver_number_lem r g = g ∙ ap entry_number f
 
-module _ (s : List ℕ) (i r b room : ℕ) (e : Entry) (f : e ≡ record_entry s i r b room) where
+module _ (s : List ℕ) (i r b room : ℕ) (e : Result ℕ Refusal) (f : e ≡ record_entry s i r b room) where
   pub record_few : line_length e ≤ 512
-  unfolding record_entry record_number
+  unfolding record_entry record_line_answer
   record_few = rw f (entry_few _ _ (λ z. recording_fits i r b))
 
   pub record_number_lem : (q : ℕ) → q ≡ entry_number e → q ≡ entry_number (record_entry s i r b room)
@@ -148,8 +140,8 @@ pub ruleset line_cases = (open_few, open_number_lem, deliver_few, deliver_number
 
 again_few : (x : Option (List ℕ)) → length_again x ≤ 140
 unfolding length_again
-again_few none = omega arith
-again_few (some w) = sent_few w 140
+again_few None = omega arith
+again_few (Some w) = sent_few w 140
 
 replay_few : (x : Replay) (bytes : ℕ) → message_length (replay_answer x bytes) ≤ 140
 unfolding replay_answer
@@ -158,11 +150,11 @@ replay_few (right x) bytes = again_few x.turned
 
 restore_answer_few : (v j : List ℕ) (room : ℕ) → message_length (restore_answer v j room) ≤ 140
 unfolding restore_answer
-restore_answer_few v j room = go (eqb (lent_answer (length v) room) 0)
+restore_answer_few v j room = go (lent_answer (length v) room)
   where
-    go : (b : Bool) → message_length (cond b (replay_answer (replay (lines_of j)) (length (joined (lines_of j)))) (restore.Refused (lent_answer (length v) room))) ≤ 140
-    go true = replay_few (replay (lines_of j)) _
-    go false = omega arith
+    go : (a : Result (Unit {0}) Refusal) → message_length (where_lent a (replay_answer (replay (lines_of j)) (length (joined (lines_of j))))) ≤ 140
+    go (Ok tt) = replay_few (replay (lines_of j)) _
+    go (Err k) = omega arith
 
 pub again_some : (m : ℕ) → 0 < m → ◌≡◌ {A = ℕ} 1 (cond (ltb 0 m) 1 0)
 again_some m h = rw (lt-ltb 0 m h)
@@ -177,35 +169,39 @@ again_bit : (b : Bool) → cond b 1 0 ≤ 1
 again_bit true = omega arith
 again_bit false = omega arith
 
-module _ (a : Restored) (h : message_length a ≤ 140) where
-  pub journal_number : (line : ℕ) → a ≡ restore.Journal line → 15 + 256 * (line % 72057594037927936) ≡ restored_number a
-  journal_number line f = rw f
+module _ (a : Result Restored RestoreError) (h : message_length a ≤ 140) where
+  module _ (x : RestoreError) (e : a ≡ Err x) where
+    pub lent_number : (k : Refusal) (n : ℕ) → x ≡ failed.Lent k → n ≡ number_of k → n ≡ restored_number a
+    lent_number k n f g = g ∙ rw (e, f)
 
-  module _ (m bytes : ℕ) (f : a ≡ restore.Given m bytes) (g : ℕ) (q : g ≡ cond (ltb 0 m) 1 0) where
-    few_again : m ≤ 140
+    pub line_number_lem : (line j : ℕ) → x ≡ failed.Line line → j ≡ number_of refusal.Journal → j + 256 * (line % 72057594037927936) ≡ restored_number a
+    line_number_lem line j f g = rw (e, f, g)
+
+  module _ (r : Restored) (f : a ≡ Ok r) (g : ℕ) (q : g ≡ cond (ltb 0 r.message) 1 0) where
+    few_again : r.message ≤ 140
     few_again = rw f at h
 
     one_again : g ≤ 1
-    one_again = rw q (again_bit (ltb 0 m))
+    one_again = rw q (again_bit (ltb 0 r.message))
 
     pub flag_fits : Fits w64 (256 * g)
     flag_fits = record { fits = omega (arith, one_again) }
 
-    pub message_fits : Fits w64 (65536 * m)
+    pub message_fits : Fits w64 (65536 * r.message)
     message_fits = record { fits = omega (arith, few_again) }
 
-    pub both_fit : Fits w64 (256 * g + 65536 * m)
+    pub both_fit : Fits w64 (256 * g + 65536 * r.message)
     both_fit = record { fits = omega (arith, few_again, one_again) }
 
-    pub all_fit : Fits w64 (256 * g + 65536 * m + 4294967296 * (bytes % 4294967296))
+    pub all_fit : Fits w64 (256 * g + 65536 * r.message + 4294967296 * (r.bytes % 4294967296))
     all_fit = record { fits = omega (arith, few_again, one_again) }
 
-    pub given_number : 256 * g + 65536 * m + 4294967296 * (bytes % 4294967296) ≡ restored_number a
+    pub given_number : 256 * g + 65536 * r.message + 4294967296 * (r.bytes % 4294967296) ≡ restored_number a
     given_number = rw (f, q)
 
-pub ruleset restored_cases = (journal_number, flag_fits, message_fits, both_fit, all_fit, given_number)
+pub ruleset restored_cases = (lent_number, line_number_lem, flag_fits, message_fits, both_fit, all_fit, given_number)
 
-module _ (v j : List ℕ) (room : ℕ) (a : Restored) (f : a ≡ restore_answer v j room) where
+module _ (v j : List ℕ) (room : ℕ) (a : Result Restored RestoreError) (f : a ≡ restore_answer v j room) where
   pub restore_few : message_length a ≤ 140
   restore_few = rw f (restore_answer_few v j room)
 
@@ -214,11 +210,11 @@ module _ (v j : List ℕ) (room : ℕ) (a : Restored) (f : a ≡ restore_answer 
 
 pub ruleset restore_cases = (restore_few, restore_number)
 
-module _ (s : List ℕ) (x y : ℕ) (a : Answer) (e : a ≡ report_answer s x y) where
-  pub report_refused : (k : ℕ) → a ≡ report.Refused k → k ≡ report_number (report_answer s x y)
-  report_refused k t = rw (← e, t)
+module _ (s : List ℕ) (x y : ℕ) (a : Result Figures Refusal) (e : a ≡ report_answer s x y) where
+  pub report_refused : (k : Refusal) (n : ℕ) → a ≡ Err k → n ≡ number_of k → n ≡ report_number (report_answer s x y)
+  report_refused k n t g = g ∙ rw (← e, t)
 
-  module _ (f : Figures) (t : a ≡ report.Given f) where
+  module _ (f : Figures) (t : a ≡ Ok f) where
     pub turns_fit : f.turns < 4294967296
     turns_fit = omega (arith, turns_few s f (reported s x y f (sym e ∙ t)))
 
@@ -249,7 +245,7 @@ bit_small : (b : Bool) → bit_value b ≤ 1
 bit_small true = omega arith
 bit_small false = omega arith
 
-module _ (x : Reply) (b : Bool) (e : x ≡ box.Bit b) (k : ℕ) (f : k ≡ bit_value b) where
+module _ (x : Result (Option Bool) Refusal) (y : Option Bool) (z : x ≡ Ok y) (b : Bool) (e : y ≡ Some b) (k : ℕ) (f : k ≡ bit_value b) where
   pub bit_fits : Fits w64 (65536 * k)
   bit_fits = record { fits = omega (arith, bit_small b) }
 
@@ -257,9 +253,9 @@ module _ (x : Reply) (b : Bool) (e : x ≡ box.Bit b) (k : ℕ) (f : k ≡ bit_v
   reply_fits = record { fits = omega (arith, bit_small b) }
 
   pub bit_number : 256 + 65536 * k ≡ reply_number x
-  bit_number = rw (e, f)
+  bit_number = rw (z, e, f)
 
 pub ruleset reply_cases = (bit_fits, reply_fits, bit_number)
 
-pub request_number : (s : List ℕ) (p i r : ℕ) (x : Reply) (k : ℕ) → x ≡ request_reply s p i r → k ≡ reply_number x → k ≡ reply_number (request_reply s p i r)
+pub request_number : (s : List ℕ) (p i r : ℕ) (x : Result (Option Bool) Refusal) (k : ℕ) → x ≡ request_reply s p i r → k ≡ reply_number x → k ≡ reply_number (request_reply s p i r)
 request_number s p i r x k e f = f ∙ ap reply_number e

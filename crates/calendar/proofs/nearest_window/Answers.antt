@@ -12,3 +12,6 @@ loop-k-preserved c = search soughts
 
 pub returns : goal.returns
 returns c = search soughts
+
+pub returns-in-Some : goal.returns-in-Some
+returns-in-Some c = search soughts

@@ -17,8 +17,8 @@ returns-then-lead-gt-WEEK_MINUTES c = search starts
 pub overflow_add-result : goal.overflow_add-result
 overflow_add-result c = search minute_fits
 
-pub returns-in-Bad : goal.returns-in-Bad
-returns-in-Bad c = search starts
+pub returns-in-None : goal.returns-in-None
+returns-in-None c = search starts
 
-pub returns-in-After : goal.returns-in-After
-returns-in-After c = search starts
+pub returns-in-Some : goal.returns-in-Some
+returns-in-Some c = search starts

@@ -1,11 +1,9 @@
 -- The start minute is the first in a window, for all lists, closing minutes and leads that are taken.
-use Rattle.std.specs.Prelude.{ℕ, ◌+◌, ◌-◌, ◌*◌, ◌%◌, ◌^◌, ◌≤◌, ◌<◌, Bool, true, false, ◌&&◌, List, ◌≡◌, refl, leb, length}
+use Rattle.std.specs.Prelude.{ℕ, ◌+◌, ◌-◌, ◌*◌, ◌%◌, ◌^◌, ◌≤◌, ◌<◌, Bool, true, false, ◌&&◌, List, ◌≡◌, refl, leb, length, Option, Some, None}
 use Rattle.std.proofs.Common.{sym, ◌∙◌, subst, arith, leb-true}
 use Rattle.quorum.specs.laws.Bools.{and_left, and_right}
 use Rattle.calendar.specs.Calendar.{week_minutes, max_windows, max_closing, max_lead, windows_right, allowed, taken, start_minute}
 use Rattle.calendar.specs.First.{First, FirstInWindow}
-use Rattle.calendar.specs.declared.Nearest.{Nearest}
-use Rattle.calendar.specs.declared.Nearest.TheVariants.{Bad, After}
 use Rattle.calendar.specs.laws.Search.{nearest_from}
 use Rattle.calendar.specs.laws.Found.{Found, found, not_found}
 use Rattle.calendar.specs.laws.Start.{at_distance, hit, missed}
@@ -52,9 +50,9 @@ limits ws c l t =
 pub start_first : (ws : List ℕ) (c l : ℕ) → taken ws c l ≡ true → First ws (c + l) (start_minute ws c l)
 start_first ws c l t = go (limits ws c l t) (nearest_from week_minutes ws ((c + l) % week_minutes)) refl
   where
-    go : Limits ws c l → (x : Nearest) → nearest_from week_minutes ws ((c + l) % week_minutes) ≡ x → First ws (c + l) (start_minute ws c l)
-    go g Bad e = no_truth (sym g.right ∙ not_found ws week_minutes ((c + l) % week_minutes) e)
-    go g (After d) e =
+    go : Limits ws c l → (x : Option ℕ) → nearest_from week_minutes ws ((c + l) % week_minutes) ≡ x → First ws (c + l) (start_minute ws c l)
+    go g None e = no_truth (sym g.right ∙ not_found ws week_minutes ((c + l) % week_minutes) e)
+    go g (Some d) e =
         let f : Found week_minutes ws ((c + l) % week_minutes) d = found ws week_minutes ((c + l) % week_minutes) d (omega arith) e in
         rw (at_distance ws c l d g.some f) (first_found ws c l d g.some f)
 

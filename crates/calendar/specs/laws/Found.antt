@@ -1,13 +1,11 @@
 -- What the code finds is what the definition searches for.
-use Rattle.std.specs.Prelude.{ℕ, zero, suc, ◌+◌, ◌%◌, ◌≤◌, ◌<◌, min, Bool, false, ◌&&◌, ◌||◌, cond, List, [], ◌∷◌, ◌⊎◌, ◌≡◌, refl, leb, ltb, length}
+use Rattle.std.specs.Prelude.{ℕ, zero, suc, ◌+◌, ◌%◌, ◌≤◌, ◌<◌, min, Bool, false, ◌&&◌, ◌||◌, cond, List, [], ◌∷◌, ◌⊎◌, ◌≡◌, refl, leb, ltb, length, Option, Some, None}
 use Rattle.std.proofs.Math.Bool.{true}
 use Rattle.std.proofs.Common.{inl, inr, sym, ap, ◌∙◌, subst, add-zero, arith}
 use Rattle.std.proofs.Math.Decide.{dec_lt}
 use borrow.Author.Tests.{ltb-true, leb-true}
 use Rattle.quorum.specs.laws.Bools.{and_left, and_right, and_both, or_left, or_right}
 use Rattle.calendar.specs.Calendar.{week_minutes, window_right, windows_right, in_window, first_of}
-use Rattle.calendar.specs.declared.Nearest.{Nearest}
-use Rattle.calendar.specs.declared.Nearest.TheVariants.{Bad, After}
 use Rattle.calendar.specs.laws.Search.{distance, nearest_from}
 use Rattle.calendar.specs.laws.Week.{lies, distance_below, distance_lies, none_nearer}
 
@@ -63,11 +61,11 @@ module _ (f e : ℕ) (rest : List ℕ) (best m d : ℕ) (low : m < week_minutes)
         none = none_more;
       }
 
-no_bad : (d : ℕ) {P : Type 0} → Bad ≡ After d → P
+no_bad : (d : ℕ) {P : Type 0} → None ≡ Some d → P
 no_bad d e = absurd (let z : ◌≡◌ {A = ℕ} 0 1 = cc in omega (arith, z))
 
 -- what is found is the smallest
-pub found : (ws : List ℕ) (best m d : ℕ) → m < week_minutes → nearest_from best ws m ≡ After d → Found best ws m d
+pub found : (ws : List ℕ) (best m d : ℕ) → m < week_minutes → nearest_from best ws m ≡ Some d → Found best ws m d
 unfolding nearest_from windows_right in_window
 found [] best m d low e =
     let same : best ≡ d = cc in
@@ -75,25 +73,25 @@ found [] best m d low e =
 found (x ∷ []) best m d low e = no_bad d e
 found (f ∷ x ∷ rest) best m d low e = go (window_right f x) refl e (λ w. found rest (min best (distance f x m)) m d low w)
   where
-    next : Nearest
+    next : Option ℕ
     next = nearest_from (min best (distance f x m)) rest m
 
-    go : (b : Bool) → window_right f x ≡ b → cond (window_right f x) next Bad ≡ After d → (next ≡ After d → Found (min best (distance f x m)) rest m d) → Found best (f ∷ x ∷ rest) m d
-    go true w h more = found_more f x rest best m d low w (more (sym (ap (λ (b : Bool). cond b next Bad) w) ∙ h))
-    go false w h more = no_bad d (sym (ap (λ (b : Bool). cond b next Bad) w) ∙ h)
+    go : (b : Bool) → window_right f x ≡ b → cond (window_right f x) next None ≡ Some d → (next ≡ Some d → Found (min best (distance f x m)) rest m d) → Found best (f ∷ x ∷ rest) m d
+    go true w h more = found_more f x rest best m d low w (more (sym (ap (λ (b : Bool). cond b next None) w) ∙ h))
+    go false w h more = no_bad d (sym (ap (λ (b : Bool). cond b next None) w) ∙ h)
 
 -- a bad window is found
-pub not_found : (ws : List ℕ) (best m : ℕ) → nearest_from best ws m ≡ Bad → windows_right ws ≡ false
+pub not_found : (ws : List ℕ) (best m : ℕ) → nearest_from best ws m ≡ None → windows_right ws ≡ false
 unfolding nearest_from windows_right
 not_found [] best m e = no_bad best (sym e)
 not_found (x ∷ []) best m e = refl
 not_found (f ∷ x ∷ rest) best m e = go (window_right f x) refl e (λ w. not_found rest (min best (distance f x m)) m w)
   where
-    next : Nearest
+    next : Option ℕ
     next = nearest_from (min best (distance f x m)) rest m
 
-    go : (b : Bool) → window_right f x ≡ b → cond (window_right f x) next Bad ≡ Bad → (next ≡ Bad → windows_right rest ≡ false) → window_right f x && windows_right rest ≡ false
-    go true w h more = rw w (more (sym (ap (λ (b : Bool). cond b next Bad) w) ∙ h))
+    go : (b : Bool) → window_right f x ≡ b → cond (window_right f x) next None ≡ None → (next ≡ None → windows_right rest ≡ false) → window_right f x && windows_right rest ≡ false
+    go true w h more = rw w (more (sym (ap (λ (b : Bool). cond b next None) w) ∙ h))
     go false w h more = rw w
 
 -- the search of the definition ends at the first minute

@@ -1,5 +1,5 @@
 -- How the code searches: each window by its distance from a minute of the week.
-use Rattle.std.specs.Prelude.{ℕ, ◌+◌, ◌-◌, ◌≤◌, ◌<◌, min, Bool, true, false, cond, List, [], ◌∷◌, ◌≡◌, refl, ltb, get_or, drop}
+use Rattle.std.specs.Prelude.{ℕ, ◌+◌, ◌-◌, ◌≤◌, ◌<◌, min, Bool, true, false, cond, List, [], ◌∷◌, ◌≡◌, refl, ltb, get_or, drop, Option, Some, None}
 use Rattle.std.proofs.Math.Path.{sym}
 use Rattle.std.proofs.Common.{ap, ◌∙◌, add-one, drop-cons}
 use Rattle.std.proofs.Math.Decide.{dec_lt}
@@ -7,18 +7,16 @@ use native.Mathlib.Omega.{arith}
 use Rattle.std.proofs.Math.ListN.{length, drop_of_length-le}
 use borrow.Author.Tests.{lt-ltb, le-ltb}
 use Rattle.calendar.specs.Calendar.{week_minutes, window_right}
-use Rattle.calendar.specs.declared.Nearest.{Nearest}
-use Rattle.calendar.specs.declared.Nearest.TheVariants.{Bad, After}
 
 -- the minutes from minute m of the week to the next one in the window
 unfoldable pub distance : ℕ → ℕ → ℕ → ℕ
 distance first end m = cond (ltb m first) (first - m) (cond (ltb m end) 0 (week_minutes - m + first))
 
 -- the smallest distance of all windows, and of `best`
-unfoldable pub nearest_from : ℕ → List ℕ → ℕ → Nearest
-nearest_from best [] m = After best
-nearest_from best (first ∷ []) m = Bad
-nearest_from best (first ∷ end ∷ rest) m = cond (window_right first end) (nearest_from (min best (distance first end m)) rest m) Bad
+unfoldable pub nearest_from : ℕ → List ℕ → ℕ → Option ℕ
+nearest_from best [] m = Some best
+nearest_from best (first ∷ []) m = None
+nearest_from best (first ∷ end ∷ rest) m = cond (window_right first end) (nearest_from (min best (distance first end m)) rest m) None
 
 module _ (f e m : ℕ) where
   pub distance_ahead : m < f → f - m ≡ distance f e m
@@ -36,36 +34,36 @@ module _ (f e m : ℕ) where
 pub ruleset distances = (distance_ahead, distance_inside, distance_next_week)
 
 -- the window at place k
-unfoldable pub window_at : List ℕ → ℕ → ℕ → Nearest
+unfoldable pub window_at : List ℕ → ℕ → ℕ → Option ℕ
 window_at ws k m =
-    cond (ltb (length ws - k) 2) Bad
-    (cond (window_right (get_or ws k 0) (get_or ws (k + 1) 0)) (After (distance (get_or ws k 0) (get_or ws (k + 1) 0) m)) Bad)
+    cond (ltb (length ws - k) 2) None
+    (cond (window_right (get_or ws k 0) (get_or ws (k + 1) 0)) (Some (distance (get_or ws k 0) (get_or ws (k + 1) 0) m)) None)
 
 module _ (ws : List ℕ) (k m : ℕ) where
-  pub window_odd : length ws - k < 2 → Bad ≡ window_at ws k m
+  pub window_odd : length ws - k < 2 → None ≡ window_at ws k m
   unfolding window_at
   window_odd l = rw (lt-ltb (length ws - k) 2 l)
 
-  pub window_good : (b : Bool) (d : ℕ) → 2 ≤ length ws - k → b ≡ window_right (get_or ws k 0) (get_or ws (k + 1) 0) → b ≡ true → d ≡ distance (get_or ws k 0) (get_or ws (k + 1) 0) m → After d ≡ window_at ws k m
+  pub window_good : (b : Bool) (d : ℕ) → 2 ≤ length ws - k → b ≡ window_right (get_or ws k 0) (get_or ws (k + 1) 0) → b ≡ true → d ≡ distance (get_or ws k 0) (get_or ws (k + 1) 0) m → Some d ≡ window_at ws k m
   unfolding window_at
   window_good b d l e t u = rw (le-ltb (length ws - k) 2 l, ← e, t, u)
 
-  pub window_bad : (b : Bool) → 2 ≤ length ws - k → b ≡ window_right (get_or ws k 0) (get_or ws (k + 1) 0) → b ≡ false → Bad ≡ window_at ws k m
+  pub window_bad : (b : Bool) → 2 ≤ length ws - k → b ≡ window_right (get_or ws k 0) (get_or ws (k + 1) 0) → b ≡ false → None ≡ window_at ws k m
   unfolding window_at
   window_bad b l e t = rw (le-ltb (length ws - k) 2 l, ← e, t)
 
 pub ruleset windows = (window_odd, window_good, window_bad)
 
 -- what is sought in the windows behind one
-unfoldable pick : Nearest → ℕ → List ℕ → ℕ → Nearest
-pick Bad best ws m = Bad
-pick (After d) best ws m = nearest_from (min best d) ws m
+unfoldable pick : Option ℕ → ℕ → List ℕ → ℕ → Option ℕ
+pick None best ws m = None
+pick (Some d) best ws m = nearest_from (min best d) ws m
 
-pick_bad : (best : ℕ) (ws : List ℕ) (m : ℕ) → pick Bad best ws m ≡ Bad
+pick_bad : (best : ℕ) (ws : List ℕ) (m : ℕ) → pick None best ws m ≡ None
 unfolding pick
 pick_bad best ws m = refl
 
-pick_cond : (b : Bool) (d best : ℕ) (ws : List ℕ) (m : ℕ) → pick (cond b (After d) Bad) best ws m ≡ cond b (nearest_from (min best d) ws m) Bad
+pick_cond : (b : Bool) (d best : ℕ) (ws : List ℕ) (m : ℕ) → pick (cond b (Some d) None) best ws m ≡ cond b (nearest_from (min best d) ws m) None
 unfolding pick
 pick_cond true d best ws m = refl
 pick_cond false d best ws m = refl
@@ -90,7 +88,7 @@ drop_window ws k h l =
     drop_next ws k h ∙ ap (λ (x : List ℕ). get_or ws k 0 ∷ x) (drop_next ws (k + 1) more ∙ ap (λ (x : ℕ). get_or ws (k + 1) 0 ∷ drop x ws) behind)
 
 module _ (ws : List ℕ) (m best k : ℕ) (i : Sought ws m best k) where
-  pub sought_end : length ws ≤ k → After best ≡ nearest_from week_minutes ws m
+  pub sought_end : length ws ≤ k → Some best ≡ nearest_from week_minutes ws m
   unfolding Sought nearest_from
   sought_end h = rw (← i, drop_of_length-le ws h)
 
@@ -108,12 +106,16 @@ module _ (ws : List ℕ) (m best k : ℕ) (i : Sought ws m best k) where
           rw (drop_window ws k h l, le-ltb (length ws - k) 2 l)
           (sym (pick_cond (window_right (get_or ws k 0) (get_or ws (k + 1) 0)) (distance (get_or ws k 0) (get_or ws (k + 1) 0) m) best (drop (k + 2) ws) m))
 
-  pub sought_bad : (x : Nearest) → k < length ws → x ≡ window_at ws k m → x ≡ Bad → Bad ≡ nearest_from week_minutes ws m
+  pub sought_bad : (x : Option ℕ) → k < length ws → x ≡ window_at ws k m → x ≡ None → None ≡ nearest_from week_minutes ws m
   unfolding Sought pick
   sought_bad x h e t = rw (← i, split h, ← e, t)
 
-  pub sought_next : (x : Nearest) (d y : ℕ) → k < length ws → x ≡ window_at ws k m → x ≡ After d → y ≡ min best d → Sought ws m y (k + 2)
+  pub sought_next : (x : Option ℕ) (d y : ℕ) → k < length ws → x ≡ window_at ws k m → x ≡ Some d → y ≡ min best d → Sought ws m y (k + 2)
   unfolding Sought pick
   sought_next x d y h e t w = let step : nearest_from best (drop k ws) m ≡ nearest_from y (drop (k + 2) ws) m = split h ∙ rw (← e, t, w) in sym step ∙ i
 
-pub ruleset soughts = (sought_start, sought_end, sought_bad, sought_next)
+-- the last window
+pub sought_last : (ws : List ℕ) (m best k : ℕ) → Sought ws m best k → (x : Option ℕ) (d y : ℕ) → k < length ws → length ws - k ≤ 2 → x ≡ window_at ws k m → x ≡ Some d → y ≡ min best d → Some y ≡ nearest_from week_minutes ws m
+sought_last ws m best k i x d y h l e t w = sought_end ws m y (k + 2) (sought_next ws m best k i x d y h e t w) (omega arith)
+
+pub ruleset soughts = (sought_start, sought_end, sought_bad, sought_next, sought_last)

@@ -1,5 +1,5 @@
 -- On words of version 1, and for openings of it, the definitions are those of specs/Earlier.antt.
-use Rattle.std.specs.Prelude.{ℕ, zero, suc, ◌+◌, ◌*◌, ◌≤◌, Bool, ◌&&◌, not, List, ◌∷◌, ◌++◌, ◌≢◌, ◌≡◌, length, drop, eqb, leb}
+use Rattle.std.specs.Prelude.{ℕ, zero, suc, ◌+◌, ◌*◌, ◌≤◌, Bool, ◌&&◌, not, List, ◌∷◌, ◌++◌, ◌≢◌, ◌≡◌, length, drop, eqb, leb, Result, Ok, Err}
 use Rattle.std.proofs.Math.Bool.{true, false, cond}
 use Rattle.std.proofs.Math.Path.{refl, ap, ap₂}
 use Rattle.std.proofs.Common.{sym, ◌∙◌}
@@ -7,7 +7,7 @@ use native.Mathlib.Omega.{arith}
 use borrow.Author.Tests.{leb-true, eqb-false, eq-eqb}
 use Rattle.quorum.specs.laws.Bools.{and_left, and_right}
 use Rattle.settings.specs.Versions.{FIRST_VERSION, version_known, finishing, turn_bound}
-use Rattle.settings.specs.Refusals.{LENGTH, KIND, SESSION, SENDER, FIELD}
+use Rattle.settings.specs.declared.refusal.Refusal.TheVariants as refusal
 use Rattle.settings.specs.laws.Versions.{first_plain}
 use Rattle.settings.specs.declared.Settings.{Settings}
 use Rattle.records.specs.Layout.{own_at, boxed_at, turns_at, version_at, coin_at}
@@ -23,8 +23,6 @@ use Rattle.session.specs.declared.Session.{Session}
 use Rattle.wire.specs.Message.{SEND, COMMIT, last_kind, by_kind}
 use Rattle.wire.specs.Reading.{within, length_right, header_of, sender_right, fields_right, read_values, read_checked, read_message}
 use Rattle.wire.specs.declared.Header.{Header}
-use Rattle.wire.specs.declared.Parsed.{Parsed}
-use Rattle.wire.specs.declared.Parsed.TheVariants as parsed
 use Rattle.opening.specs.Given.{item}
 use Rattle.opening.specs.laws.Cases.{accepted}
 use Rattle.opening.specs.laws.Given.{coins_given_lem}
@@ -33,17 +31,17 @@ use Rattle.opening.specs.Arguments.{Arguments}
 use Rattle.opening.specs.Opening.{open_answer, with_settings, with_coins, open_words, opened}
 use Rattle.recording.specs.Recording.{record_answer, recorded_words}
 use Rattle.delivery.specs.Delivery.{verdict, answer_of, words_after, deliver_answer, delivered}
-use Rattle.delivery.specs.declared.Verdict.{Verdict}
 use Rattle.turn.specs.Due.{votes_rule, due}
 use Rattle.turn.specs.Turn.{admits, bytes_after, outcome_of, applied, taking, turn_outcome, turn_words, turn_bytes}
-use Rattle.turn.specs.declared.Admitted.{Admitted}
-use Rattle.turn.specs.declared.Admitted.TheVariants as admitted
 use Rattle.turn.specs.declared.Outcome.{Outcome}
 use Rattle.turn.specs.declared.Outcome.TheVariants as outcome
 use Rattle.journal.specs.Lines.{figures}
 use Rattle.report.specs.Report as report
 use Rattle.call_laws.specs.Earlier as earlier
 use Rattle.call_laws.specs.FirstVersion.{First, OpensAsEarlier, CallsAsEarlier}
+use Rattle.wire.specs.declared.Message.{Message}
+use Rattle.settings.specs.declared.refusal.Refusal.{Refusal}
+use Rattle.std.specs.Result.{is_ok}
 
 pub plain : (s : List ℕ) → First s → finishing (version s) ≡ false
 plain s e = ap finishing e ∙ first_plain
@@ -103,29 +101,29 @@ module _ (n session link : ℕ) (h : Header) (v : List ℕ) where
     values_same = kind_same h.kind _ _ _ _ _ _ _ lo hi
 
   -- the refusals 4 to 7 in their order, or the message
-  abbrev after : Bool → Parsed → Parsed
+  abbrev after : Bool → Result Message Refusal → Result Message Refusal
   after right p =
-      cond (not (eqb h.session session)) (parsed.Refused SESSION)
-      (cond (not (sender_right n link h.sender)) (parsed.Refused SENDER)
-      (cond (not right) (parsed.Refused FIELD) p))
+      cond (not (eqb h.session session)) (Err refusal.Session)
+      (cond (not (sender_right n link h.sender)) (Err refusal.Sender)
+      (cond (not right) (Err refusal.Field) p))
 
   checked_same : read_checked FIRST_VERSION n session link h v ≡ earlier.read_checked n session link h v
   unfolding read_checked earlier.read_checked last_kind finishing
   checked_same = go (eqb h.version 1 && within SEND COMMIT h.kind) (λ e. e)
     where
       go : (t : Bool) → (t ≡ true → (eqb h.version 1 && within SEND COMMIT h.kind) ≡ true) →
-          cond (not t) (parsed.Refused KIND) (after (fields_right n h) (read_values h v))
-          ≡ cond (not t) (parsed.Refused KIND) (after (earlier.fields_right n h) (earlier.read_values h v))
+          cond (not t) (Err refusal.Kind) (after (fields_right n h) (read_values h v))
+          ≡ cond (not t) (Err refusal.Kind) (after (earlier.fields_right n h) (earlier.read_values h v))
       go false k = refl
       go true k =
           let w = and_right (eqb h.version 1) (within SEND COMMIT h.kind) (k refl) in
           let lo = leb-true 1 h.kind (and_left (leb 1 h.kind) (leb h.kind 6) w) in
           let hi = leb-true h.kind 6 (and_right (leb 1 h.kind) (leb h.kind 6) w) in
-          ap₂ (λ (right : Bool) (p : Parsed). after right p) (fields_same lo hi) (values_same lo hi)
+          ap₂ (λ (right : Bool) (p : Result Message Refusal). after right p) (fields_same lo hi) (values_same lo hi)
 
 read_same : (n session link : ℕ) (b : List ℕ) → read_message FIRST_VERSION n session link b ≡ earlier.read_message n session link b
 unfolding read_message earlier.read_message
-read_same n session link b = ap (λ (p : Parsed). cond (not (length_right b)) (parsed.Refused LENGTH) p) (checked_same n session link (header_of b) (drop 12 b))
+read_same n session link b = ap (λ (p : Result Message Refusal). cond (not (length_right b)) (Err refusal.Length) p) (checked_same n session link (header_of b) (drop 12 b))
 
 -- ---- delivery and recording
 
@@ -140,7 +138,7 @@ module _ (s : List ℕ) (e : First s) where
 
   delivered_same : (link : ℕ) (b : List ℕ) → delivered s link b ≡ earlier.delivered s link b
   unfolding delivered earlier.delivered
-  delivered_same link b = ap (λ (y : Verdict). words_after y s link b) (verdict_same link b)
+  delivered_same link b = ap (λ (y : Result Message Refusal). words_after y s link b) (verdict_same link b)
 
   record_same : (i r b : ℕ) → record_answer s i r b ≡ earlier.record_answer s i r b
   unfolding record_answer earlier.record_answer
@@ -160,20 +158,19 @@ module _ (s : List ℕ) (e : First s) where
   unfolding admits earlier.admits_turn
   turn_admits_same room = rw (state_same s e)
 
-  taking_same : {A : Type 0} (y z : Admitted) (refused : ℕ → A) (f h : Session → A) → y ≡ z → ((x : Session) → f x ≡ h x) → taking y refused f ≡ taking z refused h
+  taking_same : {A : Type 0} (y z : Result Session Refusal) (refused : Refusal → A) (f h : Session → A) → y ≡ z → ((x : Session) → f x ≡ h x) → taking y refused f ≡ taking z refused h
   unfolding taking
   taking_same y z refused f h q p = rw q (on z)
     where
-      on : (z : Admitted) → taking z refused f ≡ taking z refused h
-      on (admitted.Refused k) = refl
-      on (admitted.Open x) = p x
+      on : (z : Result Session Refusal) → taking z refused f ≡ taking z refused h
+      on (Err k) = refl
+      on (Ok x) = p x
 
   outcome_same : (x : Session) → outcome_of x.own s (due x.settings s) ≡ outcome_of x.own s (earlier.due x.settings s)
   outcome_same x = ap (outcome_of x.own s) (due_same x.settings)
 
   after_same : (x : Session) (y : Outcome) (out : List ℕ) → bytes_after x s y out ≡ earlier.bytes_after x s y out
   unfolding bytes_after earlier.bytes_after
-  after_same x (outcome.Refused k) out = refl
   after_same x outcome.Idle out = refl
   after_same x (outcome.Sent m) out = rw e
   after_same x outcome.MovedOut out = refl
@@ -181,7 +178,7 @@ module _ (s : List ℕ) (e : First s) where
 
   turn_outcome_same : (room : ℕ) → turn_outcome s room ≡ earlier.turn_outcome s room
   unfolding turn_outcome earlier.turn_outcome
-  turn_outcome_same room = taking_same _ _ outcome.Refused _ _ (turn_admits_same room) outcome_same
+  turn_outcome_same room = taking_same _ _ Err _ _ (turn_admits_same room) (λ x. ap (λ (y : Outcome). Ok y) (outcome_same x))
 
   turn_words_same : (room : ℕ) → turn_words s room ≡ earlier.turn_words s room
   unfolding turn_words earlier.turn_words
@@ -247,13 +244,13 @@ module _ (o : Arguments) (e : o.version ≡ FIRST_VERSION) where
 
   opened_same : (s : List ℕ) (a : ℕ) → a ≢ version_at → word (opened s o) a ≡ word (earlier.opened s o) a
   unfolding opened earlier.opened
-  opened_same s a ne = rw (open_same (length s)) (on (eqb (earlier.open_answer (length s) o) 0))
+  opened_same s a ne = rw (open_same (length s)) (on (is_ok (earlier.open_answer (length s) o)))
     where
       on : (b : Bool) → word (cond b (open_words o) s) a ≡ word (cond b (earlier.open_words o) s) a
       on true = open_words_same a ne
       on false = refl
 
-  opened_first : (s : List ℕ) → open_answer (length s) o ≡ 0 → First (opened s o)
+  opened_first : (s : List ℕ) → open_answer (length s) o ≡ Ok tt → First (opened s o)
   unfolding opened
   opened_first s z = rw z (first_version o (coins_given_lem o.n o.coins o.boxed (accepted (length s) o z).given).few ∙ e)
 

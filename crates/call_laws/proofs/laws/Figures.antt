@@ -1,12 +1,11 @@
 -- The figures of a report fit into their bits.
-use Rattle.std.specs.Prelude.{ℕ, ◌≤◌, Bool, true, false, cond, List, [], eqb, length, drop}
+use Rattle.std.specs.Prelude.{ℕ, ◌≤◌, Bool, true, false, cond, List, [], eqb, length, drop, Option}
 use Rattle.std.proofs.Common.{arith, length-take}
 use Rattle.settings.specs.Settings.{quorum}
 use Rattle.settings.specs.declared.Settings.{Settings}
 use Rattle.records.specs.Layout.{commit_value_at}
 use Rattle.records.specs.Records.{closed, decided_zero, decided_one, commit_count, commit_set}
 use Rattle.broadcasts.specs.Broadcasts.{output}
-use Rattle.broadcasts.specs.declared.Output.{Output}
 use Rattle.exits.specs.Exits.{Exit, no_exit, exit_of}
 use Rattle.exits.specs.laws.Stated.{single_exit, outputs_exit}
 use Rattle.exits.proofs.laws.Exits.{names_few}
@@ -19,7 +18,7 @@ use Rattle.report.specs.Report.{in_force_set, figures_of}
 use Rattle.report.specs.declared.Figures.{Figures}
 
 -- an exit has number 1, 2 or 3, or 0 for none
-number_few : (g : Settings) (o : ℕ → Output) (as0 as1 : ℕ → Bool) → (exit_of g o as0 as1).number ≤ 3
+number_few : (g : Settings) (o : ℕ → Option ℕ) (as0 as1 : ℕ → Bool) → (exit_of g o as0 as1).number ≤ 3
 unfolding single_exit outputs_exit no_exit
 number_few g o as0 as1 = go (exit_of g o as0 as1) (way g o as0 as1)
   where

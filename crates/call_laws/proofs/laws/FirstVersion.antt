@@ -1,5 +1,5 @@
 -- The statement of specs/FirstVersion.antt.
-use Rattle.std.specs.Prelude.{ℕ, ◌≤◌, false, List, ◌≡◌, refl, drop}
+use Rattle.std.specs.Prelude.{ℕ, ◌≤◌, false, List, ◌≡◌, refl, drop, Result, Ok, Err}
 use Rattle.std.proofs.lemmas.Bool.{false≢true}
 use Rattle.std.proofs.Common.{inl, inr, sym, ◌∙◌, arith}
 use Rattle.settings.specs.Versions.{finishing}
@@ -15,19 +15,17 @@ use Rattle.delivery.specs.Delivery.{verdict, words_after, delivered}
 use Rattle.delivery.specs.laws.Frame.{InLayout, Changed, word_recorded}
 use Rattle.delivery.specs.laws.Accepting.{accepting}
 use Rattle.delivery.specs.laws.Versions.{first_kinds}
-use Rattle.delivery.specs.declared.Verdict.{Verdict}
-use Rattle.delivery.specs.declared.Verdict.TheVariants.{Refused, Accepted}
 use Rattle.turn.specs.Due.{due}
 use Rattle.turn.specs.Turn.{admits, taking, turn_words}
 use Rattle.turn.specs.laws.Admitting.{admitting, admitted_ruled}
 use Rattle.turn.specs.laws.Due.{due_told}
 use Rattle.turn.specs.laws.Told.{ActTold}
 use Rattle.turn.proofs.laws.Frame.{Spared, Placed, told_placed, applied_other}
-use Rattle.turn.specs.declared.Admitted.{Admitted}
-use Rattle.turn.specs.declared.Admitted.TheVariants as admitted
 use Rattle.call_laws.specs.FirstVersion.{First, FinishWord, FirstVersion}
 use Rattle.call_laws.proofs.laws.Earlier.{plain, calls_as_earlier, opens_as_earlier}
 use Rattle.call_laws.proofs.laws.SettingsKept.{accepted_layout}
+use Rattle.settings.specs.declared.refusal.Refusal.{Refusal}
+use Rattle.session.specs.declared.Session.{Session}
 
 -- no message but a FINISH is recorded there
 spared : (p : ℕ) (m : Message) (a : ℕ) → InLayout p m → kind_of m ≤ COMMIT → FinishWord a → Changed p m a → ⊥
@@ -48,9 +46,9 @@ delivery_keeps : (s : List ℕ) (link : ℕ) (b : List ℕ) (a : ℕ) → First 
 unfolding delivered words_after
 delivery_keeps s link b a first w = go (verdict s link b) refl
   where
-    go : (y : Verdict) → verdict s link b ≡ y → word (words_after y s link b) a ≡ word s a
-    go (Refused k) e = refl
-    go (Accepted m) e =
+    go : (y : Result Message Refusal) → verdict s link b ≡ y → word (words_after y s link b) a ≡ word s a
+    go (Err k) e = refl
+    go (Ok m) e =
         word_recorded s (drop 12 b) link m a
         (spared link m a (accepted_layout s link b m (accepting s link b m e)) (first_kinds s link b m (plain s first) e) w)
 
@@ -72,9 +70,9 @@ turn_keeps : (s : List ℕ) (room a : ℕ) → First s → FinishWord a → word
 unfolding taking turn_words
 turn_keeps s room a first w = go (admits s room) refl
   where
-    go : (y : Admitted) → admits s room ≡ y → word (turn_words s room) a ≡ word s a
-    go (admitted.Refused k) e = rw e
-    go (admitted.Open x) e =
+    go : (y : Result Session Refusal) → admits s room ≡ y → word (turn_words s room) a ≡ word s a
+    go (Err k) e = rw e
+    go (Ok x) e =
         let r = admitted_ruled s room x (admitting s room x e) in
         let g = x.settings in
         let t = due_told g s r in

@@ -1,6 +1,5 @@
 -- What a restore answers of its journal is no more than the journal has: bytes in complete lines, and the line that cannot be applied.
-use Rattle.std.specs.Prelude.{ℕ, suc, ◌+◌, ◌≤◌, Bool, true, false, cond, List, [], ◌∷◌, ◌++◌, eqb, length}
-use Rattle.std.proofs.Math.Option.{Option, none, some}
+use Rattle.std.specs.Prelude.{ℕ, suc, ◌+◌, ◌≤◌, Bool, true, false, cond, List, [], ◌∷◌, ◌++◌, eqb, length, Option, Some, None}
 use Rattle.std.proofs.Common.{arith, length-append}
 use Rattle.text.specs.Fields.{LF}
 use Rattle.restore.specs.Complete.{lines_from, lines_of, joined}
@@ -33,8 +32,8 @@ Among m (right x) = Unit {0}
 
 applied_among : (m k : ℕ) (x : Option Point) → k ≤ m → Among m (applied_or k x)
 unfolding Among applied_or
-applied_among m k none h = h
-applied_among m k (some x) h = tt
+applied_among m k None h = h
+applied_among m k (Some x) h = tt
 
 further_among : (m k : ℕ) (x : Replay) (b : List ℕ) → Among m x → k ≤ m → Among m (further k x b)
 unfolding Among further

@@ -1,10 +1,10 @@
 -- A place takes one message: the recorded one is held in its own place, and no other place is taken by it.
-use Rattle.std.specs.Prelude.{ℕ, ◌≤◌, Bool, true, false, ◌||◌, cond, List, ◌≡◌, length, drop}
+use Rattle.std.specs.Prelude.{ℕ, ◌≤◌, Bool, true, false, ◌||◌, cond, List, ◌≡◌, length, drop, Ok, Err}
 use Rattle.std.proofs.Common.{true≢false, inl, inr, sym, ◌∙◌, arith}
 use Rattle.std.proofs.Math.Path.{refl, ap}
 use Rattle.std.proofs.Math.Decide.{ℕ_discrete}
 use Rattle.quorum.specs.laws.Bools.{or_left, or_right, or_passed}
-use Rattle.settings.specs.Refusals.{HELD}
+use Rattle.settings.specs.declared.refusal.Refusal.TheVariants as refusal
 use Rattle.records.specs.Layout.{n_at}
 use Rattle.records.specs.Records.{closed, version, send_held, send_value, echo_held, echo_value, ready_held, ready_value, est_held, aux_held, finish_held, commit_set}
 use Rattle.records.specs.Words.{word}
@@ -16,7 +16,6 @@ use Rattle.wire.specs.Message.{count_of}
 use Rattle.wire.specs.Reading.{read_message}
 use Rattle.wire.specs.declared.Message as wire
 use Rattle.wire.specs.declared.Message.TheVariants.{Send, Echo, Ready, Est, Aux, Commit, Finish}
-use Rattle.wire.specs.declared.Parsed.TheVariants.{Taken}
 use Rattle.wire_laws.proofs.laws.Forms.{Form}
 use Rattle.wire_laws.specs.Proper.{Layout}
 use Rattle.wire_laws.proofs.Converse.{taken_form}
@@ -25,7 +24,6 @@ use Rattle.delivery.specs.laws.Answers.{answer_accepted}
 use Rattle.delivery.specs.Delivery.{place_held, judged, verdict, recorded, answer_of, words_after, deliver_answer, delivered}
 use Rattle.delivery.specs.laws.Frame.{InLayout}
 use Rattle.delivery.specs.laws.Held.{new_recorded, commit_recorded}
-use Rattle.delivery.specs.declared.Verdict.TheVariants as delivery
 use Rattle.held.specs.laws.Held as held
 use Rattle.held.specs.laws.Recording.{held_recorded}
 use Rattle.call_laws.specs.Places.{HeldAgain, Place, SEND, COMMIT, ECHO, READY, FINISH, AUX, EST, place_of, HeldOnce}
@@ -158,12 +156,12 @@ module _ (s v : List ℕ) (size : length s ≡ 2048) (p : ℕ) (x : wire.Message
 -- ---- the second of two messages
 
 -- the answer to a message that an open session takes
-answer_taken : (s : List ℕ) (q : ℕ) (c : List ℕ) (y : wire.Message) → State s → closed s ≡ false → read_message (version s) (session_of s).settings.n (session_of s).number q c ≡ Taken y →
-    deliver_answer s q c ≡ cond (place_held s q y) HELD 0
+answer_taken : (s : List ℕ) (q : ℕ) (c : List ℕ) (y : wire.Message) → State s → closed s ≡ false → read_message (version s) (session_of s).settings.n (session_of s).number q c ≡ Ok y →
+    deliver_answer s q c ≡ cond (place_held s q y) (Err refusal.Held) (Ok tt)
 unfolding deliver_answer verdict judged answer_of
 answer_taken s q c y S running read = rw (state_is s S, running, read) (go (place_held s q y))
   where
-    go : (b : Bool) → answer_of (cond b (delivery.Refused HELD) (delivery.Accepted y)) ≡ cond b HELD 0
+    go : (b : Bool) → answer_of (cond b (Err refusal.Held) (Ok y)) ≡ cond b (Err refusal.Held) (Ok tt)
     go true = refl
     go false = refl
 
@@ -181,7 +179,7 @@ module _ (s : List ℕ) (p q : ℕ) (b c : List ℕ) (x y : wire.Message) (X : A
   abbrev now : List ℕ
   now = recorded s p x (drop 12 b)
 
-  second_answer : deliver_answer now q c ≡ cond (place_held now q y) HELD 0
+  second_answer : deliver_answer now q c ≡ cond (place_held now q y) (Err refusal.Held) (Ok tt)
   second_answer =
       let v = drop 12 b in
       let F = first in
@@ -223,8 +221,8 @@ held_once s p q b c x y e f =
     let X = accepting s p b x e in
     let Y = accepting s q c y f in
     record {
-      same_place = λ i j. rw e (second_answer s p q b c x y X Y ∙ ap (λ (h : Bool). cond h HELD 0) (same_held s p q b c x y X Y i j));
-      other_place = λ apart. rw e (second_answer s p q b c x y X Y ∙ ap (λ (h : Bool). cond h HELD 0) (other_free s p q b c x y X Y apart));
+      same_place = λ i j. rw e (second_answer s p q b c x y X Y ∙ ap (λ (h : Bool). cond h (Err refusal.Held) (Ok tt)) (same_held s p q b c x y X Y i j));
+      other_place = λ apart. rw e (second_answer s p q b c x y X Y ∙ ap (λ (h : Bool). cond h (Err refusal.Held) (Ok tt)) (other_free s p q b c x y X Y apart));
     }
 
 pub held_again : HeldAgain

@@ -1,6 +1,6 @@
 -- No delivery, turn or recording changes a word of the settings.
-use Rattle.std.specs.Prelude.{ℕ, ◌≤◌, Bool, true, false, cond, List, ◌≢◌, ◌≡◌, refl, eqb, ltb, drop}
-use Rattle.std.proofs.Common.{inl, inr, ap, ◌∙◌, arith, eqb-true}
+use Rattle.std.specs.Prelude.{ℕ, ◌≤◌, Bool, true, false, cond, List, ◌≢◌, ◌≡◌, refl, ltb, drop, Result, Ok, Err}
+use Rattle.std.proofs.Common.{inl, inr, ap, ◌∙◌, arith}
 use Rattle.records.specs.Layout.{n_at, coin_at}
 use Rattle.records.specs.Records.{version}
 use Rattle.records.specs.Words.{word}
@@ -12,8 +12,6 @@ use Rattle.delivery.specs.Delivery.{verdict, recorded, words_after, delivered}
 use Rattle.delivery.specs.laws.Frame.{InLayout}
 use Rattle.delivery.specs.laws.Kept.{in_layout_lem, word_untouched, word_free}
 use Rattle.delivery.specs.laws.Accepting.{Accepting, accepting}
-use Rattle.delivery.specs.declared.Verdict.{Verdict}
-use Rattle.delivery.specs.declared.Verdict.TheVariants.{Refused, Accepted}
 use Rattle.recording.specs.Recording.{record_answer, recorded_words}
 use Rattle.recording.specs.laws.Recording.{Recordable, accepted, refused_same, accepted_marks, other_word}
 use Rattle.turn.specs.Due.{due}
@@ -21,10 +19,12 @@ use Rattle.turn.specs.Turn.{admits, taking, turn_words}
 use Rattle.turn.specs.laws.Admitting.{admitting, admitted_ruled}
 use Rattle.turn.specs.laws.Due.{due_told}
 use Rattle.turn.proofs.laws.Frame.{Kept, setting, between, told_placed, applied_kept}
-use Rattle.turn.specs.declared.Admitted.{Admitted}
-use Rattle.turn.specs.declared.Admitted.TheVariants as admitted
 use Rattle.journal.specs.Journal.{LINE_BYTES, line_words, delivered_words, record_words}
 use Rattle.call_laws.specs.SettingsKept.{SettingWord, SettingsKept}
+use Rattle.settings.specs.declared.refusal.Refusal.{Refusal}
+use Rattle.session.specs.declared.Session.{Session}
+use Rattle.settings.specs.laws.Answers.{true_taken}
+use Rattle.std.specs.Result.{is_ok}
 
 -- whether the line is lent enough or not
 lined : (room : ℕ) (before after : List ℕ) (a : ℕ) → word after a ≡ word before a → word (line_words room before after) a ≡ word before a
@@ -52,9 +52,9 @@ delivery_keeps : (s : List ℕ) (link : ℕ) (b : List ℕ) (a : ℕ) → Settin
 unfolding delivered words_after
 delivery_keeps s link b a h = go (verdict s link b) refl
   where
-    go : (y : Verdict) → verdict s link b ≡ y → word (words_after y s link b) a ≡ word s a
-    go (Refused k) e = refl
-    go (Accepted m) e = recorded_keeps s (drop 12 b) link m a (accepted_layout s link b m (accepting s link b m e)) h
+    go : (y : Result Message Refusal) → verdict s link b ≡ y → word (words_after y s link b) a ≡ word s a
+    go (Err k) e = refl
+    go (Ok m) e = recorded_keeps s (drop 12 b) link m a (accepted_layout s link b m (accepting s link b m e)) h
 
 kept : (a : ℕ) → SettingWord a → Kept a
 kept a (inl l) = setting (omega arith)
@@ -66,9 +66,9 @@ turn_keeps : (s : List ℕ) (room a : ℕ) → SettingWord a → word (turn_word
 unfolding taking turn_words
 turn_keeps s room a h = go (admits s room) refl
   where
-    go : (y : Admitted) → admits s room ≡ y → word (turn_words s room) a ≡ word s a
-    go (admitted.Refused k) e = rw e
-    go (admitted.Open x) e =
+    go : (y : Result Session Refusal) → admits s room ≡ y → word (turn_words s room) a ≡ word s a
+    go (Err k) e = rw e
+    go (Ok x) e =
         let r = admitted_ruled s room x (admitting s room x e) in
         rw e (applied_kept s (due x.settings s) (told_placed x.settings s r (due x.settings s) (due_told x.settings s r)) a (kept a h))
 
@@ -84,12 +84,12 @@ unfolding settings_of
 vote_few s i r b x = omega (arith, x.vote_high, x.state.ruled.few)
 
 recording_keeps : (s : List ℕ) (i r b a : ℕ) → SettingWord a → word (recorded_words s i r b) a ≡ word s a
-recording_keeps s i r b a h = go (eqb (record_answer s i r b) 0) refl
+recording_keeps s i r b a h = go (is_ok (record_answer s i r b)) refl
   where
-    go : (t : Bool) → eqb (record_answer s i r b) 0 ≡ t → word (recorded_words s i r b) a ≡ word s a
+    go : (t : Bool) → is_ok (record_answer s i r b) ≡ t → word (recorded_words s i r b) a ≡ word s a
     go false e = ap (λ (w : List ℕ). word w a) (refused_same s i r b e)
     go true e =
-        let x = accepted s i r b (eqb-true (record_answer s i r b) 0 e) in
+        let x = accepted s i r b (true_taken (record_answer s i r b) e) in
         ap (λ (w : List ℕ). word w a) (accepted_marks s i r b e) ∙ other_word s i r b x a (coin_apart a i h x.vote_low (vote_few s i r b x))
 
 pub settings_kept : SettingsKept

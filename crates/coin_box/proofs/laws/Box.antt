@@ -1,5 +1,5 @@
 -- What a request changes, what it keeps, and when its answer is the bit.
-use Rattle.std.specs.Prelude.{ℕ, ◌-◌, ◌^◌, ◌≤◌, ◌<◌, Bool, ◌&&◌, cond, List, ◌≢◌, ◌≡◌, length, eqb, leb}
+use Rattle.std.specs.Prelude.{ℕ, ◌-◌, ◌^◌, ◌≤◌, ◌<◌, Bool, ◌&&◌, cond, List, ◌≢◌, ◌≡◌, length, eqb, leb, Some, None, Ok}
 use Rattle.std.proofs.Math.Bool.{true, false}
 use Rattle.std.proofs.Math.Path.{refl, ap}
 use Rattle.std.proofs.Common.{sym, ◌∙◌, arith}
@@ -20,7 +20,6 @@ use Rattle.records.specs.Words.{word, put, marked, set_mark}
 use Rattle.records.specs.laws.Words.{word_put_same, word_put_other, put_past_end, length_set_mark, word_set_mark_other, marked_new, marked_kept}
 use Rattle.records.specs.Records.{coin}
 use Rattle.session.specs.Session.{numbered}
-use Rattle.coin_box.specs.declared.Reply.TheVariants.{Sealed, Bit}
 use Rattle.coin_box.specs.Box.{box_words, box_weights_at, requests_at, is_box, asks, requested, unsealed, request_words, request_reply}
 
 -- what a request within the layout tells
@@ -138,11 +137,11 @@ module _ (s : List ℕ) (p i r : ℕ) where
         ∙ marked_new s (requests_at i r) p (omega (arith, a.size, a.few, a.vote_high, a.round_high)) a.requester_low (omega (arith, a.few, a.requester_high))
 
     -- the answer is `sealed` exactly while the weight is at most ta, and the bit from then on
-    pub answer_sealed : requested next i r ≤ word s ta_at → request_reply s p i r ≡ Sealed
+    pub answer_sealed : requested next i r ≤ word s ta_at → request_reply s p i r ≡ Ok None
     unfolding request_reply unsealed
     answer_sealed l = rw (e, request_low ta_at (omega arith), le-ltb (word s ta_at) (requested next i r) l)
 
-    pub answer_bit : word s ta_at < requested next i r → request_reply s p i r ≡ Bit (coin s i r)
+    pub answer_bit : word s ta_at < requested next i r → request_reply s p i r ≡ Ok (Some (coin s i r))
     unfolding request_reply unsealed
     answer_bit l = rw (e, request_low ta_at (omega arith), lt-ltb (word s ta_at) (requested next i r) l)
 

@@ -1,12 +1,14 @@
 -- What an accepted opening tells: the words are a box, with the coins that are given, and nobody has requested one.
-use Rattle.std.specs.Prelude.{ℕ, ◌+◌, ◌≤◌, ◌<◌, true, not, List, ◌≢◌, ◌≡◌, length, eqb}
+use Rattle.std.specs.Prelude.{ℕ, ◌+◌, ◌≤◌, ◌<◌, true, not, List, ◌≢◌, ◌≡◌, length, eqb, Ok}
 use Rattle.std.proofs.Math.Path.{sym, ap}
 use Rattle.std.proofs.Common.{◌∙◌, arith}
 use Rattle.std.proofs.Math.Decide.{dec_lt}
 use borrow.Author.Tests.{eq-eqb, eqb-true}
 use Rattle.settings.specs.Settings.{valid_settings, named_ta}
 use Rattle.settings.specs.laws.Rules.{valid_rules}
-use Rattle.quorum.specs.laws.Bools.{refusal_passed, not_passed}
+use Rattle.quorum.specs.laws.Bools.{not_passed}
+use Rattle.settings.specs.declared.refusal.Refusal.TheVariants as refusal
+use Rattle.settings.specs.laws.Answers.{err_passed}
 use Rattle.quorum.specs.Marks.{mark}
 use Rattle.quorum.specs.laws.Marks.{mark_zero}
 use Rattle.quorum.specs.laws.Total.{total_none}
@@ -118,17 +120,17 @@ pub record Accepted (words n ta ts w : ℕ) : Type 0 where
   pub size : words ≡ box_words
   pub valid : valid_settings n (named_ta n ta ts w) ts w ≡ true
 
-pub accepted : (words n ta ts w coins : ℕ) → box_open_answer words n ta ts w coins ≡ 0 → Accepted words n ta ts w
+pub accepted : (words n ta ts w coins : ℕ) → box_open_answer words n ta ts w coins ≡ Ok tt → Accepted words n ta ts w
 unfolding box_open_answer
 accepted words n ta ts w coins e =
-    let a = refusal_passed (not (eqb words 552)) 9 _ (λ z. omega arith) e in
-    let b = refusal_passed (not (valid_settings n (named_ta n ta ts w) ts w)) 1 _ (λ z. omega arith) a.1 in
+    let a = err_passed (not (eqb words 552)) refusal.NoState _ tt e in
+    let b = err_passed (not (valid_settings n (named_ta n ta ts w) ts w)) refusal.Settings _ tt a.1 in
     record { size = eqb-true words 552 (not_passed (eqb words 552) a.0); valid = not_passed (valid_settings n (named_ta n ta ts w) ts w) b.0 }
 
-pub accepted_few : (words n ta ts w coins : ℕ) → box_open_answer words n ta ts w coins ≡ 0 → n ≤ 16
+pub accepted_few : (words n ta ts w coins : ℕ) → box_open_answer words n ta ts w coins ≡ Ok tt → n ≤ 16
 accepted_few words n ta ts w coins e = (valid_rules n (named_ta n ta ts w) ts w (accepted words n ta ts w coins e).valid).few
 
-module _ (s : List ℕ) (n ta ts w : ℕ) (coins : List ℕ) (e : box_open_answer (length s) n ta ts w (length coins) ≡ 0) where
+module _ (s : List ℕ) (n ta ts w : ℕ) (coins : List ℕ) (e : box_open_answer (length s) n ta ts w (length coins) ≡ Ok tt) where
   abbrev opened : List ℕ
   opened = box_opened s n ta ts w coins
 

@@ -1,21 +1,20 @@
 -- The proof of `Secret`: boxes that differ in coins only stay so, and what is unsealed once is unsealed at the end, so that a bit that was told
 -- is one in which they agree.
-use Rattle.std.specs.Prelude.{ℕ, ◌≤◌, ◌<◌, Bool, cond, ◌⊎◌, ◌≢◌, ◌≡◌, length}
+use Rattle.std.specs.Prelude.{ℕ, ◌≤◌, ◌<◌, Bool, cond, ◌⊎◌, ◌≢◌, ◌≡◌, length, Option, Some, None, Result, Ok, Err}
 use Rattle.std.proofs.Math.Bool.{true, false}
 use Rattle.std.proofs.lemmas.Bool.{false≢true}
 use mathlib.Core.List.{List, [], ◌∷◌}
 use Rattle.std.proofs.Common.{inl, inr, ◌∙◌, arith}
 use Rattle.std.proofs.Math.Path.{refl, sym, ap}
 use Rattle.std.proofs.Math.Decide.{dec_le}
-use Rattle.settings.specs.Refusals.{COIN}
+use Rattle.settings.specs.declared.refusal.Refusal.TheVariants as refusal
 use Rattle.settings.specs.Settings.{round_limit}
 use Rattle.quorum.specs.Marks.{mark, with_mark}
 use Rattle.records.specs.Layout.{n_at, ta_at, ts_at, coin_at}
 use Rattle.records.specs.Words.{word, put, marked, set_mark}
 use Rattle.records.specs.laws.Words.{length_put, put_alike}
 use Rattle.records.specs.Records.{coin}
-use Rattle.coin_box.specs.declared.Reply.{Reply}
-use Rattle.coin_box.specs.declared.Reply.TheVariants.{Refused, Sealed, Bit}
+use Rattle.settings.specs.declared.refusal.Refusal.{Refusal}
 use Rattle.coin_box.specs.Box.{box_weights_at, requests_at, box_open_words, is_box, asks, requested, unsealed, request_words, request_reply, Request, after, replies, coin_of, Secret}
 use Rattle.coin_box.proofs.laws.Opened.{first_length, first_other, first_coin, accepted_few, opened_words_lem}
 use Rattle.coin_box.proofs.laws.Box.{Asked, asked, coin_stays, unsealed_stays}
@@ -62,11 +61,11 @@ reply_alike : (s t : List ℕ) → Alike s t → (p i r : ℕ) → (Asked s p i 
 unfolding request_reply
 reply_alike s t x p i r h = rw (← alike_asks s t x p i r) (at (asks s p i r) refl)
   where
-    shown : (b : Bool) → (b ≡ true → coin s i r ≡ coin t i r) → ◌≡◌ {A = Reply} (cond b (Bit (coin s i r)) Sealed) (cond b (Bit (coin t i r)) Sealed)
-    shown true g = ap Bit (g refl)
+    shown : (b : Bool) → (b ≡ true → coin s i r ≡ coin t i r) → ◌≡◌ {A = Result (Option Bool) Refusal} (cond b (Ok (Some (coin s i r))) (Ok None)) (cond b (Ok (Some (coin t i r))) (Ok None))
+    shown true g = ap (λ (b : Bool). Ok (Some b)) (g refl)
     shown false g = refl
 
-    at : (b : Bool) → asks s p i r ≡ b → ◌≡◌ {A = Reply} (cond b (cond (unsealed (request_words s p i r) i r) (Bit (coin s i r)) Sealed) (Refused COIN)) (cond b (cond (unsealed (request_words t p i r) i r) (Bit (coin t i r)) Sealed) (Refused COIN))
+    at : (b : Bool) → asks s p i r ≡ b → ◌≡◌ {A = Result (Option Bool) Refusal} (cond b (cond (unsealed (request_words s p i r) i r) (Ok (Some (coin s i r))) (Ok None)) (Err refusal.Coin)) (cond b (cond (unsealed (request_words t p i r) i r) (Ok (Some (coin t i r))) (Ok None)) (Err refusal.Coin))
     at true e =
         let k = asked s p i r e in
         rw (← alike_unsealed _ _ (alike_next s t x p i r) i r k.vote_low) (shown (unsealed (request_words s p i r) i r) (h k))
@@ -93,7 +92,7 @@ module _ (s t : List ℕ) (x : Alike s t) where
       let r = q.round in
       let now = reply_alike (after s qs) (after t qs) (alike_after qs) p i r agree in
       let before = same_replies qs (λ j m a b c d e. h j m a b c d (unsealed_stays (after s qs) p i r j m e)) in
-      ap (λ (y : Reply). y ∷ replies s qs) now ∙ ap (λ (ys : List Reply). request_reply (after t qs) p i r ∷ ys) before
+      ap (λ (y : Result (Option Bool) Refusal). y ∷ replies s qs) now ∙ ap (λ (ys : List (Result (Option Bool) Refusal)). request_reply (after t qs) p i r ∷ ys) before
     where
       agree : Asked (after s qs) q.requester q.vote q.round → unsealed (request_words (after s qs) q.requester q.vote q.round) q.vote q.round ≡ true → coin (after s qs) q.vote q.round ≡ coin (after t qs) q.vote q.round
       agree k e =

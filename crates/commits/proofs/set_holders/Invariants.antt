@@ -4,8 +4,5 @@ use Rattle.quorum.specs.laws.Marking.{Marking}
 use Rattle.commits.specs.Commits.{commit_held, same_set}
 use Rattle.commits.proofs.set_holders.Given as goal
 
-abbrev pub invariant-loop-q : goal.invariant-loop-q
-invariant-loop-q l = Marking (λ k. commit_held l.s k && same_set l.s l.p k) l.initial.q l.q l.m
-
-abbrev pub decreases-loop-q : goal.decreases-loop-q
-decreases-loop-q l = l.q
+abbrev pub invariant-loop-k : goal.invariant-loop-k
+invariant-loop-k l = Marking (λ q. commit_held l.s q && same_set l.s l.p q) l.initial.k l.k l.m

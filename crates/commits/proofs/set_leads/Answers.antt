@@ -6,4 +6,4 @@ pub returns-then-commit_held : goal.returns-then-commit_held
 returns-then-commit_held c = search commit_cases
 
 pub returns-else-commit_held : goal.returns-else-commit_held
-returns-else-commit_held c = search commit_cases
+returns-else-commit_held c = rw c.if-commit_held.false (search commit_cases)

@@ -1,6 +1,6 @@
 -- Turns after all messages are held: each acts, until nothing is due.
 use Prim.Native.Nat.{ℕ, zero, suc, ◌+◌, ◌≤◌}
-use Rattle.std.specs.Prelude.{Bool, false, ◌&&◌, List, ◌⊎◌, ◌≡◌, length}
+use Rattle.std.specs.Prelude.{Bool, false, ◌&&◌, List, ◌⊎◌, ◌≡◌, length, Some}
 use Rattle.std.proofs.Math.Bool.{true}
 use Rattle.std.proofs.Common.{true≢false, inr, sym, ◌∙◌}
 use Rattle.std.proofs.Math.Logic.{inl}
@@ -23,7 +23,6 @@ use Rattle.acts.specs.Acts.{is_due}
 use Rattle.acts.specs.declared.Act.{Act}
 use Rattle.acts.specs.declared.Act.TheVariants.{Idle, InForce, Commit, Send, Echo, Ready, Start, Relay, Aux, Move, Finish}
 use Rattle.session.specs.Session.{session_of, session_with, stored}
-use Rattle.session.specs.declared.Stored.TheVariants.{Held}
 use Rattle.turn.specs.laws.Told.{ActTold}
 use Rattle.turn.specs.Due.{due}
 use Rattle.turn.specs.laws.Due.{due_told}
@@ -53,7 +52,7 @@ module _ (n c : ℕ) (low : 1 ≤ n) (few : n ≤ 16) (s : List ℕ) (x : Good n
   placed : Placed a
   placed = told_placed (settings n) s (ruled n c low few) a told
 
-  is_stored : stored s ≡ Held (session_of s)
+  is_stored : stored s ≡ Some (session_of s)
   unfolding stored
   is_stored = rw (sound_state (terms n) (ruled n c low few) s x.sound)
 

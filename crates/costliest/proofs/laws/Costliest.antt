@@ -1,5 +1,5 @@
 -- For n from 2 to 16 the costliest session takes exactly 99·n+3 turns.
-use Rattle.std.specs.Prelude.{ℕ, zero, suc, ◌+◌, ◌*◌, ◌-◌, ◌^◌, ◌≤◌, ◌<◌, true, false, ◌&&◌, ◌≢◌, ◌⊎◌, ◌≡◌, length, take}
+use Rattle.std.specs.Prelude.{ℕ, zero, suc, ◌+◌, ◌*◌, ◌-◌, ◌^◌, ◌≤◌, ◌<◌, true, false, ◌&&◌, ◌≢◌, ◌⊎◌, ◌≡◌, length, take, Ok}
 use Rattle.std.proofs.Math.Bool.{true≢false}
 use mathlib.Core.List.{List}
 use Rattle.std.proofs.Common.{inl, inr, subst, ◌∙◌}
@@ -45,6 +45,7 @@ use Rattle.costliest.proofs.laws.Saying.{settings, terms, Allowed, Good, ruled}
 use Rattle.costliest.proofs.laws.Hearing.{Brings, Prepared, heard_ready, commits_bringing}
 use Rattle.costliest.proofs.laws.Idle.{idle_count}
 use Rattle.costliest.proofs.laws.Acting.{turn_words_lem, turn_acts, Turning, turns_turning}
+use Rattle.settings.specs.laws.Answers.{taken_true}
 
 -- ---- the opening
 
@@ -54,7 +55,7 @@ length_coins zero = refl
 length_coins (suc n) = ap suc (length_coins n)
 
 module _ (n : ℕ) (two : 2 ≤ n) (low : 1 ≤ n) (few : n ≤ 16) (s : List ℕ) (size : length s ≡ 2048) where
-  accepted : open_answer (length s) (opens n) ≡ 0
+  accepted : open_answer (length s) (opens n) ≡ Ok tt
   unfolding opens open_answer coins_given named_ta numbered version_known
   accepted =
       rw (
@@ -72,7 +73,7 @@ module _ (n : ℕ) (two : 2 ≤ n) (low : 1 ≤ n) (few : n ≤ 16) (s : List �
 
   first_is : first ≡ open_words (opens n)
   unfolding opened
-  first_is = rw (eq-eqb (open_answer (length s) (opens n)) 0 accepted)
+  first_is = rw (taken_true (open_answer (length s) (opens n)) accepted)
 
   zero_at : (k : ℕ) → 24 ≤ k → (k ≤ 143 → k < 141) → word first k ≡ 0
   unfolding opens

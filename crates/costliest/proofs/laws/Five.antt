@@ -1,5 +1,5 @@
 -- One concentrator takes five turns: SEND, ECHO, READY, COMMIT, in force.
-use Rattle.std.specs.Prelude.{ℕ, List, ◌≡◌, refl, length}
+use Rattle.std.specs.Prelude.{ℕ, List, ◌≡◌, refl, length, Ok}
 use Rattle.std.proofs.Common.{ap, ◌∙◌}
 use Rattle.records.specs.Layout.{turns_at}
 use Rattle.records.specs.Words.{word}
@@ -18,7 +18,7 @@ computed : word (after (open_words (opens 1)) five) turns_at ≡ 5
 unfolding calls opens coin_words ones_given five turns each commit say packs words delivered_words line_words turn_room low_bytes bytes_of turn_with
 computed = refl
 
-accepted : (s : List ℕ) → length s ≡ 2048 → open_answer (length s) (opens 1) ≡ 0
+accepted : (s : List ℕ) → length s ≡ 2048 → open_answer (length s) (opens 1) ≡ Ok tt
 unfolding calls opens coin_words ones_given
 accepted s e = rw e
 

@@ -1,6 +1,6 @@
 -- Where all messages are held and nothing is due, everything was sent but the set in force.
 use Prim.Native.Nat.{ℕ, zero, suc, ◌+◌, ◌*◌, ◌-◌, ◌^◌, ◌≤◌, min}
-use Rattle.std.specs.Prelude.{Bool, ◌&&◌, cond, ◌≢◌, ◌≡◌}
+use Rattle.std.specs.Prelude.{Bool, ◌&&◌, cond, ◌≢◌, ◌≡◌, Option, Some, None}
 use Rattle.std.proofs.Math.Bool.{true, false, true≢false}
 use mathlib.Core.List.{List, [], ◌∷◌}
 use Rattle.std.proofs.Math.Path.{refl, ap, subst}
@@ -30,8 +30,6 @@ use Rattle.acts.specs.declared.Act.TheVariants.{Idle, Commit, Send, Echo, Ready,
 use Rattle.broadcasts.specs.Leading.{present, holders, leading, or_output}
 use Rattle.broadcasts.specs.Broadcasts.{output, echo_act, ready_due, ready_of, ready_act, echo_rule, ready_rule}
 use Rattle.broadcasts.specs.laws.Broadcasts.{leading_some, output_unique}
-use Rattle.broadcasts.specs.declared.Output.{Output}
-use Rattle.broadcasts.specs.declared.Output.TheVariants.{Value, Nothing}
 use Rattle.commits.specs.Commits.{commit_held, same_set, set_holders, set_leads, set_leader, set_of, leading_set}
 use Rattle.commits.specs.laws.Sets.{set_length, set_same}
 use Rattle.votes.specs.Votes.{est_count, accepted, votes_decided_one, start_act, relay_value, relay_round, relay_act, running, one_accepted_first, aux_value, aux_act, carries, carriers, move_value, move_act, round_act, vote_act}
@@ -88,12 +86,12 @@ module _ (n : ℕ) (two : 2 ≤ n) (few : n ≤ 16) (low : 1 ≤ n) (begin : Lis
   unfolding ready_rule ready_act ready_due repeat
   ready_done e i lo hi = of (leading g (echo_held s i) (echo_value s i) (quorum g)) (leading g (ready_held s i) (ready_value s i) 1) refl (first_idle (ready_act g s) n e i lo hi)
     where
-      of : (u v : Output) → leading g (ready_held s i) (ready_value s i) 1 ≡ v → is_due (cond (ready_sent s i) Idle (ready_of i (or_output u v))) ≡ false → ready_sent s i ≡ true
-      of (Value a) v f d = passed_test (ready_sent s i) (Ready i a) refl d
-      of Nothing (Value a) f d = passed_test (ready_sent s i) (Ready i a) refl d
-      of Nothing Nothing f d = absurd (leading_some g (ready_held s i) (ready_value s i) 1 i (omega arith) (omega (arith, holders_all i lo hi)) f)
+      of : (u v : Option ℕ) → leading g (ready_held s i) (ready_value s i) 1 ≡ v → is_due (cond (ready_sent s i) Idle (ready_of i (or_output u v))) ≡ false → ready_sent s i ≡ true
+      of (Some a) v f d = passed_test (ready_sent s i) (Ready i a) refl d
+      of None (Some a) f d = passed_test (ready_sent s i) (Ready i a) refl d
+      of None None f d = absurd (leading_some g (ready_held s i) (ready_value s i) 1 i (omega arith) (omega (arith, holders_all i lo hi)) f)
 
-  output_is : (i : ℕ) → 1 ≤ i → i ≤ n → output g s i ≡ Value i
+  output_is : (i : ℕ) → 1 ≤ i → i ≤ n → output g s i ≡ Some i
   unfolding quorum
   output_is i lo hi = output_unique g s i i (ruled n 1 low few) (omega (arith, holders_all i lo hi, ones_whole n few))
 

@@ -1,8 +1,8 @@
 -- One concentrator takes at most five turns: its vote never starts, since a broadcast with output is Exit 1.
-use Rattle.std.specs.Prelude.{ℕ, ◌≤◌, Bool, cond, ◌≢◌, ◌≡◌, length, drop}
+use Rattle.std.specs.Prelude.{ℕ, ◌≤◌, Bool, cond, ◌≢◌, ◌≡◌, length, drop, Option, Some, None, Result, Ok, Err}
 use Rattle.std.proofs.Math.Bool.{true, false}
 use mathlib.Core.List.{List, [], ◌∷◌}
-use Rattle.std.proofs.Common.{inl, inr, ap₂, ◌∙◌, arith, eqb-true, eq-eqb}
+use Rattle.std.proofs.Common.{inl, inr, ap₂, ◌∙◌, arith, eq-eqb}
 use Rattle.std.proofs.Math.Path.{refl, ap}
 use Rattle.std.proofs.Math.Dec.{eqb}
 use Rattle.settings.specs.Versions.{FIRST_VERSION, finishing}
@@ -27,8 +27,6 @@ use Rattle.acts.specs.declared.Act.TheVariants.{Idle, InForce, Commit, Send, Ech
 use Rattle.broadcasts.specs.Leading.{present}
 use Rattle.broadcasts.specs.Broadcasts.{output, echo_rule, ready_rule}
 use Rattle.broadcasts.specs.laws.Due.{echo_rule_holds, ready_rule_holds}
-use Rattle.broadcasts.specs.declared.Output.{Output}
-use Rattle.broadcasts.specs.declared.Output.TheVariants.{Value, Nothing}
 use Rattle.votes.specs.laws.Versions.{first_rule}
 use Rattle.votes.specs.Votes.{votes_decided_one, vote_act, start_act, relay_act, round_act, running}
 use Rattle.exits.specs.Exits.{exit_of, exit1_at, naming, with_output}
@@ -53,8 +51,6 @@ use Rattle.delivery.specs.laws.Accepting.{accepting}
 use Rattle.delivery.specs.laws.Frame.{InLayout, Changed, word_recorded}
 use Rattle.delivery.specs.laws.Kept.{in_layout_lem}
 use Rattle.delivery.specs.laws.Versions.{first_kinds}
-use Rattle.delivery.specs.declared.Verdict.{Verdict}
-use Rattle.delivery.specs.declared.Verdict.TheVariants as verdict
 use Rattle.recording.specs.Recording.{recorded_words}
 use Rattle.turn_bound.proofs.laws.Steps.{Step, opening, delivery, turn, report, recording, after, current, acting}
 use Rattle.turn_bound.proofs.laws.Sums.{share_few, zero_count}
@@ -68,6 +64,9 @@ use Rattle.turn_bound.proofs.laws.Opened.{opened_ruled}
 use Rattle.turn_bound.proofs.laws.Count.{going, opening_going, refused_words}
 use Rattle.turn_bound.proofs.laws.CallCount.{calls_begun}
 use Rattle.costliest.specs.Statement.{AtMostFive}
+use Rattle.settings.specs.declared.refusal.Refusal.{Refusal}
+use Rattle.std.specs.Result.{is_ok}
+use Rattle.settings.specs.laws.Answers.{taken_true, true_taken}
 
 -- the vote has not begun
 record Quiet (s : List ℕ) : Type 0 where
@@ -95,7 +94,7 @@ NoVote (Move i r v) = ⊥
 NoVote (Finish i b) = ⊥
 
 -- a broadcast with output is Exit 1
-exit_one : (o : ℕ → Output) (as0 as1 : ℕ → Bool) (v : ℕ) → o 1 ≡ Value v → (exit_of alone o as0 as1).number ≡ 1
+exit_one : (o : ℕ → Option ℕ) (as0 as1 : ℕ → Bool) (v : ℕ) → o 1 ≡ Some v → (exit_of alone o as0 as1).number ≡ 1
 unfolding exit_of exit1_at naming lowest with_output total weight_of mark quorum
 exit_one o as0 as1 v e = rw (e, eq-eqb v v refl)
 
@@ -116,9 +115,9 @@ module _ (s : List ℕ) (q : Quiet s) (plain : finishing (version s) ≡ false) 
   unfolding votes_rule exit_now first_act act_at lowest
   votes_idle = go (output alone s 1) refl
     where
-      go : (x : Output) → output alone s 1 ≡ x → votes_rule alone s ≡ Idle
-      go (Value v) e = rw (exit_one (output alone s) (decided_zero s) (decided_one s) v e)
-      go Nothing e = rw (first_rule alone s (λ i. present (output alone s i)) plain) (cases (eqb (exit_now alone s).number 1))
+      go : (x : Option ℕ) → output alone s 1 ≡ x → votes_rule alone s ≡ Idle
+      go (Some v) e = rw (exit_one (output alone s) (decided_zero s) (decided_one s) v e)
+      go None e = rw (first_rule alone s (λ i. present (output alone s i)) plain) (cases (eqb (exit_now alone s).number 1))
         where
           inner : first_act (λ i. vote_act alone s (present (output alone s i)) (votes_decided_one alone s) i) 1 ≡ Idle
           inner = rw (e, vote_idle)
@@ -206,9 +205,9 @@ delivery_ones : (s : List ℕ) (link : ℕ) (b : List ℕ) → finishing (versio
 unfolding delivered words_after session_of session_with settings_of
 delivery_ones s link b plain = go (verdict s link b) refl
   where
-    go : (y : Verdict) → verdict s link b ≡ y → word (words_after y s link b) decided_one_at ≡ word s decided_one_at
-    go (verdict.Refused k) e = refl
-    go (verdict.Accepted m) e =
+    go : (y : Result Message Refusal) → verdict s link b ≡ y → word (words_after y s link b) decided_one_at ≡ word s decided_one_at
+    go (Err k) e = refl
+    go (Ok m) e =
         let x = accepting s link b m e in
         let f : Form (version s) (word s n_at) (session_of s).number link b m = taken_form _ _ _ link b m x.taken in
         word_recorded s (drop 12 b) link m decided_one_at
@@ -258,15 +257,15 @@ module _ (k : Terms) (ruled : Ruled k.settings) (s : List ℕ) (h : Sound k s) (
       let none : finishes 1 s ≤ 0 = rw (one, first, first_plain) at (finishes_few k.version k.settings.n s h.sent) in
       omega (arith, is, quiet_potential s q, none)
 
-opening_quiet : (w : List ℕ) (o : Arguments) → open_answer (length w) o ≡ 0 → Quiet (opened w o)
+opening_quiet : (w : List ℕ) (o : Arguments) → open_answer (length w) o ≡ Ok tt → Quiet (opened w o)
 unfolding opened
 opening_quiet w o e =
     let few = (opened_ruled w o e).few in
     let z = first_zero o few in
-    rw (eq-eqb (open_answer (length w) o) 0 e)
+    rw (taken_true (open_answer (length w) o) e)
     (record { round = z 24 (omega arith) (λ e. omega arith); ests = z 40 (omega arith) (λ e. omega arith); auxs = z 56 (omega arith) (λ e. omega arith); ones = z 139 (omega arith) (λ e. omega arith) })
 
-module _ (s : List ℕ) (o : Arguments) (e : open_answer (length s) o ≡ 0) where
+module _ (s : List ℕ) (o : Arguments) (e : open_answer (length s) o ≡ Ok tt) where
   abbrev first : List ℕ
   first = opened s o
 
@@ -280,10 +279,10 @@ module _ (s : List ℕ) (o : Arguments) (e : open_answer (length s) o ≡ 0) whe
   quiet : (cs : List Step) → Alone (now cs) → Quiet (after first cs)
   unfolding current after
   quiet [] u = opening_quiet s o e
-  quiet (opening p ∷ cs) u = at (eqb (open_answer (length (after first cs)) p) 0) refl u (λ v. quiet cs v)
+  quiet (opening p ∷ cs) u = at (is_ok (open_answer (length (after first cs)) p)) refl u (λ v. quiet cs v)
     where
-      at : (b : Bool) → eqb (open_answer (length (after first cs)) p) 0 ≡ b → Alone (cond b (terms_by p) (now cs)) → (Alone (now cs) → Quiet (after first cs)) → Quiet (opened (after first cs) p)
-      at true d v x = opening_quiet (after first cs) p (eqb-true (open_answer (length (after first cs)) p) 0 d)
+      at : (b : Bool) → is_ok (open_answer (length (after first cs)) p) ≡ b → Alone (cond b (terms_by p) (now cs)) → (Alone (now cs) → Quiet (after first cs)) → Quiet (opened (after first cs) p)
+      at true d v x = opening_quiet (after first cs) p (true_taken (open_answer (length (after first cs)) p) d)
       at false d v x = rw (refused_words (after first cs) p d) (x v)
   quiet (delivery link b ∷ cs) u =
       let y = going (terms_by o) first (opening_going s o e) cs in

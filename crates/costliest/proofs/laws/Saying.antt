@@ -1,5 +1,5 @@
 -- A message that is delivered in the costliest session is held after it, and all that was held stays.
-use Rattle.std.specs.Prelude.{ℕ, ◌-◌, ◌≤◌, ◌%◌, ◌^◌, Bool, ◌||◌, cond, List, ◌⊎◌, ◌≡◌, refl, take, drop}
+use Rattle.std.specs.Prelude.{ℕ, ◌-◌, ◌≤◌, ◌%◌, ◌^◌, Bool, ◌||◌, cond, List, ◌⊎◌, ◌≡◌, refl, take, drop, Some, Ok}
 use Rattle.std.proofs.Math.Bool.{true, false}
 use Rattle.std.proofs.lemmas.Bool.{false≢true}
 use Rattle.std.proofs.Common.{inl, inr, sym, subst, ◌∙◌, arith}
@@ -17,14 +17,12 @@ use Rattle.records.specs.Words.{word, marked}
 use Rattle.records.specs.Records.{closed, version, send_held, echo_held, ready_held, est_held, aux_held}
 use Rattle.commits.specs.Commits.{commit_held}
 use Rattle.session.specs.Session.{session_with, session_of, stored}
-use Rattle.session.specs.declared.Stored.TheVariants.{Held}
 use Rattle.wire.specs.Bytes.{values}
 use Rattle.wire.specs.Message.{count_of, values_of, encode}
 use Rattle.wire.specs.Reading.{read_message}
 use Rattle.wire.specs.laws.Kinds.{first_last}
 use Rattle.wire.specs.declared.Message as wire_message
 use Rattle.wire.specs.declared.Message.TheVariants as wire
-use Rattle.wire.specs.declared.Parsed.TheVariants.{Taken}
 use Rattle.wire_laws.specs.RoundTrip.{ReadBack}
 use Rattle.wire_laws.specs.Proper.{Proper}
 use Rattle.wire_laws.proofs.RoundTrip.{round_trip}
@@ -93,11 +91,11 @@ module _ (n c : ℕ) (low : 1 ≤ n) (few : n ≤ 16) where
     layout : InLayout p m
     layout = in_layout_lem n p m few lo hi proper.layout
 
-    is_stored : stored s ≡ Held (session_of s)
+    is_stored : stored s ≡ Some (session_of s)
     unfolding stored
     is_stored = rw (sound_state (terms n) ruled s x.sound)
 
-    is_read : read_message (version s) (session_of s).settings.n (session_of s).number p b ≡ Taken m
+    is_read : read_message (version s) (session_of s).settings.n (session_of s).number p b ≡ Ok m
     unfolding session_of session_with
     is_read =
         ap (λ (y : Terms). read_message y.version y.settings.n (word s session_at % 2 ^ 32) p b) x.sound.terms

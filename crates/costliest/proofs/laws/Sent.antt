@@ -1,6 +1,6 @@
 -- Each act sends one message, but the move out of round 32 and the closing; a message has 20 bytes, but for the COMMIT.
 use Prim.Native.Nat.{ℕ, zero, suc, ◌+◌, ◌*◌, ◌-◌, ◌≤◌, ◌<◌}
-use Rattle.std.specs.Prelude.{Bool, true, false, ◌≢◌, ◌≡◌, eqb}
+use Rattle.std.specs.Prelude.{Bool, true, false, ◌≢◌, ◌≡◌, eqb, Ok}
 use Rattle.std.proofs.Common.{true≢false, inl, sym, subst, ◌∙◌, ne_eqb, lt-ltb, le-ltb}
 use mathlib.Core.List.{List}
 use Rattle.std.proofs.Math.Path.{refl, ap}
@@ -140,15 +140,15 @@ module _ (n : ℕ) (few : n ≤ 16) (s t : List ℕ) where
 
 -- what an act sends, by its outcome y, from the words s to t
 record ActSends (n : ℕ) (y : Outcome) (s t : List ℕ) : Type 0 where
-  one : sent_one y + without_message n t ≤ without_message n s + 1
-  size : sent_length y + 20 * without_message n t + longer n s ≤ 20 * without_message n s + 20 + longer n t
+  one : sent_one (Ok y) + without_message n t ≤ without_message n s + 1
+  size : sent_length (Ok y) + 20 * without_message n t + longer n s ≤ 20 * without_message n s + 20 + longer n t
 
 module _ (n : ℕ) (s t : List ℕ) where
   abbrev Stay : ℕ → Type 0
   Stay p = mark (word t 7) p ≡ mark (word s 7) p
 
   -- one message of 20 bytes
-  one_message : (y : Outcome) → sent_one y ≡ 1 → sent_length y ≡ 20 → Stay 1 → Stay 3 → total (out t) everyone n ≤ total (out s) everyone n → ActSends n y s t
+  one_message : (y : Outcome) → sent_one (Ok y) ≡ 1 → sent_length (Ok y) ≡ 20 → Stay 1 → Stay 3 → total (out t) everyone n ≤ total (out s) everyone n → ActSends n y s t
   unfolding without_message longer closed commit_sent marked
   one_message y a b c d o = record { one = rw (c, a) (omega arith); size = rw (c, d, b) (omega arith) }
 
@@ -193,7 +193,7 @@ module _ (k : Terms) (ruled : Ruled k.settings) (own : ℕ) (s : List ℕ) (h : 
   still_votes a h = staying n ruled.few s (applied s a) (λ j lo hi. applied_other s a (round_at j) (λ z. omega arith) (h j lo hi))
 
   -- an act that writes no flag, with one message of 20 bytes
-  voting : (a : Act) (y : Outcome) → sent_one y ≡ 1 → sent_length y ≡ 20 → Spared a 7 → total (out (applied s a)) everyone n ≤ total (out s) everyone n → ActSends n y s (applied s a)
+  voting : (a : Act) (y : Outcome) → sent_one (Ok y) ≡ 1 → sent_length (Ok y) ≡ 20 → Spared a 7 → total (out (applied s a)) everyone n ≤ total (out s) everyone n → ActSends n y s (applied s a)
   voting a y b c e o =
       let same : word (applied s a) 7 ≡ word s 7 = applied_other s a 7 (λ z. omega arith) e in
       one_message n s (applied s a) y b c (same_mark n s (applied s a) 1 same) (same_mark n s (applied s a) 3 same) o
@@ -255,7 +255,7 @@ within_same n few s t m b f e r x =
     record { messages = rw f (omega (arith, x.messages)); bytes = rw f (omega (arith, x.bytes)) }
 
 -- nothing is sent where nothing is due
-idle_sends : (own : ℕ) (s : List ℕ) (a : Act) → is_due a ≡ false → (sent_one (outcome_of own s a) ≡ 0) × (sent_length (outcome_of own s a) ≡ 0)
+idle_sends : (own : ℕ) (s : List ℕ) (a : Act) → is_due a ≡ false → (sent_one (Ok (outcome_of own s a)) ≡ 0) × (sent_length (Ok (outcome_of own s a)) ≡ 0)
 unfolding outcome_of
 idle_sends own s Idle e = (refl, refl)
 idle_sends own s InForce e = absurd (true≢false e)
@@ -276,7 +276,7 @@ module _ (k : Terms) (ruled : Ruled k.settings) (s : List ℕ) (h : Sound k s) (
   none_sent : SentWithin given.n s (0 + m) (0 + b)
   none_sent = record { messages = omega (arith, x.messages); bytes = omega (arith, x.bytes) }
 
-  act_within : (own : ℕ) → closed s ≡ false → (a : Act) → ActTold given s a → (d : Bool) → is_due a ≡ d → SentWithin given.n (applied s a) (sent_one (outcome_of own s a) + m) (sent_length (outcome_of own s a) + b)
+  act_within : (own : ℕ) → closed s ≡ false → (a : Act) → ActTold given s a → (d : Bool) → is_due a ≡ d → SentWithin given.n (applied s a) (sent_one (Ok (outcome_of own s a)) + m) (sent_length (Ok (outcome_of own s a)) + b)
   act_within own unclosed a t true e =
       let p = act_sends k ruled own s h unclosed a e t in
       let count = applied_turns s a (told_placed given s ruled a t) (omega (arith, h.size)) e in

@@ -1,14 +1,13 @@
 -- The messages and bytes that a concentrator sends along a list of calls are no more than its turns could send.
 use Prim.Native.Nat.{ℕ, ◌+◌}
-use Rattle.std.specs.Prelude.{Bool, cond, ◌≡◌, refl, eqb, ltb, length}
+use Rattle.std.specs.Prelude.{Bool, cond, ◌≡◌, refl, eqb, ltb, length, Option, Some, None}
 use Rattle.std.proofs.Math.Bool.{true, false}
 use mathlib.Core.List.{List, [], ◌∷◌}
-use Rattle.std.proofs.Math.Option.{Option, none, some}
 use Rattle.opening.specs.Arguments.{Arguments}
 use Rattle.delivery.specs.Delivery.{delivered}
 use Rattle.recording.specs.Recording.{recorded_words}
 use Rattle.turn.specs.Turn.{sent_length, turn_outcome, turn_words}
-use Rattle.journal.specs.Journal.{acts, line_words, open_number, opened_words, delivered_words, record_words, turn_room, turned_outcome, turned_words}
+use Rattle.journal.specs.Journal.{acts, line_words, open_line_answer, opened_words, delivered_words, record_words, turn_room, turned_outcome, turned_words}
 use Rattle.restore.specs.Restoring.{accepted, restore_answer, restored_words}
 use Rattle.calls.specs.Machine.{Call, opening, delivery, turn, report, restore, recording, place, left, words, traced}
 use Rattle.calls.specs.Engine.{engine}
@@ -18,6 +17,7 @@ use Rattle.turn_bound.proofs.laws.CallCount.{open_refused, restore_refused, same
 use Rattle.costliest.specs.Calls.{Calls}
 use Rattle.costliest.specs.Statement.{sent_one, sent_after, sent_at, AtMostSent}
 use Rattle.costliest.proofs.laws.Sent.{SentWithin, delivery_within, recording_within, turn_within, fresh_within, few_sent}
+use Rattle.std.specs.Result.{is_ok}
 
 -- the session z in the words w, in which m messages of b bytes were sent
 record SentIn (w : List ℕ) (m b : ℕ) (z : Begun) : Type 0 where
@@ -27,28 +27,28 @@ record SentIn (w : List ℕ) (m b : ℕ) (z : Begun) : Type 0 where
 -- a session of terms g was begun
 record BegunWith (x : Option Begun) (g : Terms) : Type 0 where
   session : Begun
-  was : x ≡ some session
+  was : x ≡ Some session
   same : session.terms ≡ g
 
 -- a turn leaves its terms
-turn_terms : (t : Bool) (x : Option Begun) (y : Begun) → cond t (one_more x) x ≡ some y → BegunWith x y.terms
-turn_terms true none y e = absurd (none_begun y e)
-turn_terms true (some z) y e = record { session = z; was = refl; same = cc }
+turn_terms : (t : Bool) (x : Option Begun) (y : Begun) → cond t (one_more x) x ≡ Some y → BegunWith x y.terms
+turn_terms true None y e = absurd (none_begun y e)
+turn_terms true (Some z) y e = record { session = z; was = refl; same = cc }
 turn_terms false x y e = record { session = y; was = e; same = refl }
 
 -- a call on the words w of a session, if any was begun
-module _ (w : List ℕ) (x : Option Begun) (m b : ℕ) (before : (z : Begun) → x ≡ some z → SentIn w m b z) (y : Begun) where
-  opening_sends : (o : Arguments) (room : ℕ) (t : Bool) → eqb (open_number (length w) o room) 0 ≡ t → cond t (some (record { terms = terms_by o; turns = 0 })) x ≡ some y →
+module _ (w : List ℕ) (x : Option Begun) (m b : ℕ) (before : (z : Begun) → x ≡ Some z → SentIn w m b z) (y : Begun) where
+  opening_sends : (o : Arguments) (room : ℕ) (t : Bool) → is_ok (open_line_answer (length w) o room) ≡ t → cond t (Some (record { terms = terms_by o; turns = 0 })) x ≡ Some y →
       Going y.terms (opened_words w o room) y.turns → SentWithin y.terms.settings.n (opened_words w o room) (cond t 0 m) (cond t 0 b)
   opening_sends o room true f e now = fresh_within y.terms (opened_words w o room) y.turns now
   opening_sends o room false f e now = rw (open_refused w o room f) (before y e).within
 
-  restore_sends : (v journal : List ℕ) (room : ℕ) (z : Begun) (t : Bool) → accepted (restore_answer v journal room) ≡ t → cond t (some z) (cond (same_words v w) x none) ≡ some y →
+  restore_sends : (v journal : List ℕ) (room : ℕ) (z : Begun) (t : Bool) → accepted (restore_answer v journal room) ≡ t → cond t (Some z) (cond (same_words v w) x None) ≡ Some y →
       Going y.terms (restored_words v journal room) y.turns → SentWithin y.terms.settings.n (restored_words v journal room) (cond t 0 m) (cond t 0 b)
   restore_sends v journal room z true f e now = fresh_within y.terms (restored_words v journal room) y.turns now
   restore_sends v journal room z false f e now = rw (restore_refused v journal room f) (of (same_words v w) refl e)
     where
-      of : (t : Bool) → same_words v w ≡ t → cond t x none ≡ some y → SentWithin y.terms.settings.n v m b
+      of : (t : Bool) → same_words v w ≡ t → cond t x None ≡ Some y → SentWithin y.terms.settings.n v m b
       of true g e = rw (same_words_lem v w g) (before y e).within
       of false g e = absurd (none_begun y e)
 
@@ -69,7 +69,7 @@ module _ (w : List ℕ) (x : Option Begun) (m b : ℕ) (before : (z : Begun) →
       of false = recording_within y.terms z.going.ruled w z.going.sound m b z.within i r bit
 
   -- whatever session it was counted in
-  turn_sends : (out : List ℕ) (room : ℕ) → cond (acts (turned_outcome w (length out) room)) (one_more x) x ≡ some y →
+  turn_sends : (out : List ℕ) (room : ℕ) → cond (acts (turned_outcome w (length out) room)) (one_more x) x ≡ Some y →
       SentWithin y.terms.settings.n (turned_words w (length out) room) (sent_one (turned_outcome w (length out) room) + m) (sent_length (turned_outcome w (length out) room) + b)
   unfolding turn_room
   turn_sends out room e = of (turn_terms (acts (turned_outcome w (length out) room)) x y e)
@@ -82,7 +82,7 @@ module _ (w : List ℕ) (x : Option Begun) (m b : ℕ) (before : (z : Begun) →
       of : BegunWith x y.terms → SentWithin y.terms.settings.n (turned_words w (length out) room) (sent_one (turned_outcome w (length out) room) + m) (sent_length (turned_outcome w (length out) room) + b)
       of z = let s = before z.session z.was in lined y.terms z.session.turns (rw (← z.same) s.going) (rw (← z.same) s.within) (ltb room 512)
 
-  call_sends : (c : Call engine) → session_after c w x ≡ some y → Going y.terms (left engine c w) y.turns → SentWithin y.terms.settings.n (left engine c w) (sent_after sent_one c w m) (sent_after sent_length c w b)
+  call_sends : (c : Call engine) → session_after c w x ≡ Some y → Going y.terms (left engine c w) y.turns → SentWithin y.terms.settings.n (left engine c w) (sent_after sent_one c w m) (sent_after sent_length c w b)
   call_sends (opening p o) e now = opening_sends o.given o.line _ refl e now
   call_sends (delivery p l c) e now = deliver_sends l c.list c.line (before y e)
   call_sends (turn p l) e now = turn_sends l.message l.line e
@@ -91,7 +91,7 @@ module _ (w : List ℕ) (x : Option Begun) (m b : ℕ) (before : (z : Begun) →
   call_sends (recording p c) e now = record_sends c.vote c.round c.bit c.line (before y e)
 
 module _ (start : ℕ → List ℕ) where
-  sent_within : (cs : Calls) (q : ℕ) (y : Begun) → session_at start cs q ≡ some y → SentWithin y.terms.settings.n (words engine start cs q) (sent_at sent_one start cs q) (sent_at sent_length start cs q)
+  sent_within : (cs : Calls) (q : ℕ) (y : Begun) → session_at start cs q ≡ Some y → SentWithin y.terms.settings.n (words engine start cs q) (sent_at sent_one start cs q) (sent_at sent_length start cs q)
   unfolding session_at sent_at words traced
   sent_within [] q y e = absurd (none_begun y e)
   sent_within (c ∷ cs) q y e = of (eqb q (place engine c)) (λ z f. record { going = calls_going start cs q z f; within = sent_within cs q z f }) e (calls_going start (c ∷ cs) q y e)
@@ -105,7 +105,7 @@ module _ (start : ℕ → List ℕ) where
       b : ℕ
       b = sent_at sent_length start cs q
 
-      of : (t : Bool) → ((z : Begun) → session_at start cs q ≡ some z → SentIn w m b z) → cond t (session_after c w (session_at start cs q)) (session_at start cs q) ≡ some y → Going y.terms (cond t (left engine c w) w) y.turns →
+      of : (t : Bool) → ((z : Begun) → session_at start cs q ≡ Some z → SentIn w m b z) → cond t (session_after c w (session_at start cs q)) (session_at start cs q) ≡ Some y → Going y.terms (cond t (left engine c w) w) y.turns →
           SentWithin y.terms.settings.n (cond t (left engine c w) w) (cond t (sent_after sent_one c w m) m) (cond t (sent_after sent_length c w b) b)
       of true again e now = call_sends w (session_at start cs q) m b again y c e now
       of false again e now = (again y e).within

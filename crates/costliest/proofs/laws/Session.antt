@@ -1,16 +1,15 @@
 -- Along the calls of the session, which are deliveries and turns, the session that was opened goes on.
-use Rattle.std.specs.Prelude.{ℕ, zero, suc, ◌+◌, Bool, cond, ◌≡◌, eqb, length}
+use Rattle.std.specs.Prelude.{ℕ, zero, suc, ◌+◌, Bool, cond, ◌≡◌, eqb, length, Option, Some, Ok}
 use Rattle.std.proofs.Math.Bool.{true, false}
 use mathlib.Core.List.{List, [], ◌∷◌, ◌++◌}
-use Rattle.std.proofs.Math.Option.{Option, some}
 use Rattle.std.proofs.Math.Path.{sym, ap}
 use Rattle.std.proofs.Common.{◌∙◌, arith}
-use borrow.Author.Tests.{eq-eqb}
+use Rattle.settings.specs.laws.Answers.{taken_true}
 use Rattle.records.specs.Layout.{turns_at}
 use Rattle.records.specs.Words.{word}
 use Rattle.opening.specs.Arguments.{Arguments}
 use Rattle.opening.specs.Opening.{open_answer, opened}
-use Rattle.journal.specs.Journal.{LINE_BYTES, open_number, opened_words}
+use Rattle.journal.specs.Journal.{LINE_BYTES, open_line_answer, opened_words}
 use Rattle.journal.specs.laws.Journal.{line_answer_lem, line_words_lem}
 use Rattle.wire.specs.declared.Message.{Message}
 use Rattle.wire.specs.declared.Message.TheVariants.{Send, Echo, Ready, Commit}
@@ -89,7 +88,7 @@ module _ (start : ℕ → List ℕ) (q : ℕ) (g : Terms) where
   -- of these terms
   record GoesOn (x : Option Begun) : Type 0 where
     turns : ℕ
-    same : x ≡ some (record { terms = g; turns = turns })
+    same : x ≡ Some (record { terms = g; turns = turns })
 
   call_goes : (c : Call engine) → Plain c → (w : List ℕ) (x : Option Begun) → GoesOn x → GoesOn (session_after c w x)
   call_goes (opening p o) h w x y = absurd h
@@ -114,17 +113,17 @@ module _ (start : ℕ → List ℕ) (q : ℕ) (g : Terms) where
 
 -- ---- the whole session
 
-module _ (n : ℕ) (start : ℕ → List ℕ) (taken : open_answer (length (start 1)) (opens n) ≡ 0) where
+module _ (n : ℕ) (start : ℕ → List ℕ) (taken : open_answer (length (start 1)) (opens n) ≡ Ok tt) where
   abbrev first : Calls
   first = opening 1 (opening_of (opens n)) ∷ []
 
-  number : open_number (length (start 1)) (opening_of (opens n)).given LINE_BYTES ≡ 0
-  unfolding open_number
+  number : open_line_answer (length (start 1)) (opening_of (opens n)).given LINE_BYTES ≡ Ok tt
+  unfolding open_line_answer
   number = rw (opening_low n, line_answer_lem (open_answer (length (start 1)) (opens n)) 512 (omega arith)) taken
 
   is_opened_lem : engine.opens (start 1) (opening_of (opens n)) ≡ true
   unfolding opening_of
-  is_opened_lem = eq-eqb _ 0 number
+  is_opened_lem = taken_true _ number
 
   first_words : words engine start first 1 ≡ opened (start 1) (opens n)
   unfolding words opened_words opening_of
@@ -132,7 +131,7 @@ module _ (n : ℕ) (start : ℕ → List ℕ) (taken : open_answer (length (star
 
   first_begun : GoesOn start 1 (terms_by (opens n)) (session_at start first 1)
   unfolding session_at traced words
-  first_begun = record { turns = 0; same = rw is_opened_lem (ap (λ (o : Arguments). some (record { terms = terms_by o; turns = 0 })) (opening_low n)) }
+  first_begun = record { turns = 0; same = rw is_opened_lem (ap (λ (o : Arguments). Some (record { terms = terms_by o; turns = 0 })) (opening_low n)) }
 
   -- as many turns as are stored in the end
   pub takes : (k : ℕ) → word (after (opened (start 1) (opens n)) (costliest_calls n)) turns_at ≡ k → Takes n k start
@@ -142,4 +141,4 @@ module _ (n : ℕ) (start : ℕ → List ℕ) (taken : open_answer (length (star
       let same : words engine start (whole_session n) 1 ≡ after (opened (start 1) (opens n)) (costliest_calls n) = after_on start first (costliest_calls n) ∙ ap (λ (w : List ℕ). after w (costliest_calls n)) first_words in
       let counted = (calls_going start (whole_session n) 1 (record { terms = terms_by (opens n); turns = x.turns }) x.same).count in
       let is : x.turns ≡ k = sym counted ∙ ap (λ (w : List ℕ). word w turns_at) same ∙ e in
-      record { is_opened_lem = is_opened_lem; exactly = x.same ∙ ap (λ (j : ℕ). some (record { terms = terms_by (opens n); turns = j })) is }
+      record { is_opened_lem = is_opened_lem; exactly = x.same ∙ ap (λ (j : ℕ). Some (record { terms = terms_by (opens n); turns = j })) is }

@@ -12,11 +12,5 @@ overflow_add-result c = search write_cases
 pub overflow_add-result-in-Delivery : goal.overflow_add-result-in-Delivery
 overflow_add-result-in-Delivery c = search (rules, write_cases)
 
-pub returns-in-Nothing : goal.returns-in-Nothing
-returns-in-Nothing c = search write_cases
-
 pub returns-in-Delivery : goal.returns-in-Delivery
 returns-in-Delivery c = search write_cases
-
-pub returns-in-Turn : goal.returns-in-Turn
-returns-in-Turn c = search write_cases

@@ -5,8 +5,8 @@ use Rattle.delivery.proofs.judge.Goals as goal
 pub returns-then-s-ne-STATE_WORDS : goal.returns-then-s-ne-STATE_WORDS
 returns-then-s-ne-STATE_WORDS c = search verdict_cases
 
-pub returns-in-NoState : goal.returns-in-NoState
-returns-in-NoState c = search verdict_cases
+pub returns-in_default : goal.returns-in_default
+returns-in_default c = search verdict_cases
 
-pub returns-in-Held : goal.returns-in-Held
-returns-in-Held c = search verdict_cases
+pub returns : goal.returns
+returns c = search verdict_cases

@@ -1,5 +1,5 @@
 -- The cases of the code.
-use Rattle.std.specs.Prelude.{ℕ, Bool, true, false, ◌||◌, List, ◌≡◌, refl, length}
+use Rattle.std.specs.Prelude.{ℕ, Bool, true, false, ◌||◌, List, ◌≡◌, refl, length, Option, Some, None, Result, Ok, Err}
 use Rattle.std.proofs.Common.{ne_eqb}
 use Rattle.records.specs.Records.{closed, version, send_held, echo_held, ready_held, est_held, aux_held, finish_held}
 use Rattle.records.specs.Writing.{with_send, with_echo, with_ready, with_est, with_aux, with_one_first, with_finish, with_commit, with_decision}
@@ -10,18 +10,14 @@ use Rattle.votes.specs.Finishing.{finish_decides}
 use Rattle.settings.specs.declared.Settings.{Settings}
 use Rattle.session.specs.Session.{settings_of, stored}
 use Rattle.session.specs.declared.Session.{Session}
-use Rattle.session.specs.declared.Stored.{Stored}
-use Rattle.session.specs.declared.Stored.TheVariants.{NoState, Held}
 use Rattle.wire.specs.Bytes.{value_at}
 use Rattle.wire.specs.Reading.{read_message}
 use Rattle.wire.specs.declared.Message.{Message}
 use Rattle.wire.specs.declared.Message.TheVariants.{Send, Echo, Ready, Est, Aux, Commit, Finish}
-use Rattle.wire.specs.declared.Parsed.{Parsed}
-use Rattle.wire.specs.declared.Parsed.TheVariants as parsed
 use Rattle.delivery.specs.Delivery.{place_held, judged, verdict, first_noted, finish_settled, recorded}
 use Rattle.delivery.specs.laws.Stored.{verdict_for, verdict_stored}
-use Rattle.delivery.specs.declared.Verdict.{Verdict}
-use Rattle.delivery.specs.declared.Verdict.TheVariants.{Refused, Accepted}
+use Rattle.settings.specs.declared.refusal.Refusal.{Refusal}
+use Rattle.settings.specs.declared.refusal.Refusal.TheVariants as refusal
 
 module _ (s : List ℕ) (p : ℕ) (m : Message) (c : Bool) where
   pub place_send : (i v : ℕ) → m ≡ Send i v → c ≡ send_held s i → c ≡ place_held s p m
@@ -55,32 +51,32 @@ module _ (s : List ℕ) (p : ℕ) (m : Message) (c : Bool) where
 pub ruleset place_cases = (place_send, place_echo, place_ready, place_est, place_aux, place_commit, place_finish)
 
 module _ (x : Session) (s : List ℕ) (link : ℕ) (b : List ℕ) (c : Bool) (ec : c ≡ closed s) where
-  pub in_closed : c ≡ true → Refused 10 ≡ verdict_for (Held x) s link b
+  pub in_closed : c ≡ true → Err refusal.Closed ≡ verdict_for (Some x) s link b
   unfolding verdict_for
   in_closed t = rw (← ec, t)
 
-  module _ (tc : c ≡ false) (w : ℕ) (ew : w ≡ version s) (y : Parsed) (ey : y ≡ read_message w x.settings.n x.number link b) where
-    pub in_refused : (k : ℕ) → y ≡ parsed.Refused k → Refused k ≡ verdict_for (Held x) s link b
+  module _ (tc : c ≡ false) (w : ℕ) (ew : w ≡ version s) (y : Result Message Refusal) (ey : y ≡ read_message w x.settings.n x.number link b) where
+    pub in_refused : (k : Refusal) → y ≡ Err k → Err k ≡ verdict_for (Some x) s link b
     unfolding verdict_for judged
     in_refused k t = rw (← ec, tc, ← ew, ← ey, t)
 
-    pub in_held : (m : Message) (h : Bool) → y ≡ parsed.Taken m → h ≡ place_held s link m → h ≡ true → Refused 11 ≡ verdict_for (Held x) s link b
+    pub in_held : (m : Message) (h : Bool) → y ≡ Ok m → h ≡ place_held s link m → h ≡ true → Err refusal.Held ≡ verdict_for (Some x) s link b
     unfolding verdict_for judged
     in_held m h t eh th = rw (← ec, tc, ← ew, ← ey, t, ← eh, th)
 
-    pub in_accepted : (m : Message) (h : Bool) → y ≡ parsed.Taken m → h ≡ place_held s link m → h ≡ false → Accepted m ≡ verdict_for (Held x) s link b
+    pub in_accepted : (m : Message) (h : Bool) → y ≡ Ok m → h ≡ place_held s link m → h ≡ false → Ok m ≡ verdict_for (Some x) s link b
     unfolding verdict_for judged
     in_accepted m h t eh th = rw (← ec, tc, ← ew, ← ey, t, ← eh, th)
 
-pub no_state : (s : List ℕ) (link : ℕ) (b : List ℕ) (y : Stored) → y ≡ stored s → y ≡ NoState → Refused 9 ≡ verdict s link b
+pub no_state : (s : List ℕ) (link : ℕ) (b : List ℕ) (y : Option Session) → y ≡ stored s → y ≡ None → Err refusal.NoState ≡ verdict s link b
 unfolding verdict_for
 no_state s link b y e t = rw (verdict_stored s link b, ← e, t)
 
-pub a_state : (s : List ℕ) (link : ℕ) (b : List ℕ) (y : Stored) (x : Session) (v : Verdict) → y ≡ stored s → y ≡ Held x → v ≡ verdict_for (Held x) s link b → v ≡ verdict s link b
+pub a_state : (s : List ℕ) (link : ℕ) (b : List ℕ) (y : Option Session) (x : Session) (v : Result Message Refusal) → y ≡ stored s → y ≡ Some x → v ≡ verdict_for (Some x) s link b → v ≡ verdict s link b
 a_state s link b y x v e t f = rw (verdict_stored s link b, ← e, t) f
 
-pub no_size : (s : List ℕ) (link : ℕ) (b : List ℕ) → (length s ≡ 2048 → ⊥) → Refused 9 ≡ verdict s link b
-no_size s link b h = no_state s link b NoState (size_wrong s h) refl
+pub no_size : (s : List ℕ) (link : ℕ) (b : List ℕ) → (length s ≡ 2048 → ⊥) → Err refusal.NoState ≡ verdict s link b
+no_size s link b h = no_state s link b None (size_wrong s h) refl
 
 pub ruleset verdict_cases = (in_closed, in_refused, in_held, in_accepted, no_size, no_state, a_state)
 

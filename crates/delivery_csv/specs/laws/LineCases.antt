@@ -1,46 +1,15 @@
 -- The cases of the code that reads drill lines and writes their records.
-use Rattle.std.specs.Prelude.{ℕ, ◌+◌, ◌^◌, ◌≤◌, ◌<◌, Bool, true, false, cond, List, [], ◌∷◌, ◌++◌, ◌≡◌, length, get_or, drop}
+use Rattle.std.specs.Prelude.{ℕ, ◌+◌, ◌≤◌, ◌<◌, Bool, true, false, List, [], ◌∷◌, ◌++◌, ◌≡◌, length, Option, None}
 use Rattle.std.proofs.Math.Path.{refl}
-use Rattle.std.proofs.Common.{sym, ◌∙◌, arith, add-one, drop_of_length-le, drop-cons, Fits}
+use Rattle.std.proofs.Common.{arith}
 use Rattle.std.proofs.Math.ListN.{length-append}
-use Rattle.std.specs.Int.{w64}
 use borrow.Author.Tests.{lt-ltb, le-ltb, eq-eqb, ne_eqb}
 use Rattle.text.specs.Paste.{Wrote, ended, pasted}
 use Rattle.text.specs.laws.Paste.{wrote_both}
-use Rattle.delivery_csv.specs.Records.{special}
-use Rattle.delivery_csv.specs.laws.Room.{spent, room_answer}
-use Rattle.delivery_csv.specs.laws.LineReader.{field_ends, wraps_in, wraps_after, reading_line, wrong_line, parted_line, extended_line, advanced_line, line_ends, quote_if, end_mark, line_shown, line_untouched, line_end_text, scanned_line, line_scan_answer}
+use Rattle.delivery_csv.specs.laws.LineReader.{field_ends, wraps_in, wraps_after, reading_line, parted_line, extended_line, fed_line, quote_if, end_mark, line_shown, line_untouched, line_end_text, line_wraps}
 use Rattle.delivery_csv.specs.declared.LineReader.{LineReader}
-use Rattle.delivery_csv.specs.declared.LineScan.{LineScan}
-use Rattle.delivery_csv.specs.declared.Room.{Room}
-use Rattle.delivery_csv.specs.declared.Conversion.{Conversion}
-use Rattle.delivery_csv.specs.declared.Conversion.TheVariants.{Record}
-
-cond_no : {A : Type 0} (b : Bool) (x y : A) → b ≡ false → cond b x y ≡ y
-cond_no b x y e = rw e
 
 -- ---- looking ahead
-
-module _ (t : List ℕ) (k p : ℕ) (h : wraps_in (drop k t) ≡ wraps_in (drop p t)) where
-  module _ (l : k < length t) (e : Bool) (ee : e ≡ field_ends (get_or t k 0)) where
-    pub wraps_over : e ≡ true → false ≡ wraps_in (drop p t)
-    unfolding wraps_in
-    wraps_over i = rw (drop-cons t k 0 l, ← ee, i) at h
-
-    module _ (s : Bool) (es : s ≡ special (get_or t k 0)) where
-      pub wraps_special : e ≡ false → s ≡ true → true ≡ wraps_in (drop p t)
-      unfolding wraps_in
-      wraps_special i j = rw (drop-cons t k 0 l, ← ee, i, ← es, j) at h
-
-      pub wraps_next : e ≡ false → s ≡ false → wraps_in (drop (k + 1) t) ≡ wraps_in (drop p t)
-      unfolding wraps_in
-      wraps_next i j = rw (add-one k) (rw (drop-cons t k 0 l, ← ee, i, ← es, j) at h)
-
-  pub wraps_none : length t ≤ k → false ≡ wraps_in (drop p t)
-  unfolding wraps_in
-  wraps_none l = rw (drop_of_length-le t l) at h
-
-pub ruleset wraps_cases = (wraps_over, wraps_special, wraps_next, wraps_none)
 
 module _ (b : ℕ) (t : List ℕ) (e : Bool) (ee : e ≡ field_ends b) where
   pub after_field : (w : Bool) → e ≡ true → w ≡ wraps_in t → w ≡ wraps_after b t
@@ -57,49 +26,44 @@ pub ruleset after_cases = (after_field, after_other)
 
 module _ (r : LineReader) where
   module _ (w : Bool) where
-    pub parted_more : (s : LineReader) → r.fields + 1 < 16 → s ≡ reading_line (r.fields + 1) 0 w → s ≡ parted_line r w
+    pub parted_more : (s : Option LineReader) → r.fields + 1 < 16 → s ≡ reading_line (r.fields + 1) 0 w → s ≡ parted_line r w
     unfolding parted_line
     parted_more s h e = rw (lt-ltb (r.fields + 1) 16 h) e
 
-    pub parted_full : (s : LineReader) → 16 ≤ r.fields + 1 → s ≡ wrong_line → s ≡ parted_line r w
+    pub parted_full : 16 ≤ r.fields + 1 → None ≡ parted_line r w
     unfolding parted_line
-    parted_full s h e = rw (le-ltb (r.fields + 1) 16 h) e
+    parted_full h = rw (le-ltb (r.fields + 1) 16 h)
 
-  pub extended_more : (s : LineReader) → r.length < 64 → s ≡ reading_line r.fields (r.length + 1) r.wraps → s ≡ extended_line r
+  pub extended_more : (s : Option LineReader) → r.length < 64 → s ≡ reading_line r.fields (r.length + 1) r.wraps → s ≡ extended_line r
   unfolding extended_line
   extended_more s h e = rw (lt-ltb r.length 64 h) e
 
-  pub extended_full : (s : LineReader) → 64 ≤ r.length → s ≡ wrong_line → s ≡ extended_line r
+  pub extended_full : 64 ≤ r.length → None ≡ extended_line r
   unfolding extended_line
-  extended_full s h e = rw (le-ltb r.length 64 h) e
+  extended_full h = rw (le-ltb r.length 64 h)
 
 pub ruleset parted_cases = (parted_more, parted_full)
 
 pub ruleset extended_cases = (extended_more, extended_full)
 
-module _ (r : LineReader) (b : ℕ) (w : Bool) where
-  pub advanced_bad : r.bad ≡ true → r ≡ advanced_line r b w
-  unfolding advanced_line
-  advanced_bad e = rw e
+module _ (r : LineReader) (b : ℕ) (w : Bool) (s : Option LineReader) where
+  pub fed_end : b ≡ 10 → s ≡ reading_line 0 0 w → s ≡ fed_line r b w
+  unfolding fed_line
+  fed_end i h = rw (eq-eqb b 10 i) h
 
-  module _ (s : LineReader) (e : r.bad ≡ false) where
-    pub advanced_end : b ≡ 10 → s ≡ reading_line 0 0 w → s ≡ advanced_line r b w
-    unfolding advanced_line
-    advanced_end i h = rw (e, eq-eqb b 10 i) h
+  pub fed_tab : (b ≡ 10 → ⊥) → b ≡ 9 → s ≡ parted_line r w → s ≡ fed_line r b w
+  unfolding fed_line
+  fed_tab i j h = rw (ne_eqb b 10 i, eq-eqb b 9 j) h
 
-    pub advanced_tab : (b ≡ 10 → ⊥) → b ≡ 9 → s ≡ parted_line r w → s ≡ advanced_line r b w
-    unfolding advanced_line parted_line
-    advanced_tab i j h = rw (e, ne_eqb b 10 i, eq-eqb b 9 j) h
+  pub fed_cr : (b ≡ 10 → ⊥) → (b ≡ 9 → ⊥) → b ≡ 13 → s ≡ None → s ≡ fed_line r b w
+  unfolding fed_line
+  fed_cr i j k h = rw (ne_eqb b 10 i, ne_eqb b 9 j, eq-eqb b 13 k) h
 
-    pub advanced_cr : (b ≡ 10 → ⊥) → (b ≡ 9 → ⊥) → b ≡ 13 → s ≡ wrong_line → s ≡ advanced_line r b w
-    unfolding advanced_line
-    advanced_cr i j k h = rw (e, ne_eqb b 10 i, ne_eqb b 9 j, eq-eqb b 13 k) h
+  pub fed_other : (b ≡ 10 → ⊥) → (b ≡ 9 → ⊥) → (b ≡ 13 → ⊥) → s ≡ extended_line r → s ≡ fed_line r b w
+  unfolding fed_line
+  fed_other i j k h = rw (ne_eqb b 10 i, ne_eqb b 9 j, ne_eqb b 13 k) h
 
-    pub advanced_other : (b ≡ 10 → ⊥) → (b ≡ 9 → ⊥) → (b ≡ 13 → ⊥) → s ≡ extended_line r → s ≡ advanced_line r b w
-    unfolding advanced_line extended_line
-    advanced_other i j k h = rw (e, ne_eqb b 10 i, ne_eqb b 9 j, ne_eqb b 13 k) h
-
-pub ruleset advanced_cases = (advanced_bad, advanced_end, advanced_tab, advanced_cr, advanced_other)
+pub ruleset fed_cases = (fed_end, fed_tab, fed_cr, fed_other)
 
 -- ---- how many bytes are written
 
@@ -141,46 +105,16 @@ module _ (w : Bool) (b : ℕ) (n : Bool) (e : Bool) (ee : e ≡ field_ends b) wh
 
 pub ruleset shown_lengths = (shown_end, shown_quote, shown_other)
 
-module _ (r : LineReader) (e : Bool) (ee : e ≡ line_untouched r) where
+module _ (r : Option LineReader) (e : Bool) (ee : e ≡ line_untouched r) where
   pub end_none : e ≡ true → 0 ≡ length (line_end_text r)
   unfolding line_end_text
   end_none i = rw (← ee, i)
 
-  pub end_some : (x : ℕ) → e ≡ false → x ≡ length (quote_if r.wraps) → x + 2 ≡ length (line_end_text r)
+  pub end_some : (x : ℕ) (v : Bool) → e ≡ false → v ≡ line_wraps r → x ≡ length (quote_if v) → x + 2 ≡ length (line_end_text r)
   unfolding line_end_text
-  end_some x i p = rw (← ee, i, length-append (quote_if r.wraps) (13 ∷ 10 ∷ []), ← p)
+  end_some x v i q p = rw (← ee, i, length-append (quote_if (line_wraps r)) (13 ∷ 10 ∷ []), ← q, ← p)
 
 pub ruleset end_lengths = (end_none, end_some)
-
--- ---- judging
-
-module _ (x : LineScan) (b : ℕ) (w e : Bool) (ee : e ≡ line_ends x.reader b) (n : ℕ) (en : n ≡ length (line_shown x.reader.wraps b w)) where
-  module _ (m : Room) (em : m ≡ spent x.room n) (r : LineReader) (er : r ≡ advanced_line x.reader b w) where
-    pub scanned_end : e ≡ true → record { reader = r; count = x.count + 1; room = m } ≡ scanned_line x b w
-    unfolding scanned_line
-    scanned_end i = rw (← ee, i, ← en, ← em, ← er)
-
-    pub scanned_inside : e ≡ false → record { reader = r; count = x.count; room = m } ≡ scanned_line x b w
-    unfolding scanned_line
-    scanned_inside i = rw (← ee, i, ← en, ← em, ← er)
-
-pub ruleset scanned_cases = (scanned_end, scanned_inside)
-
--- the number of the line fits where it is wanted
-pub scan_number : (x : LineScan) → (x.reader.bad ≡ true → x.count + 1 < 2 ^ 64) → x.reader.bad ≡ true → Fits w64 (x.count + 1)
-scan_number x h e = omega (arith, h e)
-
-module _ (x : LineScan) (all : ℕ) where
-  pub scan_wrong : x.reader.bad ≡ true → Record (x.count + 1) ≡ line_scan_answer all x
-  unfolding line_scan_answer
-  scan_wrong e = rw e
-
-  pub scan_taken : (y : Room) (n : ℕ) (a : Conversion) → x.reader.bad ≡ false → n ≡ length (line_end_text x.reader) → y ≡ spent x.room n →
-      a ≡ room_answer all y → a ≡ line_scan_answer all x
-  unfolding line_scan_answer
-  scan_taken y n a e p q r = r ∙ rw (q, p) (sym (cond_no x.reader.bad _ _ e))
-
-pub ruleset scan_cases = (scan_wrong, scan_taken)
 
 -- ---- writing
 
@@ -206,14 +140,14 @@ module _ (s : List ℕ) (a : ℕ) where
   unfolding quote_if
   wrote_no_quote w e = rw e nothing_wrote
 
-  pub wrote_no_line : (r : LineReader) (e : Bool) → e ≡ line_untouched r → e ≡ true → Wrote (line_end_text r) s a a s
+  pub wrote_no_line : (r : Option LineReader) (e : Bool) → e ≡ line_untouched r → e ≡ true → Wrote (line_end_text r) s a a s
   unfolding line_end_text
   wrote_no_line r e ee i = rw (← ee, i) nothing_wrote
 
-  pub wrote_end : (s' z : List ℕ) (p q : ℕ) (r : LineReader) (e : Bool) → e ≡ line_untouched r → e ≡ false →
-      Wrote (quote_if r.wraps) s a p s' → Wrote (13 ∷ 10 ∷ []) s' p q z → Wrote (line_end_text r) s a q z
+  pub wrote_end : (s' z : List ℕ) (p q : ℕ) (r : Option LineReader) (e v : Bool) → e ≡ line_untouched r → e ≡ false → v ≡ line_wraps r →
+      Wrote (quote_if v) s a p s' → Wrote (13 ∷ 10 ∷ []) s' p q z → Wrote (line_end_text r) s a q z
   unfolding line_end_text
-  wrote_end s' z p q r e ee i h l = rw (← ee, i) (wrote_both (quote_if r.wraps) (13 ∷ 10 ∷ []) s s' z a p q h l)
+  wrote_end s' z p q r e v ee i d h l = rw (← ee, i, ← d) (wrote_both (quote_if v) (13 ∷ 10 ∷ []) s s' z a p q h l)
 
   pub wrote_two : (s' z : List ℕ) (p q : ℕ) (b c : ℕ) → Wrote (b ∷ []) s a p s' → Wrote (c ∷ []) s' p q z → Wrote (b ∷ c ∷ []) s a q z
   wrote_two s' z p q b c h l = wrote_both (b ∷ []) (c ∷ []) s s' z a p q h l

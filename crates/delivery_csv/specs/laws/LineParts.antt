@@ -1,7 +1,9 @@
 -- A text cut at a byte into its first piece and the others, and the texts of the fields.
-use Rattle.std.specs.Prelude.{ℕ, Bool, true, false, cond, ◌&&◌, ◌||◌, List, [], ◌∷◌, ◌++◌, ◌≡◌, refl, eqb}
+use Rattle.std.specs.Prelude.{ℕ, Bool, true, false, cond, not, ◌&&◌, ◌||◌, List, [], ◌∷◌, ◌++◌, ◌≡◌, refl, eqb}
 use Rattle.std.proofs.Common.{append-nil, append_assoc, sym, ap, ◌∙◌, ne_eqb}
 use Rattle.std.proofs.Math.Decide.{ℕ_discrete}
+use Rattle.std.specs.List.{list_any, take_while}
+use Rattle.std.proofs.lemmas.List.Sums.{take_while-cons}
 use Rattle.text.specs.Fields.{TAB, LF, in_front}
 use Rattle.delivery_csv.specs.Fields.{CR, QUOTE, COMMA, cut, joined}
 use Rattle.delivery_csv.specs.Records.{special, needs_quotes, doubled, field_text, field_texts}
@@ -30,12 +32,22 @@ cut_parts s (b ∷ t) = rw (cut_parts s t) (go (eqb b s))
     go true = refl
     go false = refl
 
+-- looking ahead goes byte by byte
+wraps_next : (b : ℕ) (t : List ℕ) → wraps_in (b ∷ t) ≡ cond (field_ends b) false (special b || wraps_in t)
+unfolding wraps_in
+wraps_next b t = ap (list_any special) (take_while-cons (λ c. not (field_ends c)) b t) ∙ go (field_ends b)
+  where
+    go : (e : Bool) → list_any special (cond (not e) (b ∷ take_while (λ c. not (field_ends c)) t) []) ≡ cond e false (special b || wraps_in t)
+    go true = refl
+    go false = refl
+
 -- looking ahead from the start of a field finds whether it needs quotes
 pub wraps_first : (t : List ℕ) → wraps_in t ≡ needs_quotes (first TAB (first LF t))
 unfolding wraps_in needs_quotes first field_ends
 wraps_first [] = refl
 wraps_first (b ∷ t) =
-    elim (ℕ_discrete b LF) [
+    wraps_next b t
+    ∙ elim (ℕ_discrete b LF) [
       | yes e ↦ rw e
       | no e ↦
           elim (ℕ_discrete b TAB) [

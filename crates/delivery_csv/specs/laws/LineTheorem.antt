@@ -1,6 +1,6 @@
 -- Reading drill lines byte by byte comes to the records of the definition.
 use Prim.Native.Nat.{ℕ, suc, ◌+◌, ◌≤◌, ◌<◌}
-use Rattle.std.specs.Prelude.{Bool, ◌&&◌, leb}
+use Rattle.std.specs.Prelude.{Bool, ◌&&◌, leb, Result, None}
 use Rattle.std.proofs.Math.Bool.{true, false, cond, and-false}
 use mathlib.Core.List.{List, [], ◌∷◌, ◌++◌, append-nil, append_assoc}
 use Rattle.std.proofs.Math.Path.{◌≡◌, refl, sym, ap}
@@ -15,9 +15,9 @@ use Rattle.delivery_csv.specs.Fields.{CR, COMMA, clean, field_taken, fields_take
 use Rattle.delivery_csv.specs.Records.{needs_quotes, doubled, field_text, records_text}
 use Rattle.delivery_csv.specs.Lines.{whole_line, lines_in, line_fields, line_right, lines_read}
 use Rattle.delivery_csv.specs.Converting.{text_of, csv_of_drill, conversion}
-use Rattle.delivery_csv.specs.declared.Conversion.{Conversion}
+use Rattle.delivery_csv.specs.declared.ConversionError.{ConversionError}
 use Rattle.delivery_csv.specs.laws.Outcomes.{with_text, text_more, text_cond}
-use Rattle.delivery_csv.specs.laws.LineReader.{field_ends, wraps_in, wraps_after, reading_line, wrong_line, parted_line, extended_line, advanced_line, line_ends, quote_if, end_mark, line_shown, line_untouched, line_end_text, run_lines, judged_lines, written_lines}
+use Rattle.delivery_csv.specs.laws.LineReader.{field_ends, wraps_in, wraps_after, reading_line, parted_line, extended_line, fed_line, advanced_line, line_ends, quote_if, end_mark, line_shown, line_untouched, line_end_text, line_wraps, run_lines, judged_lines, written_lines}
 use Rattle.delivery_csv.specs.laws.LineScan.{outcome_lines, judged_lines_lem, written_text_lem}
 use Rattle.delivery_csv.specs.laws.LineParts.{first, others, cut_parts, wraps_first, field_text_lem, end_text, record_text_lem}
 
@@ -98,8 +98,8 @@ meant_start w n (b ∷ g) (p ∷ ps) e = line_whole w n (b ∷ g) (pieces whole_
 -- ---- byte by byte
 
 -- a line that is not taken stays so
-runs_wrong : (t : List ℕ) (n : ℕ) → run_lines wrong_line n t ≡ bad n
-unfolding run_lines advanced_line line_ends wrong_line with_text
+runs_wrong : (t : List ℕ) (n : ℕ) → run_lines None n t ≡ bad n
+unfolding run_lines advanced_line line_ends with_text line_wraps fed_line
 runs_wrong [] n = refl
 runs_wrong (b ∷ t) n = rw (runs_wrong t n)
 
@@ -185,7 +185,7 @@ module _ (f l : ℕ) (w : Bool) (n : ℕ) (fewer : f < 16) (shorter : l ≤ 64) 
 
   -- the text is over
   means_end : Means f l w n []
-  unfolding Means run_lines reading_line line_end_text line_untouched first others meant no_line meant_fields line_text end_text doubled records_of pieces read_all text_of records_text with_text
+  unfolding Means run_lines reading_line line_end_text line_untouched first others meant no_line meant_fields line_text end_text doubled records_of pieces read_all text_of records_text with_text line_wraps
   means_end = rw taken_end (go (eqb f 0 && eqb l 0))
     where
       go : (c : Bool) → ◌≡◌ {A = Outcome (List ℕ)} (good (cond c [] (quote_if w ++ (CR ∷ LF ∷ [])))) (cond c (good []) (good ((quote_if w ++ (CR ∷ LF ∷ [])) ++ [])))
@@ -195,7 +195,7 @@ module _ (f l : ℕ) (w : Bool) (n : ℕ) (fewer : f < 16) (shorter : l ≤ 64) 
   module _ (t : List ℕ) where
     -- the line is over, and the next begins
     means_lf : Means 0 0 (wraps_in t) (n + 1) t → Means f l w n (10 ∷ t)
-    unfolding Means run_lines reading_line advanced_line line_ends wraps_after field_ends line_shown end_mark first others meant no_line meant_fields line_text end_text doubled
+    unfolding Means run_lines reading_line advanced_line line_ends wraps_after field_ends line_shown end_mark first others meant no_line meant_fields line_text end_text doubled line_wraps fed_line
     means_lf ih =
         let m : Outcome (List ℕ) = meant 0 0 (wraps_in t) (n + 1) (first LF t) (others LF t) in
         rw (taken_end, ih)
@@ -205,11 +205,11 @@ module _ (f l : ℕ) (w : Bool) (n : ℕ) (fewer : f < 16) (shorter : l ≤ 64) 
 
     -- the field is over: one too many follows, or another
     means_wrong_tab : 16 ≤ f + 1 → Means f l w n (9 ∷ t)
-    unfolding Means run_lines reading_line advanced_line parted_line line_ends first others meant no_line meant_fields with_text
+    unfolding Means run_lines reading_line advanced_line parted_line line_ends first others meant no_line meant_fields with_text line_wraps fed_line
     means_wrong_tab h = rw (le-ltb (f + 1) 16 h, runs_wrong t n, taken_many (first TAB (first LF t)) (others TAB (first LF t)) h)
 
     means_tab : (f + 1 < 16 → Means (f + 1) 0 (wraps_in t) n t) → Means f l w n (9 ∷ t)
-    unfolding Means run_lines reading_line advanced_line parted_line line_ends wraps_after field_ends line_shown end_mark first others meant no_line
+    unfolding Means run_lines reading_line advanced_line parted_line line_ends wraps_after field_ends line_shown end_mark first others meant no_line line_wraps fed_line
     means_tab ih =
         elim (dec_lt (f + 1) 16) [
           | yes h ↦
@@ -220,13 +220,13 @@ module _ (f l : ℕ) (w : Bool) (n : ℕ) (fewer : f < 16) (shorter : l ≤ 64) 
 
     -- no field has a CR
     means_cr : Means f l w n (13 ∷ t)
-    unfolding Means run_lines reading_line advanced_line line_ends first others meant no_line meant_fields with_text
+    unfolding Means run_lines reading_line advanced_line line_ends first others meant no_line meant_fields with_text line_wraps fed_line
     means_cr = rw (runs_wrong t n, taken_cr (first TAB (first LF t)) (others TAB (first LF t)))
 
     module _ (b : ℕ) (i : b ≡ 10 → ⊥) (j : b ≡ 9 → ⊥) (k : b ≡ 13 → ⊥) where
       -- one more byte of the field: one too many, or another
       means_long : 64 ≤ l → Means f l w n (b ∷ t)
-      unfolding Means run_lines reading_line advanced_line extended_line line_ends first others meant no_line meant_fields with_text
+      unfolding Means run_lines reading_line advanced_line extended_line line_ends first others meant no_line meant_fields with_text line_wraps fed_line
       means_long h =
           rw (
             ne_eqb b 10 i,
@@ -238,7 +238,7 @@ module _ (f l : ℕ) (w : Bool) (n : ℕ) (fewer : f < 16) (shorter : l ≤ 64) 
           )
 
       means_other : (l < 64 → Means f (l + 1) w n t) → Means f l w n (b ∷ t)
-      unfolding Means run_lines reading_line advanced_line extended_line line_ends wraps_after field_ends line_shown first others meant no_line
+      unfolding Means run_lines reading_line advanced_line extended_line line_ends wraps_after field_ends line_shown first others meant no_line line_wraps fed_line
       means_other ih =
           elim (dec_lt l 64) [
             | yes h ↦
@@ -270,7 +270,7 @@ lines_theorem t =
     rw (cut_parts LF t, means t 0 0 (wraps_in t) 1 (omega arith) (omega arith))
     (meant_start (wraps_in t) 1 (first LF t) (others LF t) (wraps_first t))
 
-pub lines_judge : (t : List ℕ) (all : ℕ) (x : Conversion) → x ≡ judged_lines all t → x ≡ conversion (csv_of_drill t) all
+pub lines_judge : (t : List ℕ) (all : ℕ) (x : Result ℕ ConversionError) → x ≡ judged_lines all t → x ≡ conversion (csv_of_drill t) all
 lines_judge t all x e = e ∙ rw (← lines_theorem t) (judged_lines_lem all t)
 
 pub lines_emitted : (t u : List ℕ) → csv_of_drill t ≡ good u → u ≡ written_lines t

@@ -1,6 +1,7 @@
 -- Outcomes: texts in front of them, and the numbers of records that follow.
 use Rattle.std.specs.Prelude.{ℕ, ◌+◌, Bool, true, false, cond, List, ◌++◌, ◌≡◌, refl}
 use Rattle.std.proofs.Common.{append_assoc, sym, ap, arith}
+use mir.Val.{bool_byte}
 use Rattle.delivery_csv.specs.Fields.{Outcome, bad, good}
 
 pub not_good : {A P : Type 0} (n : ℕ) (x : A) → ◌≡◌ {A = Outcome A} (bad n) (good x) → P
@@ -31,3 +32,8 @@ text_after s v u (good w) h e = let k : w ≡ v = h w refl in cc
 pub next_number_lem : (ended : Bool) (n : ℕ) → cond ended (n + 1) n + 1 ≡ cond ended (n + 1 + 1) (n + 1)
 next_number_lem true n = refl
 next_number_lem false n = refl
+
+-- a count of 64 bits that goes on where a record or line ends
+pub counting : (e : Bool) (n : ℕ) → n + bool_byte e ≡ cond e (n + 1) n
+counting true n = refl
+counting false n = omega arith

@@ -1,5 +1,5 @@
 -- What a conversion of a part of an input says of its output.
-use Rattle.std.specs.Prelude.{ℕ, suc, ◌+◌, ◌-◌, ◌≤◌, Bool, cond, List, ◌≡◌, ltb, length, take}
+use Rattle.std.specs.Prelude.{ℕ, suc, ◌+◌, ◌-◌, ◌≤◌, Bool, cond, List, ◌≡◌, ltb, length, take, Ok, Err}
 use Rattle.std.proofs.Math.Bool.{true, false}
 use Rattle.std.proofs.Math.Path.{refl, ap}
 use Rattle.std.proofs.Common.{◌∙◌, arith}
@@ -8,22 +8,17 @@ use Rattle.delivery_csv.specs.Records.{turned, without_cr, records_in, record_ri
 use Rattle.delivery_csv.specs.Lines.{unturned, whole_line, lines_in, line_right, line_fields, lines_read, lines_text}
 use Rattle.delivery_csv.specs.Converting.{text_of, drill_of_csv, csv_of_drill, conversion}
 use Rattle.delivery_csv.specs.Parts.{turned_if, ended_part}
-use Rattle.delivery_csv.specs.Stream.{Output, output_from, output_of}
+use Rattle.delivery_csv.specs.Stream.{Output, output_from, output_of, converted}
 use Rattle.delivery_csv.specs.laws.Blocks.{text_stop}
 use Rattle.delivery_csv.specs.laws.Parts.{part_counted}
 use Rattle.delivery_csv.specs.laws.Stream.{output_count, streamed_as_whole}
 use Rattle.delivery_csv.specs.laws.Before.{part_many, part_read}
-use Rattle.delivery_csv.specs.declared.Conversion.TheVariants as conversions
-use Rattle.delivery_csv.specs.declared.stream.Progress.{Progress}
-use Rattle.delivery_csv.specs.declared.stream.Progress.TheVariants.{Short, Refused}
-
--- records where quotes count, else lines
-unfoldable pub converted : (quotes : Bool) → List ℕ → Outcome (List ℕ)
-converted true t = drill_of_csv t
-converted false t = csv_of_drill t
+use Rattle.delivery_csv.specs.declared.ConversionError.TheVariants as errors
+use Rattle.delivery_csv.specs.declared.stream.Stop.{Stop}
+use Rattle.delivery_csv.specs.declared.stream.Stop.TheVariants.{Short, Refused}
 
 -- the answer where what stands before a refused record or line is converted
-unfoldable pub refused_progress : Output → (room : ℕ) → Progress
+unfoldable pub refused_progress : Output → (room : ℕ) → Stop
 refused_progress x room = cond (ltb room (length x.text)) Short (Refused (length x.text) x.count)
 
 -- ---- what a conversion says of its text
@@ -83,12 +78,12 @@ module _ (quotes : Bool) (t : List ℕ) (n : ℕ) (e : converted quotes t ≡ ba
 
 -- ---- the answers of a conversion
 
-pub is_bad_lem : (o : Outcome (List ℕ)) (room n : ℕ) → conversions.Record n ≡ conversion o room → o ≡ bad n
+pub is_bad_lem : (o : Outcome (List ℕ)) (room n : ℕ) → Err (errors.Record n) ≡ conversion o room → o ≡ bad n
 unfolding conversion
 is_bad_lem (bad m) room n e = cc
 is_bad_lem (good u) room n e = go (ltb room (length u)) e
   where
-    go : (x : Bool) → conversions.Record n ≡ cond x conversions.Short (conversions.Written (length u)) → good u ≡ bad n
+    go : (x : Bool) → Err (errors.Record n) ≡ cond x (Err errors.Short) (Ok (length u)) → good u ≡ bad n
     go true q = absurd (let z : ◌≡◌ {A = ℕ} 0 1 = cc in omega (arith, z))
     go false q = absurd (let z : ◌≡◌ {A = ℕ} 0 1 = cc in omega (arith, z))
 
@@ -98,12 +93,12 @@ pub record Fits (o : Outcome (List ℕ)) (room w : ℕ) : Type 0 where
   pub size : length text ≡ w
   pub fits : ltb room (length text) ≡ false
 
-pub is_good : (o : Outcome (List ℕ)) (room w : ℕ) → conversions.Written w ≡ conversion o room → Fits o room w
+pub is_good : (o : Outcome (List ℕ)) (room w : ℕ) → Ok w ≡ conversion o room → Fits o room w
 unfolding conversion
 is_good (bad m) room w e = absurd (let z : ◌≡◌ {A = ℕ} 0 1 = cc in omega (arith, z))
 is_good (good u) room w e = go (ltb room (length u)) refl e
   where
-    go : (x : Bool) → ltb room (length u) ≡ x → conversions.Written w ≡ cond x conversions.Short (conversions.Written (length u)) → Fits (good u) room w
+    go : (x : Bool) → ltb room (length u) ≡ x → Ok w ≡ cond x (Err errors.Short) (Ok (length u)) → Fits (good u) room w
     go true q r = absurd (let z : ◌≡◌ {A = ℕ} 0 1 = cc in omega (arith, z))
     go false q r = record { text = u; is = refl; size = cc; fits = q }
 
@@ -112,11 +107,11 @@ pub record Over-full (o : Outcome (List ℕ)) (room : ℕ) : Type 0 where
   pub is : o ≡ good text
   pub over : ltb room (length text) ≡ true
 
-pub is_short : (o : Outcome (List ℕ)) (room : ℕ) → conversions.Short ≡ conversion o room → Over-full o room
+pub is_short : (o : Outcome (List ℕ)) (room : ℕ) → Err errors.Short ≡ conversion o room → Over-full o room
 unfolding conversion
 is_short (bad m) room e = absurd (let z : ◌≡◌ {A = ℕ} 0 1 = cc in omega (arith, z))
 is_short (good u) room e = go (ltb room (length u)) refl e
   where
-    go : (x : Bool) → ltb room (length u) ≡ x → conversions.Short ≡ cond x conversions.Short (conversions.Written (length u)) → Over-full (good u) room
+    go : (x : Bool) → ltb room (length u) ≡ x → Err errors.Short ≡ cond x (Err errors.Short) (Ok (length u)) → Over-full (good u) room
     go true q r = record { text = u; is = refl; over = q }
     go false q r = absurd (let z : ◌≡◌ {A = ℕ} 0 1 = cc in omega (arith, z))

@@ -1,5 +1,5 @@
 -- What a byte leads to that does not end the record.
-use Rattle.std.specs.Prelude.{ℕ, ◌+◌, Bool, cond, ◌&&◌, ◌||◌, ◌≡◌, eqb, ltb}
+use Rattle.std.specs.Prelude.{ℕ, ◌+◌, Bool, cond, ◌&&◌, ◌||◌, ◌≡◌, eqb, ltb, Option, None}
 use Rattle.std.proofs.Math.Bool.{true, false}
 use Rattle.std.proofs.Math.Path.{refl}
 use Rattle.std.proofs.Common.{arith, ne_eqb}
@@ -7,19 +7,19 @@ use Rattle.text.specs.Fields.{LF}
 use Rattle.delivery_csv.specs.Fields.{CR, max_fields, max_field_bytes}
 use Rattle.delivery_csv.specs.Records.{turned}
 use Rattle.delivery_csv.specs.laws.Bytes.{Other, by_kind_lem}
-use Rattle.delivery_csv.specs.laws.RecordReader.{reading, wrong, extended, parted, plain_fed, quoted_fed, closing_fed, fed_in, fed, within, ends, untouched_in, broken_in}
+use Rattle.delivery_csv.specs.laws.RecordReader.{reading, extended, parted, plain_fed, quoted_fed, closing_fed, fed_in, fed, within, ends, untouched_in, broken_in}
 use Rattle.delivery_csv.specs.laws.RecordTheorem.{step}
 use Rattle.delivery_csv.specs.declared.Phase.{Phase}
 use Rattle.delivery_csv.specs.declared.Phase.TheVariants.{Start, Plain, Quoted, Closing, Return}
 use Rattle.delivery_csv.specs.declared.RecordReader.{RecordReader}
 
 -- a record that is not taken, or one that is touched; `inside` says whether the next byte stands within quotes, `cr` whether the last was a CR
-pub data Next (inside cr : Bool) : RecordReader → Type 0 where
-  refused : Next inside cr wrong
+pub data Next (inside cr : Bool) : Option RecordReader → Type 0 where
+  refused : Next inside cr None
   touched : (p : Phase) (f l : ℕ) → within p ≡ inside → untouched_in p f ≡ false → broken_in p ≡ (within p || cr) → Next inside cr (reading p f l)
 
 next_if : (inside cr t : Bool) (p : Phase) (f l : ℕ) → within p ≡ inside → untouched_in p f ≡ false → broken_in p ≡ (within p || cr) →
-    Next inside cr (cond t (reading p f l) wrong)
+    Next inside cr (cond t (reading p f l) None)
 next_if inside cr true p f l w u c = touched p f l w u c
 next_if inside cr false p f l w u c = refused
 
@@ -27,7 +27,7 @@ unfoldable pub Leads : (p : Phase) (f l b : ℕ) → Type 0
 Leads p f l b = Next (turned (within p) b) (eqb b CR) (step (reading p f l) b)
 
 module _ (f l : ℕ) where
-  next_field : Next false false (cond (ltb (f + 1) max_fields) (reading Start (f + 1) 0) wrong)
+  next_field : Next false false (cond (ltb (f + 1) max_fields) (reading Start (f + 1) 0) None)
   unfolding within untouched_in broken_in
   next_field = next_if false false (ltb (f + 1) max_fields) Start (f + 1) 0 refl (ne_eqb (f + 1) 0 (λ z. omega arith)) refl
 
@@ -69,7 +69,7 @@ module _ (f l : ℕ) where
   unfolding Leads step reading ends fed fed_in within
   return_leads b = go (eqb b LF)
     where
-      go : (t : Bool) → Next (turned false b) (eqb b CR) (cond (t && true) wrong wrong)
+      go : (t : Bool) → Next (turned false b) (eqb b CR) (cond (t && true) None None)
       go true = refused
       go false = refused
 

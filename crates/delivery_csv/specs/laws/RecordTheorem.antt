@@ -1,5 +1,5 @@
 -- A record read byte by byte is what the definitions say of it.
-use Rattle.std.specs.Prelude.{ℕ, ◌+◌, Bool, ◌&&◌, not, ◌≡◌, eqb, ltb}
+use Rattle.std.specs.Prelude.{ℕ, ◌+◌, Bool, ◌&&◌, not, ◌≡◌, eqb, ltb, Option, None}
 use Rattle.std.proofs.Math.Bool.{true, false, cond}
 use mathlib.Core.List.{List, [], ◌∷◌, ◌++◌, append_assoc}
 use Rattle.std.proofs.Math.Path.{refl, sym, ap}
@@ -9,23 +9,23 @@ use Rattle.delivery_csv.specs.Fields.{CR, QUOTE, COMMA, max_fields, max_field_by
 use Rattle.delivery_csv.specs.Records.{turned, all_right, all_values, field_value, raw_fields, record_right, record_fields}
 use Rattle.delivery_csv.specs.laws.Bytes.{Other, by_kind_lem}
 use Rattle.delivery_csv.specs.laws.Outcomes.{with_text, text_more}
-use Rattle.delivery_csv.specs.laws.RecordReader.{reading, start, wrong, extended, parted, plain_fed, quoted_fed, closing_fed, fed_in, fed, within, ends, plain_shown, shown_in, shown_text, broken_in, broken}
+use Rattle.delivery_csv.specs.laws.RecordReader.{reading, start, extended, parted, plain_fed, quoted_fed, closing_fed, fed_in, fed, within, ends, plain_shown, shown_in, shown_text, broken_in, broken, shown}
 use Rattle.delivery_csv.specs.laws.FieldTheorem.{right_from, text_from, rest_right, start_text, all_right_lem}
 use Rattle.delivery_csv.specs.declared.Phase.{Phase}
 use Rattle.delivery_csv.specs.declared.Phase.TheVariants.{Start, Plain, Quoted, Closing, Return}
 use Rattle.delivery_csv.specs.declared.RecordReader.{RecordReader}
 
 -- one more byte of a record that does not end here
-unfoldable pub step : RecordReader → ℕ → RecordReader
-step r b = cond (ends r b) wrong (fed r b)
+unfoldable pub step : Option RecordReader → ℕ → Option RecordReader
+step r b = cond (ends r b) None (fed r b)
 
 -- what the rest of a record comes to, where `end` says so of the reader behind it
-unfoldable pub record_run : (RecordReader → Outcome (List ℕ)) → RecordReader → List ℕ → Outcome (List ℕ)
+unfoldable pub record_run : (Option RecordReader → Outcome (List ℕ)) → Option RecordReader → List ℕ → Outcome (List ℕ)
 record_run end r [] = end r
-record_run end r (b ∷ g) = with_text (shown_text (shown_in r.phase b)) (record_run end (step r b) g)
+record_run end r (b ∷ g) = with_text (shown_text (shown r b)) (record_run end (step r b) g)
 
 -- the record ends, its line too, and o follows
-unfoldable pub full_end : ℕ → Outcome (List ℕ) → RecordReader → Outcome (List ℕ)
+unfoldable pub full_end : ℕ → Outcome (List ℕ) → Option RecordReader → Outcome (List ℕ)
 full_end n o r = cond (broken r) (bad n) (with_text (LF ∷ []) o)
 
 -- a line with the text u where it is taken, and o after it
@@ -37,8 +37,8 @@ unfoldable meant : Phase → (f l n : ℕ) → Outcome (List ℕ) → List (List
 meant p f l n o [] = bad n
 meant p f l n o (h ∷ hs) = line n o (right_from h p l && rest_right (f + 1) hs) (joined TAB (text_from h p ∷ all_values hs))
 
-pub wrong_run : (g : List ℕ) (end : RecordReader → Outcome (List ℕ)) (n : ℕ) → end wrong ≡ bad n → record_run end wrong g ≡ bad n
-unfolding record_run step ends fed wrong with_text
+pub wrong_run : (g : List ℕ) (end : Option RecordReader → Outcome (List ℕ)) (n : ℕ) → end None ≡ bad n → record_run end None g ≡ bad n
+unfolding record_run step ends fed with_text shown
 wrong_run [] end n e = e
 wrong_run (b ∷ g) end n e = rw (wrong_run g end n e)
 
@@ -139,23 +139,23 @@ Means : (n : ℕ) (o : Outcome (List ℕ)) (g : List ℕ) → Phase → (f l : �
 Means n o g p f l = record_run (full_end n o) (reading p f l) g ≡ meant p f l n o (cut turned COMMA (within p) g)
 
 module _ (n : ℕ) (o : Outcome (List ℕ)) (g : List ℕ) (ih : (p : Phase) (f l : ℕ) → Means n o g p f l) where
-  refused : record_run (full_end n o) wrong g ≡ bad n
-  unfolding full_end broken wrong
+  refused : record_run (full_end n o) None g ≡ bad n
+  unfolding full_end broken
   refused = wrong_run g (full_end n o) n refl
 
   -- the ways to go on: within the field, to the next one, or not at all
   on_byte : (p q : Phase) (f l m b : ℕ) (u : List ℕ) (t : Bool) → ((h : List ℕ) → right_from (b ∷ h) p l ≡ (t && right_from h q m)) →
       ((h : List ℕ) → text_from (b ∷ h) p ≡ u ++ text_from h q) →
-      with_text u (record_run (full_end n o) (cond t (reading q f m) wrong) g) ≡ meant p f l n o (in_front b (cut turned COMMA (within q) g))
+      with_text u (record_run (full_end n o) (cond t (reading q f m) None) g) ≡ meant p f l n o (in_front b (cut turned COMMA (within q) g))
   unfolding Means
   on_byte p q f l m b u t r x = ap (λ (v : Outcome (List ℕ)). with_text u v) (go t) ∙ meant_byte f n o p q l m b u t r x (cut turned COMMA (within q) g)
     where
-      go : (s : Bool) → record_run (full_end n o) (cond s (reading q f m) wrong) g ≡ cond s (meant q f m n o (cut turned COMMA (within q) g)) (bad n)
+      go : (s : Bool) → record_run (full_end n o) (cond s (reading q f m) None) g ≡ cond s (meant q f m n o (cut turned COMMA (within q) g)) (bad n)
       go true = ih q f m
       go false = refused
 
   on_wrong : (p : Phase) (f l b : ℕ) (u : List ℕ) (inside : Bool) → ((h : List ℕ) → right_from (b ∷ h) p l ≡ false) →
-      with_text u (record_run (full_end n o) wrong g) ≡ meant p f l n o (in_front b (cut turned COMMA inside g))
+      with_text u (record_run (full_end n o) None g) ≡ meant p f l n o (in_front b (cut turned COMMA inside g))
   unfolding with_text
   on_wrong p f l b u inside r = rw refused (sym (meant_wrong f n o p l b r (cut turned COMMA inside g)))
 
@@ -167,15 +167,15 @@ module _ (n : ℕ) (o : Outcome (List ℕ)) (g : List ℕ) (ih : (p : Phase) (f 
       ∙ sym (meant_wrong f n o p l b r (cut turned COMMA inside g))
 
   on_comma : (p : Phase) (f l : ℕ) → broken_in p ≡ false →
-      with_text (TAB ∷ []) (record_run (full_end n o) (parted (reading p f l)) g) ≡ meant p f l n o ([] ∷ cut turned COMMA false g)
-  unfolding parted reading Means within
+      with_text (TAB ∷ []) (record_run (full_end n o) (cond (ltb (f + 1) max_fields) (reading Start (f + 1) 0) None) g) ≡ meant p f l n o ([] ∷ cut turned COMMA false g)
+  unfolding parted reading Means within shown
   on_comma p f l e =
       ap (λ (v : Outcome (List ℕ)). with_text (TAB ∷ []) v) (go (ltb (f + 1) max_fields))
       ∙ cut_some g turned COMMA false (λ hs. with_text (TAB ∷ []) (cond (ltb (f + 1) max_fields) (meant Start (f + 1) 0 n o hs) (bad n)) ≡ meant p f l n o ([] ∷ hs))
       (meant_comma f n o p l e (ltb (f + 1) max_fields) refl)
     where
       go : (s : Bool) →
-          record_run (full_end n o) (cond s (reading Start (f + 1) 0) wrong) g ≡ cond s (meant Start (f + 1) 0 n o (cut turned COMMA false g)) (bad n)
+          record_run (full_end n o) (cond s (reading Start (f + 1) 0) None) g ≡ cond s (meant Start (f + 1) 0 n o (cut turned COMMA false g)) (bad n)
       go true = ih Start (f + 1) 0
       go false = refused
 
@@ -184,13 +184,13 @@ module _ (n : ℕ) (o : Outcome (List ℕ)) (g : List ℕ) (ih : (p : Phase) (f 
       with_text (shown_text (shown_in p b)) (record_run (full_end n o) (step (reading p f l) b) g) ≡ meant p f l n o (cut turned COMMA (within p) (b ∷ g))
 
   start_other : (f l b : ℕ) → Other b → Steps Start f l b
-  unfolding Steps cut turned within step reading ends fed fed_in plain_fed extended shown_in plain_shown shown_text
+  unfolding Steps cut turned within step reading ends fed fed_in plain_fed extended shown_in plain_shown shown_text shown
   start_other f l b k =
       rw (k.comma, k.lf, k.quote, k.cr, k.tab)
       (on_byte Start Plain f l (l + 1) b (b ∷ []) (ltb l max_field_bytes) (start_goes l b k) (start_says b k))
 
   start_steps : (f l b : ℕ) → Steps Start f l b
-  unfolding Steps cut turned within step reading ends fed fed_in plain_fed quoted_fed closing_fed extended shown_in plain_shown shown_text right_from text_from broken_in
+  unfolding Steps cut turned within step reading ends fed fed_in plain_fed quoted_fed closing_fed parted extended shown_in plain_shown shown_text right_from text_from broken_in shown
   start_steps f l =
       by_kind_lem (λ b. Steps Start f l b)
       (on_byte Start Quoted f l 0 QUOTE [] true (λ h. refl) (λ h. refl))
@@ -201,13 +201,13 @@ module _ (n : ℕ) (o : Outcome (List ℕ)) (g : List ℕ) (ih : (p : Phase) (f 
       (start_other f l)
 
   plain_other : (f l b : ℕ) → Other b → Steps Plain f l b
-  unfolding Steps cut turned within step reading ends fed fed_in plain_fed extended shown_in plain_shown shown_text
+  unfolding Steps cut turned within step reading ends fed fed_in plain_fed extended shown_in plain_shown shown_text shown
   plain_other f l b k =
       rw (k.comma, k.lf, k.quote, k.cr, k.tab)
       (on_byte Plain Plain f l (l + 1) b (b ∷ []) (ltb l max_field_bytes) (plain_goes l b k) (plain_says b))
 
   plain_steps : (f l b : ℕ) → Steps Plain f l b
-  unfolding Steps cut turned within step reading ends fed fed_in plain_fed quoted_fed closing_fed extended shown_in plain_shown shown_text right_from text_from broken_in
+  unfolding Steps cut turned within step reading ends fed fed_in plain_fed quoted_fed closing_fed parted extended shown_in plain_shown shown_text right_from text_from broken_in shown
   plain_steps f l =
       by_kind_lem (λ b. Steps Plain f l b)
       (on_wrong Plain f l QUOTE (QUOTE ∷ []) true (λ h. refl))
@@ -218,13 +218,13 @@ module _ (n : ℕ) (o : Outcome (List ℕ)) (g : List ℕ) (ih : (p : Phase) (f 
       (plain_other f l)
 
   quoted_other : (f l b : ℕ) → Other b → Steps Quoted f l b
-  unfolding Steps cut turned within step reading ends fed fed_in quoted_fed extended shown_in shown_text
+  unfolding Steps cut turned within step reading ends fed fed_in quoted_fed extended shown_in shown_text shown
   quoted_other f l b k =
       rw (k.comma, k.lf, k.quote, k.tab, k.cr)
       (on_byte Quoted Quoted f l (l + 1) b (b ∷ []) (ltb l max_field_bytes) (quoted_goes l b k) (quoted_says b k))
 
   quoted_steps : (f l b : ℕ) → Steps Quoted f l b
-  unfolding Steps cut turned within step reading ends fed fed_in plain_fed quoted_fed closing_fed extended shown_in plain_shown shown_text right_from text_from broken_in
+  unfolding Steps cut turned within step reading ends fed fed_in plain_fed quoted_fed closing_fed parted extended shown_in plain_shown shown_text right_from text_from broken_in shown
   quoted_steps f l =
       by_kind_lem (λ b. Steps Quoted f l b)
       (on_byte Quoted Closing f l l QUOTE [] true (λ h. refl) (λ h. refl))
@@ -235,11 +235,11 @@ module _ (n : ℕ) (o : Outcome (List ℕ)) (g : List ℕ) (ih : (p : Phase) (f 
       (quoted_other f l)
 
   closing_other : (f l b : ℕ) → Other b → Steps Closing f l b
-  unfolding Steps cut turned within step reading ends fed fed_in closing_fed shown_in plain_shown shown_text
+  unfolding Steps cut turned within step reading ends fed fed_in closing_fed shown_in plain_shown shown_text shown
   closing_other f l b k = rw (k.comma, k.lf, k.quote, k.cr) (on_wrong Closing f l b (b ∷ []) false (closing_stops l b k))
 
   closing_steps : (f l b : ℕ) → Steps Closing f l b
-  unfolding Steps cut turned within step reading ends fed fed_in plain_fed quoted_fed closing_fed extended shown_in plain_shown shown_text right_from text_from broken_in
+  unfolding Steps cut turned within step reading ends fed fed_in plain_fed quoted_fed closing_fed parted extended shown_in plain_shown shown_text right_from text_from broken_in shown
   closing_steps f l =
       by_kind_lem (λ b. Steps Closing f l b)
       (on_byte Closing Quoted f l (l + 1) QUOTE (QUOTE ∷ []) (ltb l max_field_bytes) (λ h. refl) (λ h. refl))
@@ -251,10 +251,10 @@ module _ (n : ℕ) (o : Outcome (List ℕ)) (g : List ℕ) (ih : (p : Phase) (f 
 
   -- nothing may follow a CR
   return_steps : (f l b : ℕ) → Steps Return f l b
-  unfolding Steps step reading ends fed fed_in within with_text
+  unfolding Steps step reading ends fed fed_in within with_text shown
   return_steps f l b = go (eqb b LF) (shown_text (shown_in Return b)) ∙ sym (meant_return f n o l (cut turned COMMA false (b ∷ g)))
     where
-      go : (t : Bool) (u : List ℕ) → with_text u (record_run (full_end n o) (cond (t && true) wrong wrong) g) ≡ bad n
+      go : (t : Bool) (u : List ℕ) → with_text u (record_run (full_end n o) (cond (t && true) None None) g) ≡ bad n
       go true u = rw refused
       go false u = rw refused
 
@@ -266,7 +266,7 @@ module _ (n : ℕ) (o : Outcome (List ℕ)) (g : List ℕ) (ih : (p : Phase) (f 
   steps Return f l b = return_steps f l b
 
 means_end : (n : ℕ) (o : Outcome (List ℕ)) (p : Phase) (f l : ℕ) → Means n o [] p f l
-unfolding Means record_run full_end broken broken_in reading meant line cut right_from rest_right text_from all_values joined
+unfolding Means record_run full_end broken broken_in reading meant line cut right_from rest_right text_from all_values joined shown
 means_end n o Start f l = refl
 means_end n o Plain f l = refl
 means_end n o Quoted f l = refl
@@ -274,14 +274,14 @@ means_end n o Closing f l = refl
 means_end n o Return f l = refl
 
 means : (g : List ℕ) (n : ℕ) (o : Outcome (List ℕ)) (p : Phase) (f l : ℕ) → Means n o g p f l
-unfolding Means record_run reading Steps
+unfolding Means record_run reading Steps shown
 means [] n o p f l = means_end n o p f l
 means (b ∷ g) n o p f l = steps n o g (means g n o) p f l b
 
 -- a whole record
 pub record_run_lem : (g : List ℕ) (n : ℕ) (o : Outcome (List ℕ)) →
     record_run (full_end n o) start g ≡ line n o (record_right g && record_taken (record_fields g)) (joined TAB (record_fields g))
-unfolding Means start record_right record_fields raw_fields within
+unfolding Means start record_right record_fields raw_fields within shown
 record_run_lem g n o =
     means g n o Start 0 0
     ∙ cut_some g turned COMMA false (λ hs. meant Start 0 0 n o hs ≡ line n o (all_right hs && record_taken (all_values hs)) (joined TAB (all_values hs))) (whole n o)

@@ -1,10 +1,12 @@
--- The answer is within its bounds.
-use Rattle.delivery_lists.specs.laws.Bounds.{size_of, boundeds}
 use Rattle.std.proofs.Common.{rules}
+use Rattle.delivery_lists.specs.laws.Bounds.{boundeds}
 use Rattle.delivery_lists.proofs.finish.Goals as goal
 
-pub slice_bounds-convert_rest-end-2 : goal.slice_bounds-convert_rest-end-2
-slice_bounds-convert_rest-end-2 c = search size_of
+pub slice_bounds-write-end : goal.slice_bounds-write-end
+slice_bounds-write-end g c = search (boundeds, rules)
 
-pub proceed-requires : goal.proceed-requires
-proceed-requires c = (search rules, search boundeds)
+pub slice_bounds-write-end-in-Ok : goal.slice_bounds-write-end-in-Ok
+slice_bounds-write-end-in-Ok g c = search (boundeds, rules)
+
+pub refuse-requires : goal.refuse-requires
+refuse-requires g c = search (boundeds, rules)

@@ -1,5 +1,5 @@
 -- The engine's calls on parts of the memory, as the code makes them.
-use Rattle.std.specs.Prelude.{ℕ, zero, suc, ◌+◌, ◌*◌, ◌-◌, ◌≤◌, ◌<◌, Bool, List, ◌∷◌, ◌≡◌, refl, length, take, drop, replicate}
+use Rattle.std.specs.Prelude.{ℕ, zero, suc, ◌+◌, ◌*◌, ◌-◌, ◌≤◌, ◌<◌, Bool, List, ◌∷◌, ◌≡◌, refl, length, take, drop, replicate, Result}
 use Rattle.std.proofs.Common.{sym, ◌∙◌, arith, le-leb}
 use Rattle.std.proofs.Math.Path.{ap}
 use Rattle.std.proofs.Math.Decide.{dec_le}
@@ -9,21 +9,20 @@ use Rattle.opening.specs.Given.{weights_word}
 use Rattle.opening.specs.laws.GivenCases.{weights_many}
 use Rattle.opening.specs.Given.{ones_given}
 use Rattle.opening.specs.Arguments.{arguments}
-use Rattle.opening.specs.Opening.{opened}
-use Rattle.opening.specs.laws.WeightsWord.{opened_with, opened_with_lem}
+use Rattle.opening.specs.Opening.{open_answer, with_settings, open_words, opened}
 use Rattle.delivery.specs.Delivery.{delivered}
 use Rattle.turn.specs.Turn.{turn_outcome, turn_words, turn_bytes}
 use Rattle.turn.specs.declared.Outcome.{Outcome}
 use Rattle.report.specs.Report.{report_answer, report_named, report_in_force}
-use Rattle.report.specs.declared.Answer.{Answer}
-use Rattle.drill_feeder.specs.Parts.{part, state_at, place_at, state_of, with_state, room_for, with_room, byte_at, message_at}
-use Rattle.drill_feeder.specs.laws.Parts.{PartOf}
-use Rattle.drill_feeder.specs.laws.Parts.{part_lent, part_back}
-use Rattle.drill_feeder.specs.Lines.{drill_arguments, opened_at, delivered_to}
-use Rattle.drill_feeder.specs.declared.parts.Part.{Part}
+use Rattle.drill_feeder.specs.Parts.{part, state_at, place_at, state_of, with_state, room_for, with_room, byte_at, message_at, sender_at}
+use Rattle.drill_feeder.specs.laws.Parts.{PartOf, part_lent, part_back}
+use Rattle.drill_feeder.specs.Lines.{drill_arguments, opened_at, delivered_to, message_delivered}
+use Rattle.report.specs.declared.Figures.{Figures}
+use Rattle.settings.specs.declared.refusal.Refusal.{Refusal}
+use Rattle.std.specs.declared.ops.Range.{Range}
 
 -- the elements that a part lends
-abbrev lent : List ℕ → Part → List ℕ
+abbrev lent : List ℕ → Range ℕ → List ℕ
 lent l r = take (r.end - r.start) (drop r.start l)
 
 -- 16 weights of 1, as the code has them
@@ -47,7 +46,7 @@ unfolding weights_word
 none_right n weights h = rw (← weights_many n weights h)
 
 -- the weights that an opening is lent
-ones_lent : (n : ℕ) (b : Part) → PartOf 16 0 n b → weights_word n (lent sixteen b) ≡ weights_word n (ones_given n)
+ones_lent : (n : ℕ) (b : Range ℕ) → PartOf 16 0 n b → weights_word n (lent sixteen b) ≡ weights_word n (ones_given n)
 unfolding ones_given
 ones_lent n b h = elim (dec_le n 16) [
   | yes l ↦ ap (weights_word n) (part_lent sixteen 0 n b h ∙ ones_part n l)
@@ -57,37 +56,35 @@ ones_lent n b h = elim (dec_le n 16) [
 -- an opening by any weights of the same word is that by weights of 1
 with_ones : (s : List ℕ) (n ta ts p session input : ℕ) (coins weights : List ℕ) → weights_word n weights ≡ weights_word n (ones_given n) →
     opened s (arguments 1 n ta ts p session input coins weights 0) ≡ opened s (drill_arguments n ta ts p session input coins)
-with_ones s n ta ts p session input coins weights e =
-    sym (opened_with_lem (arguments 1 n ta ts p session input coins weights 0) s)
-    ∙ ap (λ (w : ℕ). opened_with s 1 n ta ts w p session input coins 0) e
-    ∙ opened_with_lem (drill_arguments n ta ts p session input coins) s
+unfolding opened open_answer open_words with_settings
+with_ones s n ta ts p session input coins weights e = rw e
 
 -- a state, and the words that come back for it
-module _ (w : List ℕ) (p at : ℕ) (a : Part) (e : at ≡ state_at p) (h : PartOf (length w) at 2048 a) where
+module _ (w : List ℕ) (p : ℕ) (a : Range ℕ) (h : PartOf (length w) (state_at p) 2048 a) where
   state_lent : lent w a ≡ state_of w p
   unfolding state_of
-  state_lent = part_lent w at 2048 a h ∙ rw e
+  state_lent = part_lent w (state_at p) 2048 a h
 
   state_back : (ys : List ℕ) → length ys ≡ length (lent w a) → put_mid a.start (a.end - a.start) w ys ≡ with_state w p ys
   unfolding with_state
-  state_back ys k = part_back w at 2048 a h ys k ∙ rw e
+  state_back ys k = part_back w (state_at p) 2048 a h ys k
 
-  pub open_back : (ys : List ℕ) (n ta ts session input : ℕ) (coins : List ℕ) (b : Part) → PartOf 16 0 n b → length ys ≡ length (lent w a) →
-      ys ≡ opened (lent w a) (arguments 1 n ta ts p session input coins (lent sixteen b) 0) →
+  pub open_back : (ys : List ℕ) (n ta ts own session input : ℕ) (coins : List ℕ) (b : Range ℕ) → PartOf 16 0 n b → own ≡ p → length ys ≡ length (lent w a) →
+      ys ≡ opened (lent w a) (arguments 1 n ta ts own session input coins (lent sixteen b) 0) →
       put_mid a.start (a.end - a.start) w ys ≡ opened_at w (drill_arguments n ta ts p session input coins)
   unfolding opened_at
-  open_back ys n ta ts session input coins b g k q =
-      state_back ys k ∙ ap (with_state w p) (q ∙ rw state_lent (with_ones (state_of w p) n ta ts p session input coins (lent sixteen b) (ones_lent n b g)))
+  open_back ys n ta ts own session input coins b g e k q =
+      state_back ys k ∙ ap (with_state w p) (q ∙ rw (e, state_lent) (with_ones (state_of w p) n ta ts p session input coins (lent sixteen b) (ones_lent n b g)))
 
-  pub deliver_back : (ys : List ℕ) (link : ℕ) (b : List ℕ) → length ys ≡ length (lent w a) →
-      ys ≡ delivered (lent w a) link b → put_mid a.start (a.end - a.start) w ys ≡ delivered_to w p link b
+  pub deliver_back : (ys : List ℕ) (link sender : ℕ) (b : List ℕ) → link ≡ sender → length ys ≡ length (lent w a) →
+      ys ≡ delivered (lent w a) link b → put_mid a.start (a.end - a.start) w ys ≡ delivered_to w p sender b
   unfolding delivered_to
-  deliver_back ys link b k q = state_back ys k ∙ ap (with_state w p) (q ∙ rw state_lent)
+  deliver_back ys link sender b e k q = state_back ys k ∙ ap (with_state w p) (q ∙ rw (e, state_lent))
 
   pub closed_lent : (r : Bool) → r ≡ closed (lent w a) → r ≡ closed (state_of w p)
   closed_lent r q = q ∙ rw state_lent
 
-  pub report_answer_lem : (r : Answer) (x y : ℕ) → r ≡ report_answer (lent w a) x y → r ≡ report_answer (state_of w p) x y
+  pub report_answer_lem : (r : Result Figures Refusal) (x y : ℕ) → r ≡ report_answer (lent w a) x y → r ≡ report_answer (state_of w p) x y
   report_answer_lem r x y q = q ∙ rw state_lent
 
   pub report_named_lem : (r x : List ℕ) (y : ℕ) → r ≡ report_named (lent w a) x y → r ≡ report_named (state_of w p) x y
@@ -97,12 +94,12 @@ module _ (w : List ℕ) (p at : ℕ) (a : Part) (e : at ≡ state_at p) (h : Par
   report_in_force_lem r y x q = q ∙ rw state_lent
 
   -- a turn
-  module _ (m : List ℕ) (sent : ℕ) (b : Part) (g : PartOf (length m) (44 * sent) 140 b) where
+  module _ (m : List ℕ) (sent : ℕ) (b : Range ℕ) (g : PartOf (length m) (44 * sent) 140 b) where
     room_lent : lent m b ≡ room_for m sent
     unfolding room_for
     room_lent = part_lent m (44 * sent) 140 b g
 
-    pub turn_answer : (o : Outcome) → o ≡ turn_outcome (lent w a) (length (lent m b)) → o ≡ turn_outcome (state_of w p) (length (room_for m sent))
+    pub turn_answer : (o : Result Outcome Refusal) → o ≡ turn_outcome (lent w a) (length (lent m b)) → o ≡ turn_outcome (state_of w p) (length (room_for m sent))
     turn_answer o q = q ∙ rw (state_lent, room_lent)
 
     pub turn_words_lem : (ys : List ℕ) → length ys ≡ length (lent w a) → ys ≡ turn_words (lent w a) (length (lent m b)) →
@@ -118,8 +115,9 @@ pub ruleset state_cases = (open_back, deliver_back, closed_lent, report_answer_l
 
 pub ruleset turn_cases = (turn_answer, turn_words_lem, turn_bytes_lem)
 
--- a sent message
-pub message_lent : (w m x : List ℕ) (k q link at count : ℕ) (b : Part) → at ≡ place_at k → count ≡ byte_at m (at + 5) → PartOf (length m) at (12 + 8 * count) b →
-    x ≡ delivered_to w q link (lent m b) → x ≡ delivered_to w q link (message_at m k)
-unfolding message_at
-message_lent w m x k q link at count b e f h r = r ∙ rw (part_lent m at (12 + 8 * count) b h, f, e)
+-- a sent message, over the link of its sender
+pub message_lent : (w m x : List ℕ) (k q at sender count size : ℕ) (b : Range ℕ) → at ≡ place_at k → sender ≡ byte_at m (at + 2) → count ≡ byte_at m (at + 5) →
+    size ≡ count → PartOf (length m) at (12 + 8 * size) b → x ≡ delivered_to w q sender (lent m b) → x ≡ message_delivered m k q w
+unfolding message_delivered sender_at message_at
+message_lent w m x k q at sender count size b e f g i h r =
+    r ∙ rw (part_lent m at (12 + 8 * size) b h, i, g, f, e)

@@ -1,5 +1,5 @@
 -- With 512 bytes for its line a call is the one without.
-use Rattle.std.specs.Prelude.{ℕ, ◌≤◌, List, ◌≡◌}
+use Rattle.std.specs.Prelude.{ℕ, ◌≤◌, List, ◌≡◌, Result}
 use Rattle.std.proofs.Common.{ap, ◌∙◌}
 use Rattle.opening.specs.Arguments.{Arguments}
 use Rattle.opening.specs.Opening.{opened}
@@ -8,9 +8,10 @@ use Rattle.turn.specs.Turn.{turn_outcome, turn_words, turn_bytes}
 use Rattle.turn.specs.declared.Outcome.{Outcome}
 use Rattle.journal.specs.Journal.{LINE_BYTES, opened_words, delivered_words, turn_room, turned_message}
 use Rattle.journal.specs.laws.Journal.{line_words_lem, room_kept, message_kept}
+use Rattle.settings.specs.declared.refusal.Refusal.{Refusal}
 
 module _ (line : ℕ) (h : LINE_BYTES ≤ line) (s : List ℕ) where
-  pub turn_answer : (room : ℕ) (r : Outcome) → r ≡ turn_outcome s (turn_room room line) → r ≡ turn_outcome s room
+  pub turn_answer : (room : ℕ) (r : Result Outcome Refusal) → r ≡ turn_outcome s (turn_room room line) → r ≡ turn_outcome s room
   turn_answer room r e = e ∙ ap (turn_outcome s) (room_kept room line h)
 
   pub turn_state : (room : ℕ) (t : List ℕ) → t ≡ turn_words s (turn_room room line) → t ≡ turn_words s room

@@ -1,59 +1,28 @@
--- The memory of a drill: the words of its sessions, and the bytes of the messages sent.
--- Parts as the code takes them.
-use Rattle.std.specs.Prelude.{ℕ, ◌+◌, ◌-◌, ◌≤◌, ◌<◌, Bool, ◌≡◌, length, get_or}
+-- Parts of the memory as the code takes them.
+use Rattle.std.specs.Prelude.{ℕ, ◌+◌, ◌-◌, ◌≤◌, Bool, ◌≡◌, length}
 use Rattle.std.proofs.Math.Bool.{cond, true, false}
 use mathlib.Core.List.{List, [], ◌++◌, ◌∷◌}
 use Rattle.std.proofs.Math.Path.{refl}
-use Rattle.std.proofs.Common.{sym, ◌∙◌, arith, drop-drop, le-leb}
-use Rattle.std.proofs.Math.ListN.{take, drop, get_or-eq_default}
+use Rattle.std.proofs.Common.{◌∙◌, arith, drop-drop}
+use Rattle.std.proofs.Math.ListN.{take, drop}
 use Rattle.std.proofs.Math.Dec.{leb}
-use Rattle.drill_feeder.specs.declared.parts.Part.{Part}
-use Rattle.drill_feeder.specs.Parts.{part, with_part, byte_at}
+use Rattle.std.specs.declared.ops.Range.{Range}
+use Rattle.drill_feeder.specs.Parts.{part, with_part}
 use borrow.Rule.Slice.PartMut.{put_mid}
-use Rattle.std.proofs.lemmas.Bool.{lt-leb}
 
 -- the bounds of a part
-pub record PartOf (n a k : ℕ) (r : Part) : Type 0 where
+pub record PartOf (n a k : ℕ) (r : Range ℕ) : Type 0 where
   pub first : r.start ≡ cond (leb (a + k) n) a 0
   pub last : r.end ≡ cond (leb (a + k) n) (a + k) 0
   pub ordered : r.start ≤ r.end
   pub within : r.end ≤ n
-
-module _ (n a k : ℕ) where
-  none : n < a + k → PartOf n a k (record { start = 0; end = 0 })
-  none h =
-      let e : leb (a + k) n ≡ false = lt-leb (a + k) n h in
-      record { first = rw e; last = rw e; ordered = omega arith; within = omega arith }
-
-  pub part_short : n < k → PartOf n a k (record { start = 0; end = 0 })
-  part_short h = none (omega arith)
-
-  pub part_beyond : k ≤ n → n - k < a → PartOf n a k (record { start = 0; end = 0 })
-  part_beyond h l = none (omega arith)
-
-  pub part_within : k ≤ n → a ≤ n - k → PartOf n a k (record { start = a; end = a + k })
-  part_within h l =
-      let e : leb (a + k) n ≡ true = le-leb (a + k) n (omega arith) in
-      record { first = rw e; last = rw e; ordered = omega arith; within = omega arith }
-
-pub ruleset part_cases = (part_short, part_beyond, part_within)
-
-pub byte_within : (m : List ℕ) (k : ℕ) → get_or m k 0 ≡ byte_at m k
-unfolding byte_at
-byte_within m k = refl
-
-pub byte_past_end : (m : List ℕ) (k : ℕ) → length m ≤ k → 0 ≡ byte_at m k
-unfolding byte_at
-byte_past_end m k h = sym (get_or-eq_default m 0 h)
-
-pub ruleset byte_cases = (byte_within, byte_past_end)
 
 empty : (l : List ℕ) → length l ≡ 0 → l ≡ []
 empty [] e = refl
 empty (x ∷ l) e = absurd (omega arith)
 
 -- a part that is lent is the part, and what comes back stands in its place
-module _ (l : List ℕ) (a k : ℕ) (r : Part) (h : PartOf (length l) a k r) where
+module _ (l : List ℕ) (a k : ℕ) (r : Range ℕ) (h : PartOf (length l) a k r) where
   there : leb (a + k) (length l) ≡ true → (r.start ≡ a) × (r.end - r.start ≡ k)
   there t =
       let s : r.start ≡ a = h.first ∙ rw t in

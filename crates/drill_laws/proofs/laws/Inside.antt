@@ -13,7 +13,7 @@ use Rattle.drill_feeder.specs.declared.Members.{Members}
 use Rattle.drill_laws.proofs.laws.Sound.{Sound, deliver_sound}
 use Rattle.drill_laws.proofs.laws.Turns.{SoundIn, turned_sound}
 use Rattle.drill_laws.proofs.laws.Runs.{steps_keep, if_keep, offered_of, sweep_kept, swept_kept, offered_sound, sweep_ends, ran_ends}
-use Rattle.drill_laws.specs.Inside.{Through, sweep_if_with, swept_with, ran_with, here, turn, delivery, noted}
+use Rattle.drill_laws.specs.Inside.{Through, here, turn, delivery, noted}
 
 pub through_sound : {x y : Memory} → SoundIn x → Through x y → SoundIn y
 through_sound h here = h
@@ -31,10 +31,10 @@ module _ (x : Memory) (g : Members) (few : g.n ≤ 4) where
   sweep_through p (suc k) y lo hi t =
       if_keep (Through x) (turn_goes_on p y) _ _ (sweep_through p k (turned p y) lo hi (turn p y lo hi t)) (turn p y lo hi t)
 
-  swept_through : (y : Memory) → Through x y → Through x (swept g y)
+  swept_through : (y : Memory) → Through x y → Through x (swept 401 g y)
   unfolding swept sweep_if
   swept_through y t =
-      steps_keep (Through x) (sweep_if g.honest) g.n
+      steps_keep (Through x) (sweep_if 401 g.honest) g.n
       (λ p lo hi z e. if_keep (Through x) (mark g.honest p) (sweep p 401 z) z (sweep_through p 401 z lo (omega arith) e) e)
       y t
 
@@ -51,11 +51,11 @@ module _ (x : Memory) (g : Members) (few : g.n ≤ 4) where
       noted _ m c
       (steps_keep (λ (v : List ℕ). Through x (memory v m c)) (offer_next g m c.offered) (c.sent - c.offered) (λ j lo hi v e. offer_through v m c (c.offered + j) e) w t)
 
-  pub ran_through : (k : ℕ) (y : Memory) → Through x y → Through x (ran g k y)
+  pub ran_through : (k : ℕ) (y : Memory) → Through x y → Through x (ran 401 g k y)
   unfolding ran
   ran_through zero y t = t
   ran_through (suc k) y t =
-      if_keep (Through x) (any_left (swept g y)) _ _ (ran_through k (offered g (swept g y)) (offered_through (swept g y) (swept_through y t))) (swept_through y t)
+      if_keep (Through x) (any_left (swept 401 g y)) _ _ (ran_through k (offered g (swept 401 g y)) (offered_through (swept 401 g y) (swept_through y t))) (swept_through y t)
 
 -- steps that agree where P holds, which they keep
 steps_agree : {A : Type 0} (P : A → Type 0) (f h : ℕ → A → A) (n : ℕ) → ((k : ℕ) → 1 ≤ k → k ≤ n → (x : A) → P x → f k x ≡ h k x) →
@@ -71,21 +71,21 @@ module _ (g : Members) (few : g.n ≤ 4) (t : ℕ) (enough : 401 ≤ t) where
   one_agrees true p x lo hi h = sweep_ends p lo hi 401 t x enough h (omega arith)
   one_agrees false p x lo hi h = refl
 
-  swept_agrees : (x : Memory) → SoundIn x → swept_with t g x ≡ swept g x
-  unfolding swept_with sweep_if_with swept sweep_if
+  swept_agrees : (x : Memory) → SoundIn x → swept t g x ≡ swept 401 g x
+  unfolding swept sweep_if
   swept_agrees x h =
-      steps_agree SoundIn (sweep_if_with t g.honest) (sweep_if g.honest) g.n
+      steps_agree SoundIn (sweep_if t g.honest) (sweep_if 401 g.honest) g.n
       (λ p lo hi y e. one_agrees (mark g.honest p) p y lo (omega arith) e)
       (λ p lo hi y e. if_keep SoundIn (mark g.honest p) (sweep p 401 y) y (sweep_kept (offered_of y) p lo (omega arith) 401 y (record { sound = e; same = refl })).sound e)
       x h
 
-  rounds_agree : (k : ℕ) (x : Memory) → SoundIn x → ran_with t g k x ≡ ran g k x
-  unfolding ran_with ran
+  rounds_agree : (k : ℕ) (x : Memory) → SoundIn x → ran t g k x ≡ ran 401 g k x
+  unfolding ran
   rounds_agree zero x h = refl
   rounds_agree (suc k) x h =
-      let y : SoundIn (swept g x) = (swept_kept g few (offered_of x) x (record { sound = h; same = refl })).sound in
-      rw (swept_agrees x h, rounds_agree k (offered g (swept g x)) (offered_sound g few (swept g x) y))
+      let y : SoundIn (swept 401 g x) = (swept_kept g few (offered_of x) x (record { sound = h; same = refl })).sound in
+      rw (swept_agrees x h, rounds_agree k (offered g (swept 401 g x)) (offered_sound g few (swept 401 g x) y))
 
   -- with more turns and more rounds R does the same
-  pub ran_same : (k : ℕ) (x : Memory) → 1601 ≤ k → SoundIn x → ran_with t g k x ≡ ran g 1601 x
+  pub ran_same : (k : ℕ) (x : Memory) → 1601 ≤ k → SoundIn x → ran t g k x ≡ ran 401 g 1601 x
   ran_same k x l h = rounds_agree k x h ∙ ran_ends g few 1601 k x l h (omega arith)

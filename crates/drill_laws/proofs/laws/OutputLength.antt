@@ -1,5 +1,5 @@
 -- The output of a drill has at most 2,048 bytes, so that as many lent bytes hold all of it.
-use Rattle.std.specs.Prelude.{ℕ, zero, suc, ◌+◌, ◌*◌, ◌≤◌, List, [], ◌∷◌, ◌≡◌, refl, length, take, eqb}
+use Rattle.std.specs.Prelude.{ℕ, zero, suc, ◌+◌, ◌*◌, ◌≤◌, List, [], ◌∷◌, ◌≡◌, refl, length, take, eqb, Result, Ok, Err}
 use Rattle.std.proofs.Common.{ap, ◌∙◌, arith, length-append, length-take}
 use Rattle.settings.specs.Settings.{quorum}
 use Rattle.settings.specs.declared.Settings.{Settings}
@@ -11,12 +11,10 @@ use Rattle.session.specs.Session.{settings_of}
 use Rattle.report.specs.Report.{in_force_set, figures_of, report_answer, report_in_force}
 use Rattle.report.specs.laws.Report.{Reported, reported}
 use Rattle.report.specs.declared.Figures.{Figures}
-use Rattle.report.specs.declared.Answer.{Answer}
-use Rattle.report.specs.declared.Answer.TheVariants.{Refused, Given}
 use Rattle.text.specs.Numbers.{hex_text}
 use Rattle.text.specs.Fields.{each_text}
 use Rattle.text.specs.laws.Lengths.{decimal_length, hex_length}
-use Rattle.drill_lines.specs.Text.{comma_text, values_text, field_text, result_line, end_text, sent_line, bad_line}
+use Rattle.drill_lines.specs.Text.{comma_text, values_text, number_text, result_line, sent_line, bad_line}
 use Rattle.text.specs.laws.Paste.{wrote_whole}
 use Rattle.drill_feeder.specs.Parts.{state_of}
 use Rattle.drill_core.specs.Judging.{after_settings}
@@ -25,6 +23,7 @@ use Rattle.drill_core.specs.Output.{answer_text, result_text, result_if, results
 use Rattle.drill_laws.proofs.laws.Runs.{if_keep}
 use Rattle.drill_laws.proofs.laws.Whole.{SoundDrill, input_sound, end_sound}
 use Rattle.drill_laws.specs.OutputLength.{OutputWhole}
+use Rattle.settings.specs.declared.refusal.Refusal.{Refusal}
 
 commas_length : (xs : List ℕ) → length (each_text comma_text xs) ≡ 17 * length xs
 unfolding each_text comma_text
@@ -36,27 +35,23 @@ unfolding values_text
 values_length [] = omega arith
 values_length (x ∷ xs) = rw length-append (omega (arith, hex_length x, commas_length xs))
 
-field_length : (n : ℕ) → length (field_text n) ≤ 21
-unfolding field_text
-field_length n = rw length-append (omega (arith, decimal_length n))
-
-end_length : (n : ℕ) → length (end_text n) ≤ 21
-unfolding end_text
-end_length n = rw length-append (omega (arith, decimal_length n))
+number_length : (n after : ℕ) → length (number_text n after) ≤ 21
+unfolding number_text
+number_length n after = rw length-append (omega (arith, decimal_length n))
 
 -- a line with at most 16 values
 line_length_lem : (n e c t : ℕ) (xs : List ℕ) → length xs ≤ 16 → length (result_line n e c t xs) ≤ 358
 unfolding result_line
 line_length_lem n e c t xs h =
-    simp length-append (omega (arith, field_length n, field_length e, field_length c, field_length t, values_length xs))
+    simp length-append (omega (arith, number_length n 9, number_length e 9, number_length c 9, number_length t 9, values_length xs))
 
 sent_length_lem : (n : ℕ) → length (sent_line n) ≤ 26
 unfolding sent_line
-sent_length_lem n = rw length-append (omega (arith, end_length n))
+sent_length_lem n = rw length-append (omega (arith, number_length n 10))
 
 bad_length : (n : ℕ) → length (bad_line n) ≤ 26
 unfolding bad_line
-bad_length n = rw length-append (omega (arith, end_length n))
+bad_length n = rw length-append (omega (arith, number_length n 10))
 
 -- a set in force has at most 16 values
 set_few : (g : Settings) (s : List ℕ) → length (in_force_set g s) ≤ 16
@@ -74,9 +69,9 @@ result_length : (p : ℕ) (s : List ℕ) → length (result_text p s) ≤ 358
 unfolding result_text answer_text
 result_length p s = go (report_answer s 16 16) refl
   where
-    go : (a : Answer) → report_answer s 16 16 ≡ a → length (answer_text p a (closed s) (report_in_force s 16 (blank 16))) ≤ 358
-    go (Refused k) e = line_length_lem p 0 _ 0 (take 0 (report_in_force s 16 (blank 16))) (omega arith)
-    go (Given f) e =
+    go : (a : Result Figures Refusal) → report_answer s 16 16 ≡ a → length (answer_text p a (closed s) (report_in_force s 16 (blank 16))) ≤ 358
+    go (Err k) e = line_length_lem p 0 _ 0 (take 0 (report_in_force s 16 (blank 16))) (omega arith)
+    go (Ok f) e =
         line_length_lem p f.exit _ f.turns (take f.in_force (report_in_force s 16 (blank 16)))
         (rw length-take (omega (arith, in_force_few s f (reported s 16 16 f e))))
 

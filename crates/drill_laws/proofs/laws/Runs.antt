@@ -1,6 +1,6 @@
 -- R keeps the memory sound, and neither of its loops ends for want of turns or rounds.
 use Prim.Native.Nat.{ℕ, zero, suc, ◌+◌, ◌-◌, ◌≤◌, ◌<◌}
-use Rattle.std.specs.Prelude.{Bool, ◌≡◌}
+use Rattle.std.specs.Prelude.{Bool, ◌≡◌, Ok}
 use Rattle.std.proofs.Math.Bool.{true, false, cond}
 use Rattle.std.proofs.lemmas.Bool.{false≢true}
 use mathlib.Core.List.{List}
@@ -60,7 +60,7 @@ module _ (o p : ℕ) (lo : 1 ≤ p) (hi : p ≤ 4) where
 
 -- a turn that goes on is counted
 module _ (p : ℕ) (lo : 1 ≤ p) (hi : p ≤ 4) where
-  due_goes : (own : ℕ) (s : List ℕ) (a : Act) → goes_on (outcome_of own s a) ≡ true → is_due a ≡ true
+  due_goes : (own : ℕ) (s : List ℕ) (a : Act) → goes_on (Ok (outcome_of own s a)) ≡ true → is_due a ≡ true
   unfolding goes_on outcome_of
   due_goes own s Idle e = e
   due_goes own s InForce e = refl
@@ -83,7 +83,7 @@ module _ (p : ℕ) (lo : 1 ≤ p) (hi : p ≤ 4) where
       let out : List ℕ = room_for m c.sent in
       let a : Act = due x.settings s in
       let size : length s ≡ 2048 = length_state_of w p h.words lo hi in
-      let goes : goes_on (outcome_of x.own s a) ≡ true = ap goes_on (sym t.answer) ∙ e in
+      let goes : goes_on (Ok (outcome_of x.own s a)) ≡ true = ap goes_on (sym t.answer) ∙ e in
       rw (t.words, state_same w p h.words lo hi (applied s a) (length_applied s a ∙ size))
       (applied_turns s a (told_placed x.settings s (admitted_ruled s (length out) x t.admits) a t.told) (omega (arith, size)) (due_goes x.own s a goes))
 
@@ -109,10 +109,10 @@ module _ (p : ℕ) (lo : 1 ≤ p) (hi : p ≤ 4) where
 
 -- each honest one, the lowest first, takes turns until one is idle, refused or puts a set in force (PROTOCOL 15.14)
 module _ (g : Members) (few : g.n ≤ 4) where
-  pub swept_kept : (o : ℕ) (x : Memory) → Kept o x → Kept o (swept g x)
+  pub swept_kept : (o : ℕ) (x : Memory) → Kept o x → Kept o (swept 401 g x)
   unfolding swept sweep_if
   swept_kept o x h =
-      steps_keep (Kept o) (sweep_if g.honest) g.n
+      steps_keep (Kept o) (sweep_if 401 g.honest) g.n
       (λ p lo hi y e. if_keep (Kept o) (mark g.honest p) (sweep p 401 y) y (sweep_kept o p lo (omega arith) 401 y e) e)
       x h
 
@@ -135,12 +135,12 @@ module _ (g : Members) (few : g.n ≤ 4) where
   unfolding offered
   offered_sound (memory w m c) h = all_offered _ m c (offers_sound w m c c.offered (c.sent - c.offered) h)
 
-  pub ran_sound : (k : ℕ) (x : Memory) → SoundIn x → SoundIn (ran g k x)
+  pub ran_sound : (k : ℕ) (x : Memory) → SoundIn x → SoundIn (ran 401 g k x)
   unfolding ran
   ran_sound zero x h = h
   ran_sound (suc k) x h =
-      let y : SoundIn (swept g x) = (swept_kept (offered_of x) x (record { sound = h; same = refl })).sound in
-      if_keep SoundIn (any_left (swept g x)) _ _ (ran_sound k (offered g (swept g x)) (offered_sound (swept g x) y)) y
+      let y : SoundIn (swept 401 g x) = (swept_kept (offered_of x) x (record { sound = h; same = refl })).sound in
+      if_keep SoundIn (any_left (swept 401 g x)) _ _ (ran_sound k (offered g (swept 401 g x)) (offered_sound (swept 401 g x) y)) y
 
   -- a round that is not the last delivers a message
   sent_bound : (x : Memory) → SoundIn x → offered_of x ≤ 1600
@@ -152,13 +152,13 @@ module _ (g : Members) (few : g.n ≤ 4) where
   offers_more (memory w m c) e = ltb-true c.offered c.sent e
 
   -- more rounds than are left change nothing
-  pub ran_ends : (k l : ℕ) (x : Memory) → k ≤ l → SoundIn x → 1601 ≤ k + offered_of x → ran g l x ≡ ran g k x
+  pub ran_ends : (k l : ℕ) (x : Memory) → k ≤ l → SoundIn x → 1601 ≤ k + offered_of x → ran 401 g l x ≡ ran 401 g k x
   unfolding ran
   ran_ends zero l x le h f = absurd (omega (arith, sent_bound x h))
   ran_ends (suc k) zero x le h f = absurd (omega arith)
-  ran_ends (suc k) (suc l) x le h f = go (λ y e n. ran_ends k l y (omega arith) e n) (swept_kept (offered_of x) x (record { sound = h; same = refl })) (any_left (swept g x)) refl
+  ran_ends (suc k) (suc l) x le h f = go (λ y e n. ran_ends k l y (omega arith) e n) (swept_kept (offered_of x) x (record { sound = h; same = refl })) (any_left (swept 401 g x)) refl
     where
-      go : ((y : Memory) → SoundIn y → 1601 ≤ k + offered_of y → ran g l y ≡ ran g k y) → Kept (offered_of x) (swept g x) → (b : Bool) → any_left (swept g x) ≡ b →
-          cond b (ran g l (offered g (swept g x))) (swept g x) ≡ cond b (ran g k (offered g (swept g x))) (swept g x)
-      go r s true e = r (offered g (swept g x)) (offered_sound (swept g x) s.sound) (omega (arith, offers_more (swept g x) e, s.same))
+      go : ((y : Memory) → SoundIn y → 1601 ≤ k + offered_of y → ran 401 g l y ≡ ran 401 g k y) → Kept (offered_of x) (swept 401 g x) → (b : Bool) → any_left (swept 401 g x) ≡ b →
+          cond b (ran 401 g l (offered g (swept 401 g x))) (swept 401 g x) ≡ cond b (ran 401 g k (offered g (swept 401 g x))) (swept 401 g x)
+      go r s true e = r (offered g (swept 401 g x)) (offered_sound (swept 401 g x) s.sound) (omega (arith, offers_more (swept 401 g x) e, s.same))
       go r s false e = refl

@@ -1,5 +1,5 @@
 -- No message is lost: those sent are no more than the turns that the sessions have counted, and these are at most 1,600.
-use Rattle.std.specs.Prelude.{ℕ, zero, suc, ◌+◌, ◌*◌, ◌≤◌, ◌<◌, ◌≢◌, ◌≡◌, refl, length, drop}
+use Rattle.std.specs.Prelude.{ℕ, zero, suc, ◌+◌, ◌*◌, ◌≤◌, ◌<◌, ◌≢◌, ◌≡◌, refl, length, drop, Result, Ok, Err}
 use mathlib.Core.List.{List}
 use Rattle.std.proofs.Common.{inl, inr, sym, subst, ◌∙◌, arith}
 use Rattle.std.proofs.Math.Path.{ap}
@@ -14,14 +14,13 @@ use Rattle.wire_laws.proofs.laws.Forms.{Form}
 use Rattle.wire_laws.proofs.Converse.{taken_form}
 use Rattle.delivery.specs.laws.Accepting.{accepting}
 use Rattle.delivery.specs.laws.Kept.{in_layout_lem, word_free}
-use Rattle.delivery.specs.declared.Verdict.{Verdict}
 use Rattle.drill_feeder.specs.Parts.{state_of, with_state}
 use Rattle.drill_feeder.specs.Lines.{delivered_to, more}
 use Rattle.drill_feeder.specs.declared.Counts.{Counts}
 use Rattle.drill_laws.proofs.laws.States.{length_state_of, length_with_state, state_same, state_other}
 use Rattle.drill_laws.specs.Sound.{turns_of, all_turns}
 use Rattle.wire.specs.declared.Message.TheVariants as message
-use Rattle.delivery.specs.declared.Verdict.TheVariants as verdict
+use Rattle.settings.specs.declared.refusal.Refusal.{Refusal}
 
 -- a session of a drill has at most 4 concentrators, and is of version 1
 pub record Drilled (s : List ℕ) : Type 0 where
@@ -110,30 +109,30 @@ spared p (message.Commit k) a l (inr e) = omega arith
 spared p (message.Finish i b) a l (inl e) = omega arith
 spared p (message.Finish i b) a l (inr e) = omega arith
 
-after_word : (v : Verdict) (s b : List ℕ) (link a : ℕ) → a ≤ 6 → word (words_after v s link b) a ≡ word s a
+after_word : (v : Result Message Refusal) (s b : List ℕ) (link a : ℕ) → a ≤ 6 → word (words_after v s link b) a ≡ word s a
 unfolding words_after
-after_word (verdict.Refused k) s b link a l = refl
-after_word (verdict.Accepted k) s b link a l = word_recorded s (drop 12 b) link k a (spared link k a l)
+after_word (Err k) s b link a l = refl
+after_word (Ok k) s b link a l = word_recorded s (drop 12 b) link k a (spared link k a l)
 
 -- .. nor changes the version
-after_version : (v : Verdict) (s b : List ℕ) (link : ℕ) → verdict s link b ≡ v → word (words_after v s link b) version_at ≡ word s version_at
+after_version : (v : Result Message Refusal) (s b : List ℕ) (link : ℕ) → verdict s link b ≡ v → word (words_after v s link b) version_at ≡ word s version_at
 unfolding words_after session_of session_with settings_of
-after_version (verdict.Refused k) s b link e = refl
-after_version (verdict.Accepted k) s b link e =
+after_version (Err k) s b link e = refl
+after_version (Ok k) s b link e =
     let x = accepting s link b k e in
     let f : Form (word s version_at) (word s n_at) (session_of s).number link b k = taken_form _ _ _ link b k x.taken in
     word_free s (drop 12 b) link k version_at (in_layout_lem (word s n_at) link k x.state.ruled.few f.link_low f.link_high f.layout) (omega arith) (omega arith)
 
-after_length : (v : Verdict) (s b : List ℕ) (link : ℕ) → length (words_after v s link b) ≡ length s
+after_length : (v : Result Message Refusal) (s b : List ℕ) (link : ℕ) → length (words_after v s link b) ≡ length s
 unfolding words_after
-after_length (verdict.Refused k) s b link = refl
-after_length (verdict.Accepted k) s b link = length_recorded s (drop 12 b) link k
+after_length (Err k) s b link = refl
+after_length (Ok k) s b link = length_recorded s (drop 12 b) link k
 
 pub deliver_sound : (w m b : List ℕ) (c : Counts) (q link : ℕ) → 1 ≤ q → q ≤ 4 → Sound w m c → Sound (delivered_to w q link b) m c
 unfolding delivered_to delivered turns_of
 deliver_sound w m b c q link lo hi h =
     let s : List ℕ = state_of w q in
-    let v : Verdict = verdict s link b in
+    let v : Result Message Refusal = verdict s link b in
     replaced w m m c c q 0 lo hi h (words_after v s link b)
     (after_length v s b link ∙ length_state_of w q h.words lo hi)
     refl

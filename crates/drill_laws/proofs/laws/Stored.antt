@@ -1,6 +1,6 @@
 -- What a turn sends is stored at the next place, and the places before it stay.
 use Prim.Native.Nat.{ℕ, ◌+◌, ◌*◌, ◌-◌, ◌≤◌, ◌<◌}
-use Rattle.std.specs.Prelude.{Bool, cond, refl, get_or, take, ltb}
+use Rattle.std.specs.Prelude.{Bool, cond, refl, get_or, take, ltb, Result, Ok, Err}
 use Rattle.std.proofs.Math.Bool.{true, false}
 use mathlib.Core.List.{List, ◌++◌}
 use Rattle.std.proofs.Math.Path.{◌≡◌, sym, ap, subst}
@@ -26,7 +26,7 @@ use Rattle.turn.specs.Due.{due, commit_due}
 use Rattle.turn.specs.laws.Told.{ActTold, Rests, on_exit, on_copies}
 use Rattle.turn.specs.Turn.{move_outcome, outcome_of, bytes_after, turn_outcome, turn_bytes}
 use Rattle.wire.proofs.Laws.{length_encode}
-use Rattle.turn.specs.laws.Turn.{Taken, Way, refused, taken, way}
+use Rattle.turn.specs.laws.Turn.{Taken, Way, refused, taken, way, same_outcome}
 use Rattle.turn.specs.declared.Outcome.{Outcome}
 use Rattle.drill_feeder.specs.Parts.{part, place_at, state_of, room_for, with_room, byte_at, message_at}
 use Rattle.drill_feeder.specs.Lines.{more, message_counted}
@@ -37,15 +37,16 @@ use Rattle.drill_laws.proofs.laws.Turns.{room_left}
 use Rattle.drill_laws.specs.Stored.{Stored}
 use Rattle.wire.specs.declared.Message.TheVariants as message
 use Rattle.turn.specs.declared.Outcome.TheVariants as outcome
+use Rattle.settings.specs.declared.refusal.Refusal.{Refusal}
 
 module _ (w m : List ℕ) (c : Counts) (p : ℕ) (lo : 1 ≤ p) (hi : p ≤ 4) (h : Sound w m c) where
   -- a turn that would send, lent 140 bytes, finds them
-  would_send : (k : Message) → turn_outcome (state_of w p) 140 ≡ outcome.Sent k → c.sent < 1600
+  would_send : (k : Message) → turn_outcome (state_of w p) 140 ≡ Ok (outcome.Sent k) → c.sent < 1600
   would_send k e = go (way (state_of w p) (blank 140))
     where
       go : Way (state_of w p) (blank 140) → c.sent < 1600
       go (refused j r) =
-          let f : turn_outcome (state_of w p) 140 ≡ outcome.Refused j = ap (turn_outcome (state_of w p)) (sym (length_blank 140)) ∙ r.answer in
+          let f : turn_outcome (state_of w p) 140 ≡ Err j = ap (turn_outcome (state_of w p)) (sym (length_blank 140)) ∙ r.answer in
           absurd (let z : ◌≡◌ {A = ℕ} 0 1 = cc in omega arith)
       go (taken x t) = room_left w m c p lo hi h (blank 140) x t
 
@@ -53,7 +54,7 @@ module _ (w m : List ℕ) (c : Counts) (p : ℕ) (lo : 1 ≤ p) (hi : p ≤ 4) (
   unfolding room_for
   room_whole l = length_part m (44 * c.sent) 140 (omega (arith, h.store))
 
-  pub sent_counted : (k : Message) → c.sent < 1600 → (message_counted (outcome.Sent k) c).sent ≡ c.sent + 1
+  pub sent_counted : (k : Message) → c.sent < 1600 → (message_counted (Ok (outcome.Sent k)) c).sent ≡ c.sent + 1
   unfolding message_counted more
   sent_counted k l = rw (lt-ltb c.sent 1600 l)
 
@@ -78,7 +79,6 @@ module _ (x : Session) (s out : List ℕ) (t : Taken s out x) (few : word s n_at
 
   -- the message of an outcome has at most 44 bytes, and its values are there
   Short : Outcome → Type 0
-  Short (outcome.Refused k) = Unit {0}
   Short outcome.Idle = Unit {0}
   Short (outcome.Sent k) = (length_of k ≤ 44) × (besides k ≤ length (commit_due x.settings s))
   Short outcome.MovedOut = Unit {0}
@@ -148,14 +148,14 @@ module _ (m b rest : List ℕ) (sent v own session : ℕ) (k : Message) (xs : Li
   unfolding with_room
   places_kept j l g = part_below m (44 * sent) 140 (omega arith) b long (place_at j) 44 (omega arith)
 
-module _ (w m : List ℕ) (c : Counts) (p : ℕ) (lo : 1 ≤ p) (hi : p ≤ 4) (h : Sound w m c) (k : Message) (e : turn_outcome (state_of w p) 140 ≡ outcome.Sent k) where
+module _ (w m : List ℕ) (c : Counts) (p : ℕ) (lo : 1 ≤ p) (hi : p ≤ 4) (h : Sound w m c) (k : Message) (e : turn_outcome (state_of w p) 140 ≡ Ok (outcome.Sent k)) where
   left : c.sent < 1600
   left = would_send w m c p lo hi h k e
 
   whole : length (room_for m c.sent) ≡ 140
   whole = room_whole w m c p lo hi h left
 
-  answer : turn_outcome (state_of w p) (length (room_for m c.sent)) ≡ outcome.Sent k
+  answer : turn_outcome (state_of w p) (length (room_for m c.sent)) ≡ Ok (outcome.Sent k)
   answer = ap (turn_outcome (state_of w p)) whole ∙ e
 
   by_bytes : (x : Session) → x ≡ session_of (state_of w p) → length_of k ≤ 44 → besides k ≤ length (commit_due x.settings (state_of w p)) →
@@ -171,7 +171,7 @@ module _ (w m : List ℕ) (c : Counts) (p : ℕ) (lo : 1 ≤ p) (hi : p ≤ 4) (
       let long : length (turn_bytes (state_of w p) (room_for m c.sent)) ≡ 140 = ap length b ∙ length-append enc rest ∙ omega (arith, n, length-drop (length enc) (room_for m c.sent), whole) in
       record {
         room = whole;
-        counts = ap (λ (o : Outcome). (message_counted o c).sent) answer ∙ sent_counted w m c p lo hi h k left;
+        counts = ap (λ (o : Result Outcome Refusal). (message_counted o c).sent) answer ∙ sent_counted w m c p lo hi h k left;
         bytes =
             message_stored m (turn_bytes (state_of w p) (room_for m c.sent)) rest c.sent (version (state_of w p)) x.own x.number k xs h.store left values short b long
             ∙ ap (λ (y : Session). encode k (version (state_of w p)) y.own y.number (commit_due y.settings (state_of w p))) same;
@@ -183,7 +183,7 @@ module _ (w m : List ℕ) (c : Counts) (p : ℕ) (lo : 1 ≤ p) (hi : p ≤ 4) (
   of_way (refused j r) = absurd (let f = r.answer in let g = answer in let z : ◌≡◌ {A = ℕ} 0 1 = cc in omega arith)
   of_way (taken x t) =
       let few : word (state_of w p) n_at ≤ 4 = (h.few p lo hi).small in
-      let o : outcome_of x.own (state_of w p) (due x.settings (state_of w p)) ≡ outcome.Sent k = sym t.answer ∙ answer in
+      let o : outcome_of x.own (state_of w p) (due x.settings (state_of w p)) ≡ outcome.Sent k = same_outcome _ _ (sym t.answer ∙ answer) in
       let short : Short x (state_of w p) (room_for m c.sent) t few (outcome.Sent k) =
       subst (λ (y : Outcome). Short x (state_of w p) (room_for m c.sent) t few y) o (act_short x (state_of w p) (room_for m c.sent) t few (due x.settings (state_of w p)) t.told) in
       by_bytes x t.admits.same short.0 short.1 (t.bytes ∙ rw o)

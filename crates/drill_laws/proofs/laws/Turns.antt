@@ -1,6 +1,6 @@
 -- A turn keeps the memory sound, and what it sends is stored.
 use Prim.Native.Nat.{ℕ, ◌+◌, ◌*◌, ◌≤◌, ◌<◌}
-use Rattle.std.specs.Prelude.{Bool, cond, ◌≡◌, drop, ltb}
+use Rattle.std.specs.Prelude.{Bool, cond, ◌≡◌, drop, ltb, Result, Ok, Err}
 use Rattle.std.proofs.Math.Bool.{true, false}
 use Rattle.std.proofs.lemmas.Bool.{false≢true, lt-leb}
 use mathlib.Core.List.{List}
@@ -36,6 +36,7 @@ use Rattle.drill_feeder.specs.declared.Counts.{Counts}
 use Rattle.drill_laws.proofs.laws.States.{length_state_of, length_part, length_with_part}
 use Rattle.drill_laws.specs.Sound.{turns_of}
 use Rattle.drill_laws.proofs.laws.Sound.{Sound, sum_lt, replaced}
+use Rattle.settings.specs.declared.refusal.Refusal.{Refusal}
 
 -- a turn leaves as many bytes as it was lent
 module _ (x : Session) (s out : List ℕ) (room : 140 ≤ length out) where
@@ -73,18 +74,18 @@ length_room m b sent e = elim (dec_le (44 * sent + 140) (length m)) [
 ]
 
 -- the counts after a turn
-pub counted_more : (o : Outcome) (c : Counts) → ((message_counted o c).sent ≤ c.sent + 1) × (c.sent ≤ (message_counted o c).sent) × ((message_counted o c).offered ≡ c.offered)
+pub counted_more : (o : Result Outcome Refusal) (c : Counts) → ((message_counted o c).sent ≤ c.sent + 1) × (c.sent ≤ (message_counted o c).sent) × ((message_counted o c).offered ≡ c.offered)
 unfolding message_counted more
-counted_more (outcome.Refused k) c = (omega arith, omega arith, refl)
-counted_more outcome.Idle c = (omega arith, omega arith, refl)
-counted_more (outcome.Sent k) c = elim (dec_le 1600 c.sent) [
+counted_more (Err k) c = (omega arith, omega arith, refl)
+counted_more (Ok outcome.Idle) c = (omega arith, omega arith, refl)
+counted_more (Ok (outcome.Sent k)) c = elim (dec_le 1600 c.sent) [
   | yes l ↦ rw (le-ltb c.sent 1600 l) (omega arith, omega arith, refl)
   | no l ↦ rw (lt-ltb c.sent 1600 (omega arith)) (omega arith, omega arith, refl)
 ]
-counted_more outcome.MovedOut c = (omega arith, omega arith, refl)
-counted_more outcome.InForce c = (omega arith, omega arith, refl)
+counted_more (Ok outcome.MovedOut) c = (omega arith, omega arith, refl)
+counted_more (Ok outcome.InForce) c = (omega arith, omega arith, refl)
 
-idle_counts : (own : ℕ) (s : List ℕ) (a : Act) (c : Counts) → is_due a ≡ false → message_counted (outcome_of own s a) c ≡ c
+idle_counts : (own : ℕ) (s : List ℕ) (a : Act) (c : Counts) → is_due a ≡ false → message_counted (Ok (outcome_of own s a)) c ≡ c
 unfolding message_counted outcome_of
 idle_counts own s Idle c e = refl
 idle_counts own s InForce c e = absurd (false≢true (sym e))
@@ -114,10 +115,10 @@ module _ (w m : List ℕ) (c : Counts) (p : ℕ) (lo : 1 ≤ p) (hi : p ≤ 4) (
 
   -- the memory after an act that is due or not
   acted_sound : (x : Session) (a : Act) (b : List ℕ) → Placed a → turns_of w p < 400 → length b ≡ length (room_for m c.sent) → (d : Bool) → is_due a ≡ d →
-      Sound (with_state w p (applied (state_of w p) a)) (with_room m c.sent b) (message_counted (outcome_of x.own (state_of w p) a) c)
+      Sound (with_state w p (applied (state_of w p) a)) (with_room m c.sent b) (message_counted (Ok (outcome_of x.own (state_of w p) a)) c)
   unfolding turns_of
   acted_sound x a b l few e true f =
-      let o : Outcome = outcome_of x.own (state_of w p) a in
+      let o : Result Outcome Refusal = Ok (outcome_of x.own (state_of w p) a) in
       let k = counted_more o c in
       let t : word (applied (state_of w p) a) turns_at ≡ word (state_of w p) turns_at + 1 = applied_turns (state_of w p) a l (omega (arith, size)) f in
       replaced w m (with_room m c.sent b) c (message_counted o c) p 1 lo hi h (applied (state_of w p) a)

@@ -1,7 +1,7 @@
 -- The memory of a drill is sound at all times, whatever its input.
-use Rattle.std.specs.Prelude.{ℕ, ◌+◌, ◌-◌, ◌≤◌, ◌<◌, ◌^◌, Bool, true, false, cond, ◌&&◌, List, [], ◌∷◌, ◌≡◌, refl, length, drop, eqb, leb, ltb}
+use Rattle.std.specs.Prelude.{Option, Some, None, ℕ, ◌+◌, ◌-◌, ◌≤◌, ◌<◌, ◌^◌, Bool, true, false, cond, ◌&&◌, List, [], ◌∷◌, ◌≡◌, refl, length, drop, eqb, leb, ltb, Ok}
 use Rattle.std.proofs.lemmas.Bool.{false≢true}
-use Rattle.std.proofs.Common.{sym, ◌∙◌, arith, get_or-take, get_or-drop, length-take-le, le-leb, leb-true, eq-eqb, eqb-true}
+use Rattle.std.proofs.Common.{sym, ◌∙◌, arith, get_or-take, get_or-drop, length-take-le, le-leb, leb-true, eq-eqb}
 use Rattle.std.proofs.Math.Decide.{ℕ_discrete}
 use Rattle.quorum.specs.laws.Bools.{and_left, and_right}
 use Rattle.quorum.specs.Marks.{mark}
@@ -24,10 +24,10 @@ use Rattle.drill_feeder.specs.Parts.{part, state_at, state_of, with_state, messa
 use Rattle.drill_feeder.specs.Lines.{drill_arguments, opened_at, message_delivered, lied, Memory, memory}
 use Rattle.drill_feeder.specs.declared.Counts.{Counts}
 use Rattle.drill_feeder.specs.declared.Members.{Members}
-use Rattle.drill_core.specs.Judging.{is_first, is_setup, after_settings, is_bad, is_honest, is_liar, settings_open, settings_taken, judged_n, judged_c, judged_p, judged_t, judged_d, bytes_fit, judged_l, judged_r, judged}
+use Rattle.drill_core.specs.Judging.{is_first, is_setup, after_settings, is_bad, is_honest, is_liar, settings_open, settings_taken, judged_n, judged_c, judged_p, judged_t, judged_d, bytes_fit, judged_l, judged}
 use Rattle.drill_core.specs.Preparing.{settings_given, none_given, coin_given, input_given, arguments_with, opened_with, open_if, opened_all}
 use Rattle.drill_core.specs.Acting.{begun, called, World, world, setup_state, bad_state, running, acted, taken}
-use Rattle.drill_core.specs.Feeding.{start_drill, next_line, with_byte, Drilling, drilling, settled, ended, fed_byte, fed_bytes, last_line, all_open, at_end, start_drilling}
+use Rattle.drill_core.specs.Feeding.{start_drill, next_line, with_byte, Drilling, drilling, settled, ended, fed_byte, fed_bytes, has_byte, last_line, all_open, at_end, start_drilling}
 use Rattle.drill_core.specs.declared.Phase.{Phase}
 use Rattle.drill_core.specs.declared.Phase.TheVariants as phase
 use Rattle.drill_core.specs.declared.Given.{Given}
@@ -41,6 +41,8 @@ use Rattle.drill_laws.specs.Sound.{turns_of}
 use Rattle.drill_laws.proofs.laws.Sound.{Drilled, Sound, deliver_sound}
 use Rattle.drill_laws.proofs.laws.Turns.{SoundIn, turned_sound}
 use Rattle.drill_laws.proofs.laws.Runs.{steps_keep, if_keep, ran_sound}
+use Rattle.std.specs.Result.{is_ok}
+use Rattle.settings.specs.laws.Answers.{true_taken}
 
 -- before a message is sent a state may be replaced by any that is within the bounds
 reset : (w m : List ℕ) (c : Counts) (p : ℕ) → 1 ≤ p → p ≤ 4 → Sound w m c → c.sent ≡ 0 → (s : List ℕ) → length s ≡ 2048 → Drilled s → word s turns_at ≤ 400 →
@@ -65,7 +67,7 @@ reset w m c p lo hi h z s size n turns =
 
 open_sound : (w m : List ℕ) (c : Counts) (o : Arguments) → 1 ≤ o.own → o.own ≤ 4 → o.n ≤ 4 → o.version ≤ 1 → Sound w m c → c.sent ≡ 0 → Sound (opened_at w o) m c
 unfolding opened_at opened turns_of
-open_sound w m c o lo hi few one h z = go (eqb (open_answer (length (state_of w o.own)) o) 0)
+open_sound w m c o lo hi few one h z = go (is_ok (open_answer (length (state_of w o.own)) o))
   where
     go : (b : Bool) → Sound (with_state w o.own (cond b (open_words o) (state_of w o.own))) m c
     go true = reset w m c o.own lo hi h z (open_words o) (length_first o) (record { small = rw first_n few; first = rw (first_version o (omega arith)) one }) (rw first_turns (omega arith))
@@ -117,15 +119,15 @@ SoundWorld (world w m s) = SoundState w m s
 abbrev CallAllowed : Members → Call → Type 0
 CallAllowed g (call.Turn p) = (1 ≤ p) × (p ≤ g.n)
 CallAllowed g (call.Deliver k q) = (1 ≤ q) × (q ≤ g.n)
-CallAllowed g (call.Lie p q kind instance round value) = (1 ≤ q) × (q ≤ g.n)
+CallAllowed g (call.Lie q l) = (1 ≤ q) × (q ≤ g.n)
 CallAllowed g call.Run = Unit {0}
 
-abbrev Allowed : State → Verdict → Type 0
-Allowed s verdict.Bad = Unit {0}
-Allowed s (verdict.Settings n ta ts session) = (is_first s.phase ≡ true) × (settings_taken n ta ts session ≡ true)
-Allowed s (verdict.Coin i w) = is_setup s.phase ≡ true
-Allowed s (verdict.Input p v) = is_setup s.phase ≡ true
-Allowed s (verdict.Call a) = (after_settings s.phase ≡ true) × CallAllowed s.given.members a
+abbrev Allowed : State → Option Verdict → Type 0
+Allowed s None = Unit {0}
+Allowed s (Some (verdict.Settings n ta ts session)) = (is_first s.phase ≡ true) × (settings_taken n ta ts session ≡ true)
+Allowed s (Some (verdict.Coin i w)) = is_setup s.phase ≡ true
+Allowed s (Some (verdict.Input p v)) = is_setup s.phase ≡ true
+Allowed s (Some (verdict.Call a)) = (after_settings s.phase ≡ true) × CallAllowed s.given.members a
 
 when_keep : {A : Type 0} (P : A → Type 0) (b : Bool) (u v : A) → (b ≡ true → P u) → P v → P (cond b u v)
 when_keep P true u v f q = f refl
@@ -148,37 +150,37 @@ unfolding settings_taken
 taken_few n ta ts session e =
     leb-true n 4 (and_right (settings_open n ta ts) (leb n 4) (and_left (settings_open n ta ts && leb n 4) (ltb session (2 ^ 32)) e))
 
-judged_allowed : (s : State) (l : Line) → Allowed s (judged s l)
-unfolding judged judged_n judged_c judged_p judged_t judged_d judged_l judged_r
-judged_allowed s line.Bad = tt
-judged_allowed s (line.N n ta ts session) =
+judged_allowed : (s : State) (l : Option Line) → Allowed s (judged s l)
+unfolding judged judged_n judged_c judged_p judged_t judged_d judged_l
+judged_allowed s None = tt
+judged_allowed s (Some (line.N n ta ts session)) =
     when_keep (Allowed s) (is_first s.phase) _ _ (λ e. when_keep (Allowed s) (settings_taken n ta ts session) _ _ (λ f. (e, f)) tt) tt
-judged_allowed s (line.C i w) =
+judged_allowed s (Some (line.C i w)) =
     when_keep (Allowed s) (is_setup s.phase) _ _
     (λ e. when_keep (Allowed s) (numbered s.given.members.n i) _ _
     (λ f. when_keep (Allowed s) (mark s.given.named i) _ _ (λ h. tt)
     (when_keep (Allowed s) (ltb w (2 ^ 32)) _ _ (λ h. e) tt)) tt) tt
-judged_allowed s (line.P p v) =
+judged_allowed s (Some (line.P p v)) =
     when_keep (Allowed s) (is_setup s.phase) _ _ (λ e. when_keep (Allowed s) (is_liar s.given.members p) _ _ (λ f. e) tt) tt
-judged_allowed s (line.T p) =
+judged_allowed s (Some (line.T p)) =
     when_keep (Allowed s) (after_settings s.phase) _ _ (λ e. when_keep (Allowed s) (is_honest s.given.members p) _ _ (λ f. (e, honest_bounds s.given.members p f)) tt) tt
-judged_allowed s (line.D k q) =
+judged_allowed s (Some (line.D k q)) =
     when_keep (Allowed s) (after_settings s.phase) _ _
     (λ e. when_keep (Allowed s) (numbered s.counts.sent k) _ _
     (λ f. when_keep (Allowed s) (is_honest s.given.members q) _ _ (λ h. (e, honest_bounds s.given.members q h)) tt) tt) tt
-judged_allowed s (line.L p q kind instance round value) =
+judged_allowed s (Some (line.L l)) =
     when_keep (Allowed s) (after_settings s.phase) _ _
-    (λ e. when_keep (Allowed s) (is_liar s.given.members p) _ _
-    (λ f. when_keep (Allowed s) (is_honest s.given.members q) _ _
-    (λ h. when_keep (Allowed s) (bytes_fit kind instance round) _ _ (λ k. (e, honest_bounds s.given.members q h)) tt) tt) tt) tt
-judged_allowed s line.R = when_keep (Allowed s) (after_settings s.phase) _ _ (λ e. (e, tt)) tt
+    (λ e. when_keep (Allowed s) (is_liar s.given.members l.p) _ _
+    (λ f. when_keep (Allowed s) (is_honest s.given.members l.q) _ _
+    (λ h. when_keep (Allowed s) (bytes_fit l.kind l.instance l.round) _ _ (λ k. (e, honest_bounds s.given.members l.q h)) tt) tt) tt) tt
+judged_allowed s (Some line.R) = when_keep (Allowed s) (after_settings s.phase) _ _ (λ e. (e, tt)) tt
 
 -- calls
 called_sound : (g : Given) (a : Call) (x : Memory) → g.members.n ≤ 4 → CallAllowed g.members a → SoundIn x → SoundIn (called g a x)
 unfolding called message_delivered lied
 called_sound g (call.Turn p) x few l h = turned_sound x p l.0 (omega (arith, l.1)) h
 called_sound g (call.Deliver k q) (memory w m c) few l h = deliver_sound w m (message_at m k) c q (sender_at m k) l.0 (omega (arith, l.1)) h
-called_sound g (call.Lie p q kind instance round value) (memory w m c) few l h = deliver_sound w m _ c q p l.0 (omega (arith, l.1)) h
+called_sound g (call.Lie q x) (memory w m c) few l h = deliver_sound w m _ c q x.p l.0 (omega (arith, l.1)) h
 called_sound g call.Run x few l h = ran_sound g.members few 1601 x h
 
 pub begun_sound : (x : Phase) (g : Given) (w m : List ℕ) (c : Counts) → g.members.n ≤ 4 → (has_run x ≡ false → c.sent ≡ 0) → Sound w m c → Sound (begun x g w) m c
@@ -204,36 +206,36 @@ input_openable : (g : Given) (p v : ℕ) → Openable g → Openable (input_give
 unfolding input_given
 input_openable g p v h = record { settings = h.settings; coins = h.coins }
 
-acted_sound : (v : Verdict) (w m : List ℕ) (s : State) → Allowed s v → SoundState w m s → SoundWorld (acted v (world w m s))
+acted_sound : (v : Option Verdict) (w m : List ℕ) (s : State) → Allowed s v → SoundState w m s → SoundWorld (acted v (world w m s))
 unfolding acted bad_state setup_state settings_given coin_given input_given has_run after_settings
-acted_sound verdict.Bad w m s l h =
+acted_sound None w m s l h =
     record { sound = h.sound; few = h.few; early = λ e. absurd (false≢true (sym e)); opens = λ e. absurd (false≢true e) }
-acted_sound (verdict.Settings n ta ts session) w m s l h =
+acted_sound (Some (verdict.Settings n ta ts session)) w m s l h =
     record {
       sound = h.sound;
       few = taken_few n ta ts session l.1;
       early = λ e. h.early (first_early s.phase l.0);
       opens = λ e. record { settings = taken_open n ta ts session l.1; coins = refl };
     }
-acted_sound (verdict.Coin i k) w m s l h =
+acted_sound (Some (verdict.Coin i k)) w m s l h =
     record {
       sound = h.sound;
       few = h.few;
       early = λ e. h.early (setup_early s.phase l);
       opens = λ e. coin_openable s.given i k (h.opens (setup_after s.phase l));
     }
-acted_sound (verdict.Input p v) w m s l h =
+acted_sound (Some (verdict.Input p v)) w m s l h =
     record {
       sound = h.sound;
       few = h.few;
       early = λ e. h.early (setup_early s.phase l);
       opens = λ e. input_openable s.given p v (h.opens (setup_after s.phase l));
     }
-acted_sound (verdict.Call a) w m s l h =
+acted_sound (Some (verdict.Call a)) w m s l h =
     running_sound s.given _ h.few (h.opens l.0)
     (called_sound s.given a (memory (begun s.phase s.given w) m s.counts) h.few l.1 (begun_sound s.phase s.given w m s.counts h.few h.early h.sound))
 
-taken_sound : (l : Line) (x : World) → SoundWorld x → SoundWorld (taken l x)
+taken_sound : (l : Option Line) (x : World) → SoundWorld x → SoundWorld (taken l x)
 unfolding taken
 taken_sound l (world w m s) h = acted_sound (judged s l) w m s (judged_allowed s l) h
 
@@ -261,7 +263,7 @@ all_fed_sound x (c ∷ b) h = all_fed_sound (fed_byte x c) b (fed_sound x c h)
 
 last_sound : (x : Drilling) → SoundDrill x → SoundDrill (last_line x)
 unfolding last_line
-last_sound (drilling w m d) h = if_keep SoundDrill d.begun _ _ (ended_sound (drilling w m d) h) h
+last_sound (drilling w m d) h = if_keep SoundDrill (has_byte d.reader) _ _ (ended_sound (drilling w m d) h) h
 
 all_open_sound : (x : Drilling) → SoundDrill x → SoundDrill (all_open x)
 unfolding all_open
@@ -310,10 +312,10 @@ input_sound input = all_fed_sound start_drilling input start_sound
 
 -- the openings of the honest ones are accepted
 pub opening_accepted : (w : List ℕ) (g : Given) (p : ℕ) → length w ≡ 8192 → g.members.n ≤ 4 → Openable g → 1 ≤ p → p ≤ g.members.n →
-    open_answer (length (state_of w p)) (arguments_with g p (word g.inputs (p - 1)) g.coins) ≡ 0
+    open_answer (length (state_of w p)) (arguments_with g p (word g.inputs (p - 1)) g.coins) ≡ Ok tt
 unfolding settings_open open_answer version_known coins_given numbered
 opening_accepted w g p size few o lo hi =
     let n : ℕ = g.members.n in
     let first : Arguments = drill_arguments n g.ta g.ts 1 0 0 (blank n) in
-    let v = (accepted 2048 first (eqb-true (open_answer 2048 first) 0 o.settings)).valid in
+    let v = (accepted 2048 first (true_taken (open_answer 2048 first) o.settings)).valid in
     rw (length_state_of w p size lo (omega arith), v, le-leb 1 p lo, le-leb p n hi, le-leb n 16 (omega arith), length-take-le n g.coins (omega (arith, o.coins)), eq-eqb n n refl)

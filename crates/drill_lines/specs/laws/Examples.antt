@@ -1,16 +1,16 @@
 -- Some lines and texts, by computing.
-use Rattle.std.specs.Prelude.{ℕ, List, [], ◌∷◌, ◌≡◌, refl}
+use Rattle.std.specs.Prelude.{ℕ, List, [], ◌∷◌, ◌≡◌, refl, Option, Some, None}
 use Rattle.text.specs.Fields.{in_front, fields, letter}
 use Rattle.text.specs.Numbers.{digit_of, base_of, all_digits, value_from, value_of, complete, right, all_right, values_of}
-use Rattle.drill_lines.specs.Grammar.{line_or, line_n, line_c, line_p, line_t, line_d, line_l, line_r, by_kind, by_letter, line_of_fields, line_of}
+use Rattle.drill_lines.specs.Grammar.{line_or, line_n, line_c, line_p, line_t, line_d, line_l, line_r, letter_of, by_letter, line_of_fields, line_of}
 use Rattle.text.specs.Numbers.{decimal_in, decimal_text, hex_text}
 use Rattle.text.specs.Fields.{each_text}
-use Rattle.drill_lines.specs.Text.{comma_text, values_text, field_text, result_line, end_text, sent_line, bad_line}
+use Rattle.drill_lines.specs.Text.{comma_text, values_text, number_text, result_line, sent_line, bad_line}
 use Rattle.drill_lines.specs.declared.Line.{Line}
-use Rattle.drill_lines.specs.declared.Line.TheVariants.{Bad, N, C, P, T, D, L, R}
+use Rattle.drill_lines.specs.declared.Line.TheVariants.{N, C, P, T, D, L, R}
 
 -- the lines of a list of inputs
-lines_of : List (List ℕ) → List Line
+lines_of : List (List ℕ) → List (Option Line)
 lines_of [] = []
 lines_of (b ∷ bs) = line_of b ∷ lines_of bs
 
@@ -32,8 +32,8 @@ lines_taken_lem :
     ∷ (76 ∷ 9 ∷ 52 ∷ 9 ∷ 49 ∷ 9 ∷ 53 ∷ 9 ∷ 50 ∷ 9 ∷ 49 ∷ 9 ∷ 49 ∷ 56 ∷ 52 ∷ 52 ∷ 54 ∷ 55 ∷ 52 ∷ 52 ∷ 48 ∷ 55 ∷ 51 ∷ 55 ∷ 48 ∷ 57 ∷ 53 ∷ 53 ∷ 49 ∷ 54 ∷ 49 ∷ 53 ∷ [])
     ∷ []
     )
-    ≡ N 4 1 1 7 ∷ R ∷ T 1 ∷ C 2 15 ∷ P 1 5 ∷ D 12 3 ∷ L 4 1 5 2 1 18446744073709551615 ∷ []
-unfolding lines_of in_front fields digit_of base_of all_digits value_from value_of complete right all_right values_of line_or line_n line_c line_p line_t line_d line_l line_r letter by_kind by_letter line_of_fields line_of
+    ≡ Some (N 4 1 1 7) ∷ Some R ∷ Some (T 1) ∷ Some (C 2 15) ∷ Some (P 1 5) ∷ Some (D 12 3) ∷ Some (L (record { p = 4; q = 1; kind = 5; instance = 2; round = 1; value = 18446744073709551615 })) ∷ []
+unfolding lines_of in_front fields digit_of base_of all_digits value_from value_of complete right all_right values_of line_or line_n line_c line_p line_t line_d line_l line_r letter letter_of by_letter line_of_fields line_of
 lines_taken_lem = refl
 
 lines_bad :
@@ -66,8 +66,8 @@ lines_bad :
     ∷ (9 ∷ 49 ∷ [])
     ∷ []
     )
-    ≡ Bad ∷ Bad ∷ Bad ∷ Bad ∷ Bad ∷ Bad ∷ Bad ∷ Bad ∷ Bad ∷ Bad ∷ Bad ∷ Bad ∷ Bad ∷ []
-unfolding lines_of in_front fields digit_of base_of all_digits value_from value_of complete right all_right values_of line_or line_n line_c line_p line_t line_d line_l line_r letter by_kind by_letter line_of_fields line_of
+    ≡ None ∷ None ∷ None ∷ None ∷ None ∷ None ∷ None ∷ None ∷ None ∷ None ∷ None ∷ None ∷ None ∷ []
+unfolding lines_of in_front fields digit_of base_of all_digits value_from value_of complete right all_right values_of line_or line_n line_c line_p line_t line_d line_l line_r letter letter_of by_letter line_of_fields line_of
 lines_bad = refl
 
 texts :
@@ -94,5 +94,5 @@ texts :
     ∷ (98 ∷ 97 ∷ 100 ∷ 9 ∷ 49 ∷ 56 ∷ 52 ∷ 52 ∷ 54 ∷ 55 ∷ 52 ∷ 52 ∷ 48 ∷ 55 ∷ 51 ∷ 55 ∷ 48 ∷ 57 ∷ 53 ∷ 53 ∷ 49 ∷ 54 ∷ 49 ∷ 53 ∷ 10 ∷ [])
     ∷ []
     )
-unfolding decimal_in decimal_text hex_text comma_text each_text values_text field_text result_line end_text sent_line bad_line
+unfolding decimal_in decimal_text hex_text comma_text each_text values_text number_text result_line sent_line bad_line
 texts = refl

@@ -3,7 +3,7 @@ use Rattle.std.specs.Prelude.{ℕ, zero, suc, ◌<◌, List, [], ◌∷◌, refl
 use Rattle.std.proofs.Common.{arith, Fits}
 use Rattle.std.specs.Int.{w8, w32, w64}
 use Rattle.records.specs.Words.{word}
-use Rattle.opening.specs.Arguments.{arguments}
+use Rattle.opening.specs.Arguments.{Arguments}
 use Rattle.engine_calls.specs.Answers.{OpeningOf, BytesOf}
 
 pub bytes_of : (list : List ℕ) (room : ℕ) → ((i : ℕ) → Fits w8 (get_or list i 0)) → BytesOf list room
@@ -14,19 +14,17 @@ bytes_of list room h =
       line = refl;
     }
 
-pub opening_of : (version n ta ts own session input : ℕ) (coins weights : List ℕ) (boxed room : ℕ) →
-    Fits w32 session → Fits w64 input → ((i : ℕ) → Fits w32 (get_or coins i 0)) → OpeningOf (arguments version n ta ts own session input coins weights boxed) room
+-- numbers of an opening within their types
+pub record InTypes (session input : ℕ) (coins : List ℕ) : Type 0 where
+  pub session_fits : Fits w32 session
+  pub input_fits : Fits w64 input
+  pub coins_fit : (i : ℕ) → Fits w32 (get_or coins i 0)
+
+pub opening_of : (o : Arguments) (room : ℕ) → InTypes o.session o.input o.coins → OpeningOf o room
 unfolding word
-opening_of version n ta ts own session input coins weights boxed room s v h =
+opening_of o room t =
     record {
-      opening =
-          record {
-            given = arguments version n ta ts own session input coins weights boxed;
-            line = room;
-            session_fits = s.fits;
-            input_fits = v.fits;
-            coins_fit = λ i. (h i).fits;
-          };
+      opening = record { given = o; line = room; session_fits = t.session_fits.fits; input_fits = t.input_fits.fits; coins_fit = λ i. (t.coins_fit i).fits };
       given = refl;
       line = refl;
     }

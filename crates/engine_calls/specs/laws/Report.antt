@@ -1,5 +1,5 @@
 -- A report that gives figures shows the sets that one lent 16 words for each would show.
-use Rattle.std.specs.Prelude.{ℕ, ◌≤◌, true, List, ◌≢◌, ◌≡◌, refl, length, take}
+use Rattle.std.specs.Prelude.{ℕ, ◌≤◌, true, List, ◌≢◌, ◌≡◌, refl, length, take, Result, Ok, Err}
 use Rattle.std.proofs.Common.{sym, ap, ◌∙◌, arith}
 use Rattle.records.specs.Words.{blank}
 use Rattle.records.specs.laws.Fill.{length_blank}
@@ -10,27 +10,25 @@ use Rattle.wire.specs.Message.{at_front}
 use Rattle.report.specs.Report.{figures_of, in_force_set, admits, giving, report_answer, report_named, report_in_force}
 use Rattle.report.specs.laws.Report.{Reported, reported, admitting, report_gives, report_names, report_enforces, front_read}
 use Rattle.report.specs.declared.Figures.{Figures}
-use Rattle.report.specs.declared.Admitted.{Admitted}
-use Rattle.report.specs.declared.Admitted.TheVariants as admitted
-use Rattle.report.specs.declared.Answer.{Answer}
-use Rattle.report.specs.declared.Answer.TheVariants.{Refused, Given}
 use Rattle.calls.specs.Engine.{ReportNames, ReportEnforces}
 use Rattle.engine_calls.specs.Answers.{ReportsAs}
+use Rattle.settings.specs.declared.Settings.{Settings}
+use Rattle.settings.specs.declared.refusal.Refusal.{Refusal}
 
 -- a set is read from the front of the words that were lent for it
 set_read : (k : ℕ) (xs old all : List ℕ) → all ≡ at_front xs old → k ≡ length xs → take k all ≡ xs
 set_read k xs old all f h = ap (take k) f ∙ ap (λ (n : ℕ). take n (at_front xs old)) h ∙ front_read xs old
 
 -- figures are given only where there is room for both sets
-given_room : (w : List ℕ) (a b : ℕ) (f : Figures) → report_answer w a b ≡ Given f → (16 ≤ a) × (16 ≤ b)
+given_room : (w : List ℕ) (a b : ℕ) (f : Figures) → report_answer w a b ≡ Ok f → (16 ≤ a) × (16 ≤ b)
 unfolding giving report_answer
 given_room w a b f e = of (admits w a b) refl e
   where
-    of : (v : Admitted) → admits w a b ≡ v → giving v Refused (λ g. Given (figures_of g w)) ≡ Given f → (16 ≤ a) × (16 ≤ b)
-    of (admitted.Refused k) t h = absurd (let z : ◌≡◌ {A = ℕ} 0 1 = cc in omega arith)
-    of (admitted.Open g) t h = ((admitting w a b g t).named_room, (admitting w a b g t).in_force_room)
+    of : (v : Result Settings Refusal) → admits w a b ≡ v → giving v Err (λ g. Ok (figures_of g w)) ≡ Ok f → (16 ≤ a) × (16 ≤ b)
+    of (Err k) t h = absurd (let z : ◌≡◌ {A = ℕ} 0 1 = cc in omega arith)
+    of (Ok g) t h = ((admitting w a b g t).named_room, (admitting w a b g t).in_force_room)
 
-module _ (w named by_in_force : List ℕ) (f : Figures) (e : report_answer w (length named) (length by_in_force) ≡ Given f) where
+module _ (w named by_in_force : List ℕ) (f : Figures) (e : report_answer w (length named) (length by_in_force) ≡ Ok f) where
   told : Reported w f
   told = reported w (length named) (length by_in_force) f e
 
@@ -40,8 +38,8 @@ module _ (w named by_in_force : List ℕ) (f : Figures) (e : report_answer w (le
   room : (16 ≤ length named) × (16 ≤ length by_in_force)
   room = given_room w (length named) (length by_in_force) f e
 
-  with_sixteen : report_answer w 16 16 ≡ Given f
-  with_sixteen = report_gives w is 16 16 (omega arith) (omega arith) ∙ ap Given (sym told.same)
+  with_sixteen : report_answer w 16 16 ≡ Ok f
+  with_sixteen = report_gives w is 16 16 (omega arith) (omega arith) ∙ ap Ok (sym told.same)
 
   sixteen_blank : 16 ≤ length (blank 16)
   sixteen_blank = omega (arith, length_blank 16)
@@ -80,7 +78,7 @@ module _ (w named by_in_force : List ℕ) (f : Figures) (e : report_answer w (le
             ∙ sym (in_force_read (blank 16) (report_in_force w 16 (blank 16)) (report_enforces w is 16 (blank 16) (omega arith) sixteen_blank));
       }
 
-pub reports_by : (w named by_in_force : List ℕ) (r : Answer) (named' in_force' : List ℕ) →
+pub reports_by : (w named by_in_force : List ℕ) (r : Result Figures Refusal) (named' in_force' : List ℕ) →
     r ≡ report_answer w (length named) (length by_in_force) → named' ≡ report_named w named (length by_in_force) → in_force' ≡ report_in_force w (length named) by_in_force →
     ReportsAs w r named' in_force'
 reports_by w named by_in_force r named' in_force' e p q =

@@ -1,7 +1,7 @@
 -- Two standings that contradict each other nowhere name the same set.
 use Prim.Native.Nat.{ℕ, ◌+◌, ◌*◌, ◌<◌, ◌≤◌}
 use Rattle.std.proofs.Math.Bool.{Bool, not}
-use Rattle.std.specs.Prelude.{true, false, ◌&&◌, ◌||◌, List, [], ◌∷◌, ◌≡◌, refl, leb}
+use Rattle.std.specs.Prelude.{true, false, ◌&&◌, ◌||◌, List, [], ◌∷◌, ◌≡◌, refl, leb, Option, Some, None}
 use Rattle.std.proofs.lemmas.Bool.{false≢true}
 use Rattle.std.proofs.Math.Path.{sym}
 use Rattle.std.proofs.Common.{ap, ◌∙◌, arith, leb-true, lt-ltb, eqb-true, eq-eqb}
@@ -19,8 +19,6 @@ use Rattle.quorum.specs.laws.Lowest.{lowest_none}
 use Rattle.quorum.specs.Every.{every}
 use Rattle.quorum.specs.laws.Every.{every_each}
 use Rattle.broadcasts.specs.Leading.{present}
-use Rattle.broadcasts.specs.declared.Output.{Output}
-use Rattle.broadcasts.specs.declared.Output.TheVariants.{Value, Nothing}
 use Rattle.exits.specs.Exits.{Exit, no_exit, has_value, value_in, with_output, size_s, exit2_at, exit3_full, votes_done, insert_output, outputs_of_s}
 use Rattle.exits.specs.Standing.{Standing, exit_at}
 use Rattle.exits.specs.laws.Stated.{single_exit, outputs_exit}
@@ -30,7 +28,7 @@ use Rattle.exits.proofs.laws.Exits.{given}
 
 -- no output and no decision of one contradicts one of the other
 pub record Compatible (n : ℕ) (s t : Standing) : Type 0 where
-  pub outs : (i u v : ℕ) → 1 ≤ i → i ≤ n → s.out i ≡ Value u → t.out i ≡ Value v → u ≡ v
+  pub outs : (i u v : ℕ) → 1 ≤ i → i ≤ n → s.out i ≡ Some u → t.out i ≡ Some v → u ≡ v
   pub one_zero : (i : ℕ) → 1 ≤ i → i ≤ n → s.as1 i ≡ true → t.as0 i ≡ true → ⊥
   pub zero_one : (i : ℕ) → 1 ≤ i → i ≤ n → s.as0 i ≡ true → t.as1 i ≡ true → ⊥
 
@@ -42,11 +40,11 @@ turned c =
       zero_one = λ i a b x y. c.one_zero i a b y x;
     }
 
-pub has_value_lem : (x : Output) (v : ℕ) → has_value x v ≡ true → x ≡ Value v
-has_value_lem (Value u) v e = ap Value (eqb-true u v e)
-has_value_lem Nothing v e = absurd (false≢true e)
+pub has_value_lem : (x : Option ℕ) (v : ℕ) → has_value x v ≡ true → x ≡ Some v
+has_value_lem (Some u) v e = ap Some (eqb-true u v e)
+has_value_lem None v e = absurd (false≢true e)
 
-pub value_has : (x : Output) (v : ℕ) → x ≡ Value v → has_value x v ≡ true
+pub value_has : (x : Option ℕ) (v : ℕ) → x ≡ Some v → has_value x v ≡ true
 value_has x v e = rw e (eq-eqb v v refl)
 
 -- of two tests of which one passes, not the first: the second
@@ -60,9 +58,9 @@ both_same true false f k = sym (f refl)
 both_same false true f k = k refl
 both_same false false f k = refl
 
-insert_same : (b c : Bool) (x y : Output) (xs : List ℕ) → b ≡ c → (b ≡ true → x ≡ y) → insert_output b x xs ≡ insert_output c y xs
+insert_same : (b c : Bool) (x y : Option ℕ) (xs : List ℕ) → b ≡ c → (b ≡ true → x ≡ y) → insert_output b x xs ≡ insert_output c y xs
 unfolding insert_output
-insert_same true true x y xs e f = ap (λ (z : Output). insert_output true z xs) (f refl)
+insert_same true true x y xs e f = ap (λ (z : Option ℕ). insert_output true z xs) (f refl)
 insert_same true false x y xs e f = absurd (false≢true (sym e))
 insert_same false true x y xs e f = absurd (false≢true e)
 insert_same false false x y xs e f = refl
@@ -107,7 +105,7 @@ module _ (g : Settings) where
     unfolding votes_done
     done_decided d i a b = every_each (λ k. s.as0 k || s.as1 k) g.n (and_right (leb (vote_quorum g) (size_s g s.as1)) (every (λ k. s.as0 k || s.as1 k) g.n) d) i a b
 
-    pub full_given : Full s → (i : ℕ) → 1 ≤ i → i ≤ g.n → s.as1 i ≡ true → s.out i ≡ Value (value_in (s.out i))
+    pub full_given : Full s → (i : ℕ) → 1 ≤ i → i ≤ g.n → s.as1 i ≡ true → s.out i ≡ Some (value_in (s.out i))
     unfolding exit3_full
     full_given f i a b t = given (s.as1 i) (s.out i) (every_each (λ k. not (s.as1 k) || present (s.out k)) g.n f i a b) t
 
@@ -122,7 +120,7 @@ module _ (g : Settings) where
         at : Member g.n (both s v) → ⊥
         at m =
             let chosen : s.as1 m.at ≡ true = and_left (s.as1 m.at) (holding s v m.at) m.holds in
-            let output : s.out m.at ≡ Value v = has_value_lem (s.out m.at) v (and_right (s.as1 m.at) (holding s v m.at) m.holds) in
+            let output : s.out m.at ≡ Some v = has_value_lem (s.out m.at) v (and_right (s.as1 m.at) (holding s v m.at) m.holds) in
             let fails : test m.at ≡ false = lowest_none test g.n z m.at m.low m.high in
             let passes : test m.at ≡ true = rw (chosen, output) (lt-ltb (C s.as1) (2 * C (both s v)) l) in
             false≢true (sym fails ∙ passes)
@@ -145,9 +143,9 @@ module _ (g : Settings) (s t : Standing) (c : Compatible g.n s t) where
   -- t has all outputs of its S: where s has output v there, so has t
   carried : Full g t → (v i : ℕ) → 1 ≤ i → i ≤ g.n → t.as1 i ≡ true → holding s v i ≡ true → both t v i ≡ true
   carried f v i a b x y =
-      let output : t.out i ≡ Value (value_in (t.out i)) = full_given g t f i a b x in
+      let output : t.out i ≡ Some (value_in (t.out i)) = full_given g t f i a b x in
       let e : v ≡ value_in (t.out i) = c.outs i v (value_in (t.out i)) a b (has_value_lem (s.out i) v y) output in
-      and_both (t.as1 i) (holding t v i) x (value_has (t.out i) v (output ∙ ap Value (sym e)))
+      and_both (t.as1 i) (holding t v i) x (value_has (t.out i) v (output ∙ ap Some (sym e)))
 
 module _ (g : Settings) (r : Ruled g) (s t : Standing) (c : Compatible g.n s t) where
   whole : weighed g everyone ≡ g.whole
@@ -212,10 +210,10 @@ module _ (g : Settings) (r : Ruled g) (s t : Standing) (c : Compatible g.n s t) 
         where
           same : s.as1 i ≡ true → s.out i ≡ t.out i
           same k =
-              let x : s.out i ≡ Value (value_in (s.out i)) = full_given g s f i a b k in
-              let y : t.out i ≡ Value (value_in (t.out i)) = full_given g t h i a b (into_s g s t c e i a b k) in
+              let x : s.out i ≡ Some (value_in (s.out i)) = full_given g s f i a b k in
+              let y : t.out i ≡ Some (value_in (t.out i)) = full_given g t h i a b (into_s g s t c e i a b k) in
               let q : value_in (s.out i) ≡ value_in (t.out i) = c.outs i (value_in (s.out i)) (value_in (t.out i)) a b x y in
-              x ∙ ap Value q ∙ sym y
+              x ∙ ap Some q ∙ sym y
 
 -- a way that names a set: the set, and what stands behind it
 pub data Naming (g : Settings) (s : Standing) (X : List ℕ) : Type 0 where

@@ -1,5 +1,5 @@
 -- What the layers above use of the exits.
-use Rattle.std.specs.Prelude.{ℕ, ◌*◌, ◌≤◌, Bool, ◌&&◌, ◌||◌, ◌≡◌}
+use Rattle.std.specs.Prelude.{ℕ, ◌*◌, ◌≤◌, Bool, ◌&&◌, ◌||◌, ◌≡◌, Option, Some, None}
 use Rattle.std.proofs.Math.Bool.{true, false, not, cond}
 use Rattle.std.proofs.lemmas.Bool.{false≢true}
 use mathlib.Core.List.{[], ◌∷◌}
@@ -16,8 +16,6 @@ use Rattle.quorum.specs.laws.Lowest.{lowest_agree, lowest_le}
 use Rattle.quorum.specs.Every.{every}
 use Rattle.quorum.specs.laws.Every.{every_agree}
 use Rattle.broadcasts.specs.Leading.{present}
-use Rattle.broadcasts.specs.declared.Output.{Output}
-use Rattle.broadcasts.specs.declared.Output.TheVariants.{Value, Nothing}
 use Rattle.exits.specs.Exits.{Exit, no_exit, naming, has_value, value_in, every_broadcast, with_output, size_s, exit1_at, exit2_at, exit3_full, exit3, exit_of, votes_done}
 use Rattle.exits.specs.laws.Stated.{single_exit, outputs_exit}
 use Rattle.exits.specs.laws.Rising.{Rising, outputs_rising, outputs_few, outputs_agree}
@@ -27,12 +25,12 @@ pub number_clash : (x y : Exit) → x ≡ y → (x.number ≡ y.number → ⊥) 
 number_clash x y e f = f (ap (λ (z : Exit). z.number) e)
 
 -- a broadcast that has to have output has one
-pub given : (b : Bool) (x : Output) → not b || present x ≡ true → b ≡ true → x ≡ Value (value_in x)
-given true (Value v) e t = refl
-given true Nothing e t = absurd (false≢true e)
+pub given : (b : Bool) (x : Option ℕ) → not b || present x ≡ true → b ≡ true → x ≡ Some (value_in x)
+given true (Some v) e t = refl
+given true None e t = absurd (false≢true e)
 given false x e t = absurd (false≢true t)
 
-module _ (g : Settings) (o : ℕ → Output) (as0 as1 : ℕ → Bool) where
+module _ (g : Settings) (o : ℕ → Option ℕ) (as0 as1 : ℕ → Bool) where
   abbrev answer : Exit
   answer = exit_of g o as0 as1
 
@@ -58,16 +56,16 @@ module _ (g : Settings) (o : ℕ → Output) (as0 as1 : ℕ → Bool) where
       go x (third a d z f e) = rw e (outputs_few o as1 g.n)
       go x (none a e) = rw e (omega arith)
 
-exit1_le : (g : Settings) (o : ℕ → Output) → exit1_at g o ≤ g.n
+exit1_le : (g : Settings) (o : ℕ → Option ℕ) → exit1_at g o ≤ g.n
 unfolding exit1_at
 exit1_le g o = lowest_le _ g.n
 
-exit2_le : (g : Settings) (o : ℕ → Output) (as1 : ℕ → Bool) → exit2_at g o as1 ≤ g.n
+exit2_le : (g : Settings) (o : ℕ → Option ℕ) (as1 : ℕ → Bool) → exit2_at g o as1 ≤ g.n
 unfolding exit2_at
 exit2_le g o as1 = lowest_le _ g.n
 
 -- outputs and decisions that agree on 1 to n give the same exit
-module _ (g : Settings) (o p : ℕ → Output) (as0 as1 bs0 bs1 : ℕ → Bool) (same : (i : ℕ) → 1 ≤ i → i ≤ g.n → o i ≡ p i) (same1 : (i : ℕ) → 1 ≤ i → i ≤ g.n → as1 i ≡ bs1 i) where
+module _ (g : Settings) (o p : ℕ → Option ℕ) (as0 as1 bs0 bs1 : ℕ → Bool) (same : (i : ℕ) → 1 ≤ i → i ≤ g.n → o i ≡ p i) (same1 : (i : ℕ) → 1 ≤ i → i ≤ g.n → as1 i ≡ bs1 i) where
   with_agree : (test rest : ℕ → Bool) (v : ℕ) → ((i : ℕ) → 1 ≤ i → i ≤ g.n → test i ≡ rest i) → with_output g o test v ≡ with_output g p rest v
   unfolding with_output
   with_agree test rest v h = total_agree (weight_of g.weights) (λ i. test i && has_value (o i) v) (λ i. rest i && has_value (p i) v) g.n (λ i a b. rw (same i a b, h i a b))

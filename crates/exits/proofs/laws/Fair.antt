@@ -1,5 +1,5 @@
 -- What a named set has to do with the outputs of good broadcasts, where all but ts are good, whatever the votes.
-use Rattle.std.specs.Prelude.{ℕ, ◌+◌, ◌<◌, ◌≤◌, Bool, true, not, ◌&&◌, ◌≡◌, refl}
+use Rattle.std.specs.Prelude.{ℕ, ◌+◌, ◌<◌, ◌≤◌, Bool, true, not, ◌&&◌, ◌≡◌, refl, Some}
 use mathlib.Core.List.{List, [], ◌∷◌, Memᴰ}
 use Rattle.std.proofs.Math.Path.{sym}
 use Rattle.std.proofs.Common.{ap, ◌∙◌, arith}
@@ -11,7 +11,6 @@ use Rattle.quorum.specs.Total.{everyone}
 use Rattle.quorum.specs.Weights.{weight_of}
 use Rattle.quorum.specs.Whole.{whole_of}
 use Rattle.quorum.specs.laws.Total.{Member, total_member, total_meet, total_mono, total_not}
-use Rattle.broadcasts.specs.declared.Output.TheVariants.{Value}
 use Rattle.exits.specs.laws.Rising.{outputs_has}
 use Rattle.exits.proofs.laws.Ways.{First, Second}
 use Rattle.exits.specs.Exits.{value_in, outputs_of_s}
@@ -24,7 +23,7 @@ pub record Fair (g : Settings) (good : ℕ → Bool) (s : Standing) (v : ℕ) : 
   pub low : 1 ≤ at
   pub high : at ≤ g.n
   pub fair : good at ≡ true
-  pub output : s.out at ≡ Value v
+  pub output : s.out at ≡ Some v
 
 -- a set that has the output of a good broadcast
 pub record FairIn (g : Settings) (good : ℕ → Bool) (s : Standing) (X : List ℕ) : Type 0 where
@@ -70,7 +69,7 @@ module _ (g : Settings) (r : Ruled g) (good : ℕ → Bool) (few : weighed g (λ
       at : Member g.n (λ i. s.as1 i && good i) → FairIn g good s X
       at m =
           let chosen : s.as1 m.at ≡ true = and_left (s.as1 m.at) (good m.at) m.holds in
-          let output : s.out m.at ≡ Value (value_in (s.out m.at)) = full_given g s f m.at m.low m.high chosen in
+          let output : s.out m.at ≡ Some (value_in (s.out m.at)) = full_given g s f m.at m.low m.high chosen in
           record {
             value = value_in (s.out m.at);
             fair = record { at = m.at; low = m.low; high = m.high; fair = and_right (s.as1 m.at) (good m.at) m.holds; output = output };
@@ -89,16 +88,16 @@ module _ (g : Settings) (r : Ruled g) (good : ℕ → Bool) (few : weighed g (λ
   pub named_fair : ((exit_at g s).number ≡ 0 → ⊥) → FairIn g good s (exit_at g s).names
   named_fair ne = naming_fair (exit_at g s).names (naming_of g s ne)
 
-  module _ (v : ℕ) (same : (i u : ℕ) → 1 ≤ i → i ≤ g.n → good i ≡ true → s.out i ≡ Value u → u ≡ v) where
+  module _ (v : ℕ) (same : (i u : ℕ) → 1 ≤ i → i ≤ g.n → good i ≡ true → s.out i ≡ Some u → u ≡ v) where
     fair_same : (u : ℕ) → Fair g good s u → u ≡ v
     fair_same u x = same x.at u x.low x.high x.fair x.output
 
     good_holds : Full g s → (i : ℕ) → 1 ≤ i → i ≤ g.n → s.as1 i && good i ≡ true → both s v i ≡ true
     good_holds f i a b k =
         let chosen : s.as1 i ≡ true = and_left (s.as1 i) (good i) k in
-        let there : s.out i ≡ Value (value_in (s.out i)) = full_given g s f i a b chosen in
+        let there : s.out i ≡ Some (value_in (s.out i)) = full_given g s f i a b chosen in
         let e : value_in (s.out i) ≡ v = same i (value_in (s.out i)) a b (and_right (s.as1 i) (good i) k) there in
-        and_both (s.as1 i) (holding s v i) chosen (value_has (s.out i) v (there ∙ ap Value e))
+        and_both (s.as1 i) (holding s v i) chosen (value_has (s.out i) v (there ∙ ap Some e))
 
     naming_only : (X : List ℕ) → Naming g s X → X ≡ v ∷ []
     naming_only X (by1 u x e) = let q : u ≡ v = fair_same u (fair1 u x) in cc

@@ -1,5 +1,5 @@
 -- The table of exits by one computed check: four concentrators, ta = ts = 1, outputs and decisions that may be missing (PROTOCOL 6.3 to 6.6).
-use Rattle.std.specs.Prelude.{ℕ, zero, suc, ◌+◌, ◌^◌, Bool, true, false, List, [], ◌∷◌, ◌≡◌, refl}
+use Rattle.std.specs.Prelude.{ℕ, zero, suc, ◌+◌, ◌^◌, Bool, true, false, List, [], ◌∷◌, ◌≡◌, refl, Option, Some, None}
 use Rattle.settings.specs.Settings.{quorum, vote_quorum}
 use Rattle.settings.specs.declared.Settings.{Settings}
 use Rattle.quorum.specs.Total.{total}
@@ -7,8 +7,6 @@ use Rattle.quorum.specs.Marks.{mark}
 use Rattle.quorum.specs.Weights.{weight_of}
 use Rattle.quorum.specs.Lowest.{lowest}
 use Rattle.quorum.specs.Every.{every}
-use Rattle.broadcasts.specs.declared.Output.{Output}
-use Rattle.broadcasts.specs.declared.Output.TheVariants.{Value, Nothing}
 use Rattle.exits.specs.Exits.{Exit, exit_of, with_output, size_s, exit1_at, votes_done, exit2_at, exit3_full, insert, insert_output, outputs_of_s, no_exit, exit3, naming}
 
 -- a vote decided 0, 1, or not
@@ -33,26 +31,26 @@ at d (x ∷ l) (suc zero) = x
 at d (x ∷ l) (suc (suc k)) = at d l (suc k)
 
 pub record Row : Type 0 where
-  pub broadcasts : List Output
+  pub broadcasts : List (Option ℕ)
   pub votes : List Decision
 
 answers : Settings → List Row → List Exit
 answers g [] = []
 answers g (r ∷ rs) =
-    exit_of g (at Nothing r.broadcasts) (λ i. is0 (at undecided r.votes i)) (λ i. is1 (at undecided r.votes i)) ∷ answers g rs
+    exit_of g (at None r.broadcasts) (λ i. is0 (at undecided r.votes i)) (λ i. is1 (at undecided r.votes i)) ∷ answers g rs
 
 -- n = 4 and ta = ts = 1, with the sum of the weights, and the weights as one word
 four : ℕ → ℕ → Settings
 four whole weights = record { n = 4; ta = 1; ts = 1; whole = whole; weights = weights }
 
-row : Output → Output → Output → Output → Decision → Decision → Decision → Decision → Row
+row : Option ℕ → Option ℕ → Option ℕ → Option ℕ → Decision → Decision → Decision → Decision → Row
 row a b c d e f g h = record { broadcasts = a ∷ b ∷ c ∷ d ∷ []; votes = e ∷ f ∷ g ∷ h ∷ [] }
 
-v : ℕ → Output
-v x = Value x
+v : ℕ → Option ℕ
+v x = Some x
 
-no : Output
-no = Nothing
+no : Option ℕ
+no = None
 
 table : List Row
 table =

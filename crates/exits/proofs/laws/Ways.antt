@@ -1,5 +1,5 @@
 -- How an exit comes to be named: `exit_of` taken apart.
-use Rattle.std.specs.Prelude.{ℕ, ◌*◌, ◌<◌, ◌≤◌, Bool, ◌&&◌, cond, ◌≢◌, ◌≡◌, eqb}
+use Rattle.std.specs.Prelude.{ℕ, ◌*◌, ◌<◌, ◌≤◌, Bool, ◌&&◌, cond, ◌≢◌, ◌≡◌, eqb, Option, Some, None}
 use Rattle.std.proofs.Math.Bool.{true, false}
 use Rattle.std.proofs.Math.Path.{refl}
 use Rattle.std.proofs.Common.{arith}
@@ -10,18 +10,16 @@ use Rattle.settings.specs.Settings.{quorum}
 use Rattle.settings.specs.declared.Settings.{Settings}
 use Rattle.quorum.specs.laws.Lowest.{Lowest, lowest_is}
 use Rattle.broadcasts.specs.Leading.{present}
-use Rattle.broadcasts.specs.declared.Output.{Output}
-use Rattle.broadcasts.specs.declared.Output.TheVariants.{Value, Nothing}
 use Rattle.exits.specs.Exits.{Exit, no_exit, naming, value_in, every_broadcast, with_output, size_s, exit1_at, exit2_at, exit3_full, exit3, exit_of, votes_done}
 use Rattle.exits.specs.laws.Stated.{single_exit, outputs_exit}
 
-module _ (g : Settings) (o : ℕ → Output) where
+module _ (g : Settings) (o : ℕ → Option ℕ) where
   -- what Exit 1 asks of v
   pub record First (v : ℕ) : Type 0 where
     pub at : ℕ
     pub low : 1 ≤ at
     pub high : at ≤ g.n
-    pub output : o at ≡ Value v
+    pub output : o at ≡ Some v
     pub many : quorum g ≤ with_output g o every_broadcast v
 
   -- what Exit 2 asks of v
@@ -30,12 +28,12 @@ module _ (g : Settings) (o : ℕ → Output) where
     pub low : 1 ≤ at
     pub high : at ≤ g.n
     pub in_s : as1 at ≡ true
-    pub output : o at ≡ Value v
+    pub output : o at ≡ Some v
     pub more : size_s g as1 < 2 * with_output g o as1 v
 
-  value_of : (x : Output) → present x ≡ true → x ≡ Value (value_in x)
-  value_of (Value v) e = refl
-  value_of Nothing e = absurd (let z : ◌≡◌ {A = ℕ} 0 1 = cc in omega arith)
+  value_of : (x : Option ℕ) → present x ≡ true → x ≡ Some (value_in x)
+  value_of (Some v) e = refl
+  value_of None e = absurd (let z : ◌≡◌ {A = ℕ} 0 1 = cc in omega arith)
 
   pub exit1_first : exit1_at g o ≢ 0 → First (value_in (o (exit1_at g o)))
   unfolding exit1_at

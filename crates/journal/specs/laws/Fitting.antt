@@ -1,5 +1,5 @@
 -- Every line fits into the 512 bytes that are lent for it.
-use Rattle.std.specs.Prelude.{ℕ, suc, ◌+◌, ◌*◌, ◌-◌, ◌≤◌, ◌<◌, List, [], ◌∷◌, ◌++◌, ◌≡◌, refl, length}
+use Rattle.std.specs.Prelude.{ℕ, suc, ◌+◌, ◌*◌, ◌-◌, ◌≤◌, ◌<◌, List, [], ◌∷◌, ◌++◌, ◌≡◌, refl, length, Ok}
 use Rattle.std.proofs.Common.{arith, length-append, ne_eqb}
 use Rattle.records.specs.Words.{word}
 use Rattle.opening.specs.Given.{item}
@@ -53,7 +53,7 @@ item_after xs k = let e : k + 1 - 1 ≡ k = omega arith in rw (ne_eqb (k + 1) 0 
 one_digit : (n : ℕ) (weights : List ℕ) → WeightsGiven n weights → (k : ℕ) → k < length weights → word weights k < 10
 one_digit n weights w k l = omega (arith, w.high (k + 1) (omega arith) (omega (arith, w.number)), item_after weights k)
 
-pub opening_fits : (words : ℕ) (o : Arguments) → open_answer words o ≡ 0 → length (opening_line o) ≤ 512
+pub opening_fits : (words : ℕ) (o : Arguments) → open_answer words o ≡ Ok tt → length (opening_line o) ≤ 512
 opening_fits words o e =
     let w = are_given o.n o.weights (accepted_given words o e) in
     let c = (coins_given_lem o.n o.coins o.boxed (accepted words o e).given).size in
@@ -62,7 +62,7 @@ opening_fits words o e =
     rw (← opening_parts o, length-append, length-append)
     (omega (arith, settings_length o.version o.n o.ta o.ts, input_length o.own o.session o.input, l))
 
-pub delivery_fits : (s : List ℕ) (link : ℕ) (b : List ℕ) → deliver_answer s link b ≡ 0 → length (delivery_line link b) ≤ 512
+pub delivery_fits : (s : List ℕ) (link : ℕ) (b : List ℕ) → deliver_answer s link b ≡ Ok tt → length (delivery_line link b) ≤ 512
 delivery_fits s link b e =
     rw (← delivery_parts link b)
     (omega (arith, tab_length link, bytes_length b, answer_short s link b e, length-append (each_text byte_text b) (10 ∷ []), length-append (tab_decimal link) (9 ∷ (each_text byte_text b ++ (10 ∷ [])))))

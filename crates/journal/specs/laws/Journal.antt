@@ -1,51 +1,53 @@
 -- Laws of a call with its line: accepted, it is lent enough and does what it does without the line; refused, it leaves the words.
-use Rattle.std.specs.Prelude.{ℕ, ◌≤◌, true, false, not, List, ◌≡◌, eqb, ltb}
+use Rattle.std.specs.Prelude.{ℕ, ◌≤◌, true, false, not, List, ◌≡◌, ltb, Result, Ok, Err}
 use Rattle.std.proofs.Math.Bool.{Bool, cond}
 use Rattle.std.proofs.lemmas.Bool.{false≢true}
 use Rattle.std.proofs.Math.Path.{refl}
-use Rattle.std.proofs.Common.{sym, ap, ◌∙◌, arith, eqb-true, ltb-false, le-ltb}
+use Rattle.std.proofs.Common.{sym, arith, ltb-false, le-ltb}
 use Rattle.records.specs.Records.{closed}
 use Rattle.session.specs.Session.{is_state, session_of}
 use Rattle.session.specs.declared.Session.{Session}
 use Rattle.turn.specs.Turn.{turn_outcome, turn_words, turn_bytes, taking, admits}
-use Rattle.turn.specs.declared.Admitted.{Admitted}
-use Rattle.turn.specs.declared.Admitted.TheVariants as admitted
 use Rattle.turn.specs.declared.Outcome.{Outcome}
-use Rattle.turn.specs.declared.Outcome.TheVariants as outcome
 use Rattle.journal.specs.Journal.{LINE_BYTES, line_answer, line_words, turn_room, acts, turned_outcome, turned_message}
+use Rattle.settings.specs.declared.refusal.Refusal.{Refusal}
+use Rattle.settings.specs.declared.refusal.Refusal.TheVariants as refusal
+use Rattle.std.specs.Result.{is_ok}
+use Rattle.settings.specs.laws.Answers.{err_passed}
 
 -- ---- opening and delivery
 
-pub line_taken : (k room : ℕ) → line_answer k room ≡ 0 → (k ≡ 0) × (LINE_BYTES ≤ room)
+pub line_taken : (a : Result (Unit {0}) Refusal) (room : ℕ) → line_answer a room ≡ Ok tt → (a ≡ Ok tt) × (LINE_BYTES ≤ room)
 unfolding line_answer
-line_taken k room e = go (eqb k 0) refl (ltb room LINE_BYTES) refl e
-  where
-    go : (a : Bool) → eqb k 0 ≡ a → (b : Bool) → ltb room LINE_BYTES ≡ b → cond a (cond b 8 0) k ≡ 0 → (k ≡ 0) × (LINE_BYTES ≤ room)
-    go true f true g h = absurd (omega (arith, h))
-    go true f false g h = (eqb-true k 0 f, ltb-false room LINE_BYTES g)
-    go false f b g h = absurd (false≢true (sym f ∙ ap (λ (x : ℕ). eqb x 0) h))
+line_taken (Ok tt) room e = let p = err_passed (ltb room LINE_BYTES) refusal.Short (Ok tt) tt e in (refl, ltb-false room LINE_BYTES p.0)
+line_taken (Err k) room e = absurd (let z : ◌≡◌ {A = ℕ} 0 1 = cc in omega arith)
 
-pub line_answer_lem : (k room : ℕ) → LINE_BYTES ≤ room → line_answer k room ≡ k
+pub line_answer_lem : (a : Result (Unit {0}) Refusal) (room : ℕ) → LINE_BYTES ≤ room → line_answer a room ≡ a
 unfolding line_answer
-line_answer_lem k room l = rw (le-ltb room LINE_BYTES l) (go (eqb k 0) refl)
-  where
-    go : (b : Bool) → eqb k 0 ≡ b → cond b 0 k ≡ k
-    go true e = sym (eqb-true k 0 e)
-    go false e = refl
+line_answer_lem (Ok tt) room l = rw (le-ltb room LINE_BYTES l)
+line_answer_lem (Err k) room l = refl
 
 pub line_words_lem : (room : ℕ) (before after : List ℕ) → LINE_BYTES ≤ room → line_words room before after ≡ after
 unfolding line_words
 line_words_lem room before after l = rw (le-ltb room LINE_BYTES l)
 
 -- a refused call leaves the words where it does so without its line
-pub line_stays : (k room : ℕ) (before after : List ℕ) → eqb (line_answer k room) 0 ≡ false → (eqb k 0 ≡ false → after ≡ before) → line_words room before after ≡ before
+pub line_stays : (a : Result (Unit {0}) Refusal) (room : ℕ) (before after : List ℕ) → is_ok (line_answer a room) ≡ false → (is_ok a ≡ false → after ≡ before) → line_words room before after ≡ before
 unfolding line_answer line_words
-line_stays k room before after e same = go (eqb k 0) refl (ltb room LINE_BYTES) e
+line_stays a room before after e same = go (ltb room LINE_BYTES) a (given a e) same
   where
-    go : (a : Bool) → eqb k 0 ≡ a → (b : Bool) → eqb (cond a (cond b 8 0) k) 0 ≡ false → cond b before after ≡ before
-    go a f true h = refl
-    go true f false h = absurd (false≢true (sym h))
-    go false f false h = same f
+    lined : Bool → Result (Unit {0}) Refusal → Result (Unit {0}) Refusal
+    lined b (Ok tt) = cond b (Err refusal.Short) (Ok tt)
+    lined b (Err k) = Err k
+
+    given : (a : Result (Unit {0}) Refusal) → is_ok (line_answer a room) ≡ false → is_ok (lined (ltb room LINE_BYTES) a) ≡ false
+    given (Ok tt) h = h
+    given (Err k) h = h
+
+    go : (b : Bool) (a : Result (Unit {0}) Refusal) → is_ok (lined b a) ≡ false → (is_ok a ≡ false → after ≡ before) → cond b before after ≡ before
+    go true a h f = refl
+    go false (Ok tt) h f = absurd (false≢true (sym h))
+    go false (Err k) h f = f refl
 
 -- ---- turn
 
@@ -63,10 +65,10 @@ module _ (s : List ℕ) (room : ℕ) where
   unfolding taking turn_outcome admits
   acts_admitted e = of (is_state s) (closed s) (ltb room 140) _ refl e
     where
-      tested : Bool → Bool → Bool → Admitted
-      tested t c b = cond (not t) (admitted.Refused 9) (cond c (admitted.Refused 10) (cond b (admitted.Refused 8) (admitted.Open (session_of s))))
+      tested : Bool → Bool → Bool → Result Session Refusal
+      tested t c b = cond (not t) (Err refusal.NoState) (cond c (Err refusal.Closed) (cond b (Err refusal.Short) (Ok (session_of s))))
 
-      of : (t c b : Bool) (taken : Session → Outcome) → ltb room 140 ≡ b → acts (taking (tested t c b) outcome.Refused taken) ≡ true → (140 ≤ room) × (tested t c false ≡ tested t c b)
+      of : (t c b : Bool) (taken : Session → Result Outcome Refusal) → ltb room 140 ≡ b → acts (taking (tested t c b) Err taken) ≡ true → (140 ≤ room) × (tested t c false ≡ tested t c b)
       of false c b taken q f = absurd (false≢true f)
       of true true b taken q f = absurd (false≢true f)
       of true false true taken q f = absurd (false≢true f)

@@ -1,11 +1,9 @@
-use Rattle.records.specs.laws.Fill.{clearing}
+-- Every word is filled with 0.
+use Rattle.std.proofs.Common.{arith}
+use Rattle.std.proofs.lemmas.Grind.{common_steps}
+use Rattle.records.specs.Words.{blank}
 use Rattle.opening.proofs.clear.Goals as goal
 
-pub loop-k-init : goal.loop-k-init
-loop-k-init c = search clearing
-
-pub loop-k-preserved : goal.loop-k-preserved
-loop-k-preserved c = search clearing
-
 pub returns : goal.returns
-returns c = search clearing
+unfolding blank
+returns c = grind (arith, common_steps)

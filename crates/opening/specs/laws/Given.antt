@@ -1,5 +1,5 @@
 -- The word of the weights holds each weight that is given, a list that is not right opens no session, and what coin words tell.
-use Rattle.std.specs.Prelude.{ℕ, zero, suc, ◌^◌, ◌≤◌, ◌<◌, Bool, true, false, ◌&&◌, ◌||◌, cond, List, ◌≡◌, refl, eqb, leb, length}
+use Rattle.std.specs.Prelude.{Ok, ℕ, zero, suc, ◌^◌, ◌≤◌, ◌<◌, Bool, true, false, ◌&&◌, ◌||◌, cond, List, ◌≡◌, refl, eqb, leb, length}
 use Rattle.std.proofs.Common.{ap, arith, leb-true, eqb-true, ne_eqb}
 use Rattle.quorum.specs.laws.Bools.{and_left, and_right}
 use Rattle.quorum.specs.Marks.{mark}
@@ -47,7 +47,7 @@ unfolding weight_of mark
 nobody = refl
 
 -- another number of weights than n, or one that is 0 or over 4, is refused (PROTOCOL 9.15): an accepted opening was given a list that is right
-pub accepted_given : (words : ℕ) (o : Arguments) → open_answer words o ≡ 0 → weights_given o.n o.weights ≡ true
+pub accepted_given : (words : ℕ) (o : Arguments) → open_answer words o ≡ Ok tt → weights_given o.n o.weights ≡ true
 unfolding weights_word
 accepted_given words o e = at (weights_given o.n o.weights) refl
   where

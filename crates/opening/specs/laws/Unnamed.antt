@@ -1,5 +1,6 @@
 -- An opening that leaves ta unnamed is one that names the largest ta which an opening with the other arguments takes (PROTOCOL 1.7).
-use Rattle.std.specs.Prelude.{ℕ, ◌*◌, ◌≤◌, true, List, ◌≡◌, length}
+use Rattle.std.specs.Prelude.{ℕ, ◌*◌, ◌≤◌, true, List, ◌≡◌, length, Ok, Err}
+use Rattle.settings.specs.laws.Answers.{taken_true}
 use Rattle.std.proofs.Common.{ap, arith}
 use borrow.Author.Tests.{eq-eqb}
 use Rattle.quorum.specs.Whole.{whole_of}
@@ -8,9 +9,9 @@ use Rattle.settings.specs.laws.Rules.{valid_rules, whole_few}
 use Rattle.settings.specs.laws.Cases.{named}
 use Rattle.settings.specs.laws.Unnamed.{unnamed_ta, Largest, unnamed_largest, none_allowed}
 use Rattle.settings.specs.Versions.{version_known}
-use Rattle.settings.specs.Refusals.{SETTINGS}
-use Rattle.records.specs.Words.{put, blank}
-use Rattle.records.specs.Layout.{state_words, version_at}
+use Rattle.settings.specs.declared.refusal.Refusal.TheVariants as refusal
+use Rattle.records.specs.Words.{blank}
+use Rattle.records.specs.Layout.{state_words}
 use Rattle.opening.specs.Arguments.{Arguments, weights_by, ta_by}
 use Rattle.opening.specs.Opening.{open_answer, with_settings, with_coins, open_words, opened}
 use Rattle.opening.specs.laws.WeightsWord.{settings_with}
@@ -26,7 +27,7 @@ module _ (s : List ℕ) (o : Arguments) where
 
   -- whether an opening with this ta is accepted, and the words after it
   abbrev Opens : ℕ → Type 0
-  Opens ta = open_answer (length s) (naming ta) ≡ 0
+  Opens ta = open_answer (length s) (naming ta) ≡ Ok tt
 
   abbrev after : ℕ → List ℕ
   after ta = opened s (naming ta)
@@ -68,13 +69,13 @@ module _ (s : List ℕ) (o : Arguments) where
     same_words_lem : after UNNAMED ≡ after largest_ta_lem
     unfolding opened open_words with_settings settings_with
     same_words_lem =
-        rw (eq-eqb (open_answer (length s) (naming UNNAMED)) 0 e, eq-eqb (open_answer (length s) (naming largest_ta_lem)) 0 opens_named)
-        (ap (λ (m : ℕ). with_coins (put (settings_with (blank state_words) o.n m o.ts (weights_by o) o.own o.session o.input o.boxed) version_at o.version) o.coins o.n) same)
+        rw (taken_true (open_answer (length s) (naming UNNAMED)) e, taken_true (open_answer (length s) (naming largest_ta_lem)) opens_named)
+        (ap (λ (m : ℕ). with_coins (settings_with (blank state_words) o m (weights_by o)) o.coins o.n) same)
 
     pub unnamed_named : NamesLargest
     unnamed_named = record { largest = unnamed_largest o.n o.ts (weights_by o) largest_ta_lem told.valid; opens = opens_named; words = same_words_lem }
 
   -- where no ta is allowed, an unnamed one is refused (PROTOCOL 1.7)
-  pub unnamed_refused : length s ≡ state_words → version_known o.version ≡ true → whole_of (weights_by o) o.n ≤ 2 * o.ts → open_answer (length s) (naming UNNAMED) ≡ SETTINGS
+  pub unnamed_refused : length s ≡ state_words → version_known o.version ≡ true → whole_of (weights_by o) o.n ≤ 2 * o.ts → open_answer (length s) (naming UNNAMED) ≡ Err refusal.Settings
   unfolding open_answer
   unnamed_refused size k h = rw (eq-eqb (length s) state_words size, k, none_allowed o.n o.ts (weights_by o) h largest_ta_lem)

@@ -1,8 +1,8 @@
--- `every` tells that each number passes, and what the loops keep that ask it.
-use Prim.Native.Nat.{ℕ, zero, suc, ◌+◌, ◌≤◌, ◌<◌}
-use Rattle.std.specs.Prelude.{Bool, false, ◌&&◌, not, ◌≡◌}
+-- `every` tells that each number passes.
+use Prim.Native.Nat.{ℕ, zero, suc, ◌+◌, ◌≤◌}
+use Rattle.std.specs.Prelude.{Bool, false, ◌&&◌, ◌≡◌}
 use Rattle.std.proofs.Math.Bool.{true}
-use Rattle.std.proofs.lemmas.Bool.{false≢true, not-true, not-false}
+use Rattle.std.proofs.lemmas.Bool.{false≢true}
 use Rattle.std.proofs.Math.Path.{refl, subst}
 use Rattle.std.proofs.Common.{sym, ◌∙◌}
 use native.Mathlib.Omega.{arith}
@@ -58,22 +58,3 @@ every_both f g zero = refl
 every_both f g (suc n) =
     let e : every (λ p. f p && g p) n ≡ every f n && every g n = every_both f g n in
     rw e (and_cross (every f n) (every g n) (f (suc n)) (g (suc n)))
-
--- a loop `p = 0; while p < n { p += 1; if !test(p) { return false; } }` that has passed 1 to k
-pub record Holding (f : ℕ → Bool) (n k : ℕ) : Type 0 where
-  pub within : k ≤ n
-  pub each : Each f k
-
-pub holding_start : (f : ℕ → Bool) (n : ℕ) → Holding f n 0
-holding_start f n = record { within = omega arith; each = λ p a b. absurd (omega arith) }
-
-pub holding_next : (f : ℕ → Bool) (n k : ℕ) (b : Bool) → Holding f n k → k < n → b ≡ f (k + 1) → not b ≡ false → Holding f n (k + 1)
-holding_next f n k b i l e t = record { within = omega arith; each = each_next f k i.each (sym e ∙ not-false b t) }
-
-pub holding_fails : (f : ℕ → Bool) (n k : ℕ) (b : Bool) → Holding f n k → k < n → b ≡ f (k + 1) → not b ≡ true → false ≡ every f n
-holding_fails f n k b i l e t = sym (every_fails f n (k + 1) (omega arith) (omega arith) (sym e ∙ not-true b t))
-
-pub holding_done : (f : ℕ → Bool) (n k : ℕ) → Holding f n k → n ≤ k → true ≡ every f n
-holding_done f n k i l = sym (each_every f n (λ p a b. i.each p a (omega arith)))
-
-pub ruleset holding = (holding_start, holding_next, holding_fails, holding_done)

@@ -10,10 +10,10 @@ use borrow.Author.Tests.{ne_eqb, eqb-true, eqb-false}
 use Rattle.quorum.specs.Lowest.{lowest}
 
 -- no p of 1 to k has f p
-abbrev pub None : (ℕ → Bool) → ℕ → Type 0
-None f k = (p : ℕ) → 1 ≤ p → p ≤ k → f p ≡ false
+abbrev pub NoneUpTo : (ℕ → Bool) → ℕ → Type 0
+NoneUpTo f k = (p : ℕ) → 1 ≤ p → p ≤ k → f p ≡ false
 
-none_next : (f : ℕ → Bool) (k : ℕ) → None f k → f (k + 1) ≡ false → None f (k + 1)
+none_next : (f : ℕ → Bool) (k : ℕ) → NoneUpTo f k → f (k + 1) ≡ false → NoneUpTo f (k + 1)
 none_next f k h e p a b = go (dec_le p k)
   where
     go : Dec (p ≤ k) → f p ≡ false
@@ -28,7 +28,7 @@ pub record Lowest (f : ℕ → Bool) (n p : ℕ) : Type 0 where
   pub first : (q : ℕ) → 1 ≤ q → q < p → f q ≡ false
 
 module _ (f : ℕ → Bool) where
-  pub none_lowest : (n : ℕ) → None f n → lowest f n ≡ 0
+  pub none_lowest : (n : ℕ) → NoneUpTo f n → lowest f n ≡ 0
   unfolding lowest
   none_lowest zero h = refl
   none_lowest (suc n) h =
@@ -49,12 +49,12 @@ module _ (f : ℕ → Bool) where
           let e : lowest f n ≡ 0 = none_lowest n (λ q a b. x.first q a (omega arith)) in
           rw (e, s, x.holds)
 
-  pub lowest_none : (n : ℕ) → lowest f n ≡ 0 → None f n
+  pub lowest_none : (n : ℕ) → lowest f n ≡ 0 → NoneUpTo f n
   unfolding lowest
   lowest_none zero e p a b = absurd (omega arith)
   lowest_none (suc n) e p a b = go (lowest f n) refl (f (suc n)) refl e (λ h. lowest_none n h) (dec_le p n)
     where
-      go : (l : ℕ) → lowest f n ≡ l → (t : Bool) → f (suc n) ≡ t → cond (eqb l 0) (cond t (suc n) 0) l ≡ 0 → (lowest f n ≡ 0 → None f n) → Dec (p ≤ n) → f p ≡ false
+      go : (l : ℕ) → lowest f n ≡ l → (t : Bool) → f (suc n) ≡ t → cond (eqb l 0) (cond t (suc n) 0) l ≡ 0 → (lowest f n ≡ 0 → NoneUpTo f n) → Dec (p ≤ n) → f p ≡ false
       go zero x true y z r d = absurd (omega arith)
       go zero x false y z r (yes d) = r x p a d
       go zero x false y z r (no d) = let s : suc n ≡ p = omega arith in subst (λ (m : ℕ). f m ≡ false) s y
@@ -67,7 +67,7 @@ module _ (f : ℕ → Bool) where
     where
       go : (l : ℕ) → lowest f n ≡ l → (t : Bool) → f (suc n) ≡ t → cond (eqb l 0) (cond t (suc n) 0) l ≡ p → (lowest f n ≡ p → Lowest f n p) → Lowest f (suc n) p
       go zero x true y z r =
-          let before : None f n = lowest_none n x in
+          let before : NoneUpTo f n = lowest_none n x in
           subst (λ (m : ℕ). Lowest f (suc n) m) z
           (record { low = omega arith; high = omega arith; holds = y; first = λ q a b. before q a (omega arith) })
       go zero x false y z r = absurd (ne (sym z))
@@ -91,10 +91,10 @@ lowest_agree f g (suc n) h =
     let e : lowest f n ≡ lowest g n = lowest_agree f g n (λ p a b. h p a (omega arith)) in
     rw (e, h (suc n) (omega arith) (omega arith))
 
--- a loop `p = 0; while p < n { p += 1; if test(p) { return .. } }` that has passed 1 to k
+-- a loop `for k in 0..n { if test(k + 1) { return .. } }` that has passed 1 to k
 pub record Passed (f : ℕ → Bool) (n k : ℕ) : Type 0 where
   pub within : k ≤ n
-  pub none : None f k
+  pub none : NoneUpTo f k
 
 pub passed_start : (f : ℕ → Bool) (n : ℕ) → Passed f n 0
 passed_start f n = record { within = omega arith; none = λ p a b. absurd (omega arith) }

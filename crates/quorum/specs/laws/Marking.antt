@@ -1,4 +1,4 @@
--- What a loop keeps that collects marks: `m = 0; while 0 < p { m = 2 * m + test(p) as u64; p -= 1; }`, from a p of at most 64.
+-- What a loop keeps that collects marks: `m = 0; for k in (0..n).rev() { m = 2 * m + u64::from(test(k + 1)); }`, from an n of at most 64.
 use Rattle.std.specs.Prelude.{ℕ, suc, ◌+◌, ◌-◌, ◌*◌, ◌/◌, ◌%◌, ◌^◌, min, ◌<◌, ◌≤◌, Bool, true, false, ◌&&◌, not, ◌≡◌, refl, eqb}
 use Rattle.std.proofs.Common.{sym, ap, ◌∙◌, arith, lt_of_lt_of_le, pow-suc, pow_pos, pow_mono, shr-shr}
 use Rattle.std.proofs.Math.Decide.{dec_le}

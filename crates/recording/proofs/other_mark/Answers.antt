@@ -1,9 +1,6 @@
--- The two bits.
-use Rattle.recording.specs.laws.Cases.{mark_cases}
+-- The mark of the other bit.
+use Rattle.recording.specs.laws.Cases.{other_bit}
 use Rattle.recording.proofs.other_mark.Goals as goal
 
-pub returns-then-b-eq1 : goal.returns-then-b-eq1
-returns-then-b-eq1 c = search mark_cases
-
-pub returns-else-b-eq1 : goal.returns-else-b-eq1
-returns-else-b-eq1 c = search mark_cases
+pub returns : goal.returns
+returns c = search other_bit

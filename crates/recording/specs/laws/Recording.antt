@@ -1,13 +1,16 @@
 -- What an accepted recording leaves: the coin of its vote and round is known and is its bit; every other coin, and every word but the vote's
 -- coin word, is as before; in a printed session none is accepted.
-use Rattle.std.specs.Prelude.{ℕ, ◌+◌, ◌≤◌, Bool, ◌&&◌, ◌||◌, not, List, ◌⊎◌, ◌≢◌, ◌≡◌, leb}
+use Rattle.std.specs.Prelude.{ℕ, ◌+◌, ◌≤◌, Bool, ◌&&◌, ◌||◌, not, List, ◌⊎◌, ◌≢◌, ◌≡◌, leb, Ok}
 use Rattle.std.proofs.Math.Bool.{true, false, cond}
 use Rattle.std.proofs.lemmas.Bool.{false≢true}
 use Rattle.std.proofs.Common.{inl, inr, sym, ◌∙◌, arith, leb-true}
 use Rattle.std.proofs.Math.Path.{refl, ap}
 use Rattle.std.proofs.Math.Decide.{ℕ_discrete}
 use Rattle.std.proofs.Math.Dec.{eqb}
-use Rattle.quorum.specs.laws.Bools.{and_left, and_right, refusal_passed, not_passed}
+use Rattle.quorum.specs.laws.Bools.{and_left, and_right, not_passed}
+use Rattle.std.specs.Result.{is_ok}
+use Rattle.settings.specs.declared.refusal.Refusal.TheVariants as refusal
+use Rattle.settings.specs.laws.Answers.{err_passed}
 use Rattle.settings.specs.Settings.{round_limit}
 use Rattle.quorum.specs.Marks.{mark, with_mark}
 use Rattle.quorum.specs.laws.Marks.{mark_same, mark_other}
@@ -64,13 +67,13 @@ pub record Recordable (s : List ℕ) (i r b : ℕ) : Type 0 where
   pub bit : b ≤ 1
   pub free : marked s (coin_at i) (other_mark r b) ≡ false
 
-pub accepted : (s : List ℕ) (i r b : ℕ) → record_answer s i r b ≡ 0 → Recordable s i r b
+pub accepted : (s : List ℕ) (i r b : ℕ) → record_answer s i r b ≡ Ok tt → Recordable s i r b
 unfolding record_answer recordable unopposed
 accepted s i r b e =
     let against = marked s (coin_at i) (other_mark r b) in
-    let x = refusal_passed (not (is_state s)) 9 _ (λ z. omega arith) e in
-    let y = refusal_passed (closed s) 10 _ (λ z. omega arith) x.1 in
-    let z = refusal_passed (not (in_layout s (word s n_at) i r b && not against)) 16 0 (λ z. omega arith) y.1 in
+    let x = err_passed (not (is_state s)) refusal.NoState _ tt e in
+    let y = err_passed (closed s) refusal.Closed _ tt x.1 in
+    let z = err_passed (not (in_layout s (word s n_at) i r b && not against)) refusal.Coin (Ok tt) tt y.1 in
     let both = not_passed (in_layout s (word s n_at) i r b && not against) z.0 in
     let k = within s (word s n_at) i r b (and_left (in_layout s (word s n_at) i r b) (not against) both) in
     record {
@@ -86,11 +89,11 @@ accepted s i r b e =
     }
 
 -- a refused one changes nothing, an accepted one marks its bit
-pub refused_same : (s : List ℕ) (i r b : ℕ) → eqb (record_answer s i r b) 0 ≡ false → recorded_words s i r b ≡ s
+pub refused_same : (s : List ℕ) (i r b : ℕ) → is_ok (record_answer s i r b) ≡ false → recorded_words s i r b ≡ s
 unfolding recorded_words
 refused_same s i r b e = rw e
 
-pub accepted_marks : (s : List ℕ) (i r b : ℕ) → eqb (record_answer s i r b) 0 ≡ true → recorded_words s i r b ≡ with_bit s i r b
+pub accepted_marks : (s : List ℕ) (i r b : ℕ) → is_ok (record_answer s i r b) ≡ true → recorded_words s i r b ≡ with_bit s i r b
 unfolding recorded_words
 accepted_marks s i r b e = rw e
 

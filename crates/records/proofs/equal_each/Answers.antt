@@ -9,10 +9,10 @@ pub overflow_mul-m : goal.overflow_mul-m
 overflow_mul-m c = search marking
 
 pub overflow_add-m : goal.overflow_add-m
-overflow_add-m c = search marking
+overflow_add-m c = rw c.from.ensures (search marking)
 
 pub loop-p-preserved : goal.loop-p-preserved
-loop-p-preserved c = search (marking, equal_test)
+loop-p-preserved c = rw c.from.ensures (search (marking, equal_test))
 
 pub returns : goal.returns
 returns c = search marking

@@ -5,6 +5,3 @@ use Rattle.records.proofs.equal_each.Given as goal
 
 abbrev pub invariant-loop-p : goal.invariant-loop-p
 invariant-loop-p l = Marking (equal_at l.s l.base l.v) l.initial.p l.p l.m
-
-abbrev pub decreases-loop-p : goal.decreases-loop-p
-decreases-loop-p l = l.p

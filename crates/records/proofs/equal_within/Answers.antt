@@ -8,11 +8,11 @@ loop-p-init c = search marking
 pub overflow_mul-m : goal.overflow_mul-m
 overflow_mul-m c = search marking
 
-pub overflow_add-m-in-loop-p : goal.overflow_add-m-in-loop-p
-overflow_add-m-in-loop-p c = search marking
+pub overflow_add-m : goal.overflow_add-m
+overflow_add-m c = rw c.from.ensures (search marking)
 
 pub loop-p-preserved : goal.loop-p-preserved
-loop-p-preserved c = search (marking, equal_inside)
+loop-p-preserved c = rw c.from.ensures (search (marking, equal_inside))
 
 pub returns : goal.returns
 returns c = search marking

@@ -1,9 +1,9 @@
 -- A word within the state, or 0 past its end.
-use Rattle.records.specs.laws.Words.{words}
+use Rattle.std.proofs.Common.{arith}
+use Rattle.std.proofs.lemmas.Grind.{common_steps}
+use Rattle.records.specs.Words.{word}
 use Rattle.records.proofs.word.Goals as goal
 
-pub returns-then-k-s : goal.returns-then-k-s
-returns-then-k-s c = search words
-
-pub returns-else-k-s : goal.returns-else-k-s
-returns-else-k-s c = search words
+pub returns : goal.returns
+unfolding word
+returns c = grind (arith, common_steps)

@@ -9,7 +9,7 @@ copy_suc k (x ∷ a) [] h l = absurd (not-suc-le-zero l)
 copy_suc zero (x ∷ a) (y ∷ b) h l = refl
 copy_suc (suc k) (x ∷ a) (y ∷ b) h l = ap (λ (t : List ℕ). x ∷ t) (copy_suc k a b (le_of_suc-le-suc h) (le_of_suc-le-suc l))
 
--- a loop `k = 0; while k < n { out[k] = from[k]; k += 1; }` that has copied k elements
+-- a loop `for k in 0..n { out[k] = from[k]; }` that has copied k elements
 pub record Copying (a b₀ b : List ℕ) (n k : ℕ) : Type 0 where
   pub within : k ≤ n
   pub size : length b ≡ length b₀

@@ -1,9 +1,8 @@
--- Lists of zeros, runs of stores, the front of a list written over, and what the loops that do so keep.
-use Rattle.std.specs.Prelude.{ℕ, zero, suc, ◌+◌, ◌≤◌, ◌<◌, List, ◌++◌, ◌≢◌, ◌≡◌, refl, length, set, drop, replicate}
-use Rattle.std.proofs.Common.{append-nil, ap, subst, ◌∙◌, arith, add-one, length-set, drop_of_length-le}
+-- Lists of zeros, runs of stores, and what the loop that does one keeps.
+use Rattle.std.specs.Prelude.{ℕ, zero, suc, ◌+◌, ◌≤◌, ◌<◌, List, ◌≢◌, ◌≡◌, refl, length}
+use Rattle.std.proofs.Common.{ap, subst, ◌∙◌, arith, add-one}
 use Rattle.std.proofs.Math.Decide.{dec_le}
 use Rattle.std.proofs.lemmas.List.{length-replicate, get_or-replicate}
-use Rattle.std.proofs.lemmas.List.Edits.{fill_none, fill_more}
 use Rattle.records.specs.Words.{word, put, blank, store_of}
 use Rattle.records.specs.laws.Words.{length_put, word_put_same, word_put_other}
 
@@ -14,36 +13,6 @@ length_blank n = length-replicate n 0
 pub word_blank : (n k : ℕ) → k < n → word (blank n) k ≡ 0
 unfolding word blank
 word_blank n k h = get_or-replicate n k 0 0 h
-
--- a loop that has cleared the words below its place
-pub record Clearing (s₀ s : List ℕ) (k : ℕ) : Type 0 where
-  pub within : k ≤ length s₀
-  pub size : length s ≡ length s₀
-  pub cleared : s ≡ replicate k 0 ++ drop k s₀
-
-pub clearing_start : (s : List ℕ) → Clearing s s 0
-clearing_start s = record { within = omega arith; size = refl; cleared = fill_none s 0 }
-
-pub clearing_next : (s₀ s : List ℕ) (k : ℕ) → Clearing s₀ s k → k < length s → Clearing s₀ (set s k 0) (k + 1)
-clearing_next s₀ s k h l =
-    let e : length s ≡ length s₀ = h.size in
-    record {
-      within = omega arith;
-      size = length-set s k 0 ∙ e;
-      cleared = ap (λ (t : List ℕ). set t k 0) h.cleared ∙ fill_more k 0 s₀ (omega arith);
-    }
-
-pub clearing_done : (s₀ s : List ℕ) (k : ℕ) → Clearing s₀ s k → length s ≤ k → s ≡ blank (length s₀)
-unfolding blank
-clearing_done s₀ s k h l =
-    let e : length s ≡ length s₀ = h.size in
-    let q : k ≡ length s₀ = omega arith in
-    h.cleared
-    ∙ ap (λ (t : List ℕ). replicate k 0 ++ t) (drop_of_length-le s₀ {i = k} (omega arith))
-    ∙ append-nil _
-    ∙ ap (λ (m : ℕ). replicate m 0) q
-
-pub ruleset clearing = (clearing_start, clearing_next, clearing_done)
 
 pub length_store_of : (f : ℕ → ℕ) (a : ℕ) (s : List ℕ) (n : ℕ) → length (store_of f a s n) ≡ length s
 unfolding store_of
@@ -69,7 +38,7 @@ store_same f a s (suc n) k lo hi h = go (λ q. store_same f a s n k lo q (omega 
         let e : k ≡ suc n = omega arith in
         rw e (word_put_same (store_of f a s n) (a + suc n) (f (suc n)) (rw length_store_of (omega arith)))
 
--- a loop `k = 0; while k < n { k += 1; put(s, a + k, f(k)); }` that has stored 1 to k
+-- a loop `for k in 0..n { put(s, a + k + 1, f(k + 1)); }` that has stored 1 to k
 pub record Storing (f : ℕ → ℕ) (a n : ℕ) (s₀ s : List ℕ) (k : ℕ) : Type 0 where
   pub within : k ≤ n
   pub stored : s ≡ store_of f a s₀ k

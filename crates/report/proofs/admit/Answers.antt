@@ -5,8 +5,8 @@ use Rattle.report.proofs.admit.Goals as goal
 pub returns-then-s-ne-STATE_WORDS : goal.returns-then-s-ne-STATE_WORDS
 returns-then-s-ne-STATE_WORDS c = search admit_cases
 
-pub returns-in-NoState : goal.returns-in-NoState
-returns-in-NoState c = search admit_cases
+pub returns-in_default : goal.returns-in_default
+returns-in_default c = search admit_cases
 
-pub returns-in-Held : goal.returns-in-Held
-returns-in-Held c = search admit_cases
+pub returns : goal.returns
+returns c = search admit_cases

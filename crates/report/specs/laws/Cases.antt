@@ -1,5 +1,5 @@
 -- The cases of the code.
-use Rattle.std.specs.Prelude.{ℕ, ◌≤◌, Bool, true, false, ◌||◌, cond, List, [], ◌≡◌, refl, length, take, ltb}
+use Rattle.std.specs.Prelude.{ℕ, ◌≤◌, Bool, true, false, ◌||◌, cond, List, [], ◌≡◌, refl, length, take, ltb, Option, Some, None, Result, Ok, Err}
 use Rattle.std.proofs.Math.Path.{sym, ap}
 use Rattle.std.proofs.Common.{◌∙◌, arith, eq-eqb, ne_eqb}
 use Rattle.settings.specs.Rules.{Ruled}
@@ -11,23 +11,20 @@ use Rattle.records.specs.Records.{turn_count, closed}
 use Rattle.records.specs.Sets.{SetRoom, SetCopied}
 use Rattle.records.specs.Words.{copied}
 use Rattle.commits.specs.Commits.{set_leads, set_leader, set_of, leading_set}
-use Rattle.exits.specs.Exits.{Exit, named}
+use Rattle.exits.specs.Exits.{Exit, number_or_none, named}
 use Rattle.exits.specs.Exits.{exit_now}
 use Rattle.exits.specs.Stated.{Stated}
 use Rattle.exits.specs.declared.Named.{Named}
 use Rattle.session.specs.laws.Cases.{size_wrong}
 use Rattle.session.specs.Session.{stored}
 use Rattle.session.specs.declared.Session.{Session}
-use Rattle.session.specs.declared.Stored.{Stored}
-use Rattle.session.specs.declared.Stored.TheVariants.{NoState, Held}
 use Rattle.report.specs.Report.{in_force_set, figures_of, admits, giving, report_answer, report_named, report_in_force}
 use Rattle.report.specs.laws.Report.{Admitting, admitting}
 use Rattle.report.specs.declared.Figures.{Figures}
-use Rattle.report.specs.declared.Admitted.{Admitted}
-use Rattle.report.specs.declared.Admitted.TheVariants as admitted
-use Rattle.report.specs.declared.Answer.TheVariants.{Refused, Given}
 use Rattle.report.specs.laws.Stored.{admitted_in, admitted_for, admits_stored}
 use Rattle.wire.specs.Message.{at_front}
+use Rattle.settings.specs.declared.refusal.Refusal.{Refusal}
+use Rattle.settings.specs.declared.refusal.Refusal.TheVariants as refusal
 
 -- what is asked of the code
 
@@ -52,24 +49,24 @@ pub record Written (g : Settings) (s a b a' b' : List ℕ) (r : Figures) : Type 
 -- the refusals
 
 module _ (g : Settings) (a b : ℕ) (t : Bool) (e : t ≡ (ltb a 16 || ltb b 16)) where
-  pub short : t ≡ true → admitted.Refused 8 ≡ admitted_in g a b
+  pub short : t ≡ true → Err refusal.Short ≡ admitted_in g a b
   unfolding admitted_in
   short h = rw (← e, h)
 
-  pub long : t ≡ false → admitted.Open g ≡ admitted_in g a b
+  pub long : t ≡ false → Ok g ≡ admitted_in g a b
   unfolding admitted_in
   long h = rw (← e, h)
 
-module _ (s : List ℕ) (a b : ℕ) (y : Stored) (e : y ≡ stored s) where
-  pub no_state : y ≡ NoState → admitted.Refused 9 ≡ admits s a b
+module _ (s : List ℕ) (a b : ℕ) (y : Option Session) (e : y ≡ stored s) where
+  pub no_state : y ≡ None → Err refusal.NoState ≡ admits s a b
   unfolding admitted_for
   no_state t = rw (admits_stored s a b, ← e, t)
 
-  pub a_state : (x : Session) (v : Admitted) → y ≡ Held x → v ≡ admitted_in x.settings a b → v ≡ admits s a b
+  pub a_state : (x : Session) (v : Result Settings Refusal) → y ≡ Some x → v ≡ admitted_in x.settings a b → v ≡ admits s a b
   unfolding admitted_for
   a_state x v t f = rw (admits_stored s a b, ← e, t) f
 
-pub no_size : (s : List ℕ) (a b : ℕ) → (length s ≡ 2048 → ⊥) → admitted.Refused 9 ≡ admits s a b
+pub no_size : (s : List ℕ) (a b : ℕ) → (length s ≡ 2048 → ⊥) → Err refusal.NoState ≡ admits s a b
 unfolding admitted_for
 no_size s a b h = rw (admits_stored s a b, ← size_wrong s h)
 
@@ -132,23 +129,23 @@ module _ (g : Settings) (s : List ℕ) (x : Named) (h : Stated x (exit_now g s))
   unfolding named
   names_of = ap (λ (y : Exit). y.names) h.states
 
-  number_of : x.exit ≡ (exit_now g s).number
+  exit_told : number_or_none x.exit ≡ (exit_now g s).number
   unfolding named
-  number_of = ap (λ (y : Exit). y.number) h.states
+  exit_told = ap (λ (y : Exit). y.number) h.states
 
-  pub report_done : (a b a' b' : List ℕ) (k t : ℕ) → a' ≡ copied x.values a x.count → SetWritten (in_force_set g s) b b' k → t ≡ turn_count s → Written g s a b a' b' (record { exit = x.exit; named = x.count; in_force = k; turns = t })
+  pub report_done : (a b a' b' : List ℕ) (n k t : ℕ) → n ≡ number_or_none x.exit → a' ≡ copied x.values a x.count → SetWritten (in_force_set g s) b b' k → t ≡ turn_count s → Written g s a b a' b' (record { exit = n; named = x.count; in_force = k; turns = t })
   unfolding copied at_front figures_of
-  report_done a b a' b' k t e w f =
+  report_done a b a' b' n k t en e w f =
       record {
-        figures = λ i. record { exit = number_of i; named = sym h.sized i; in_force = w.counted i; turns = f i };
+        figures = λ i. record { exit = (en ∙ exit_told) i; named = sym h.sized i; in_force = w.counted i; turns = f i };
         named_words_lem = e ∙ rw (names_of, h.sized);
         in_force_words_lem = w.words;
       }
 
 -- a report that is given, or refused
 
-module _ (s a b : List ℕ) (v : Admitted) (e : v ≡ admits s (length a) (length b)) where
-  module _ (g : Settings) (t : v ≡ admitted.Open g) where
+module _ (s a b : List ℕ) (v : Result Settings Refusal) (e : v ≡ admits s (length a) (length b)) where
+  module _ (g : Settings) (t : v ≡ Ok g) where
     told : Admitting s (length a) (length b) g
     told = admitting s (length a) (length b) g (sym e ∙ t)
 
@@ -159,7 +156,7 @@ module _ (s a b : List ℕ) (v : Admitted) (e : v ≡ admits s (length a) (lengt
     given_in_force_room = record { ruled = rw told.same told.state.ruled; size = told.state.size; room = told.in_force_room }
 
     module _ (a' b' : List ℕ) (r : Figures) (w : Written g s a b a' b' r) where
-      pub given_answer : Given r ≡ report_answer s (length a) (length b)
+      pub given_answer : Ok r ≡ report_answer s (length a) (length b)
       unfolding giving report_answer
       given_answer = rw (← e, t, w.figures)
 
@@ -171,8 +168,8 @@ module _ (s a b : List ℕ) (v : Admitted) (e : v ≡ admits s (length a) (lengt
       unfolding giving report_in_force
       given_in_force = rw (← e, t) w.in_force_words_lem
 
-  module _ (k : ℕ) (t : v ≡ admitted.Refused k) where
-    pub refused_answer : Refused k ≡ report_answer s (length a) (length b)
+  module _ (k : Refusal) (t : v ≡ Err k) where
+    pub refused_answer : Err k ≡ report_answer s (length a) (length b)
     unfolding giving report_answer
     refused_answer = rw (← e, t)
 

@@ -1,5 +1,5 @@
 -- The fields of an opening line that are read one after another into an array of numbers.
-use Rattle.std.specs.Prelude.{ℕ, suc, ◌+◌, ◌-◌, ◌≤◌, ◌<◌, Bool, ◌&&◌, not, ◌⊎◌, leb, drop, set}
+use Rattle.std.specs.Prelude.{ℕ, suc, ◌+◌, ◌-◌, ◌≤◌, ◌<◌, Bool, ◌&&◌, not, ◌⊎◌, leb, drop, set, Option, Some, None}
 use Rattle.std.proofs.Math.Bool.{true, false, cond}
 use mathlib.Core.List.{List, [], ◌∷◌, ◌++◌, append-nil, append_assoc}
 use Rattle.std.proofs.Common.{inl, inr, ◌∙◌, length-set}
@@ -18,64 +18,60 @@ use Rattle.restore.specs.laws.Parts.{fields_at, Field, field_at}
 use Rattle.restore.specs.laws.Numbers.{number_of}
 use Rattle.restore.specs.laws.Forms.{form_at, proper_all, values_all}
 use Rattle.restore.specs.laws.Applying.{fields_past}
-use Rattle.restore.specs.declared.fields.Number.{Number}
-use Rattle.restore.specs.declared.fields.Number.TheVariants as number
-use Rattle.restore.specs.declared.first.Fields.{Fields}
-use Rattle.restore.specs.declared.first.Fields.TheVariants.{Wrong, Count}
 
 -- a number that was read into place k of an array: only where the field is proper
 pub record Stored (form : ℕ) (f xs : List ℕ) (k : ℕ) (r : Bool) (after : List ℕ) : Type 0 where
   pub answer : r ≡ proper form f
   pub numbers : after ≡ cond (proper form f) (set xs k (value_of form f)) xs
 
-module _ (form : ℕ) (f xs : List ℕ) (k : ℕ) (x : Number) (q : x ≡ number_of form f) where
-  pub stored_wrong : x ≡ number.Wrong → Stored form f xs k false xs
+module _ (form : ℕ) (f xs : List ℕ) (k : ℕ) (x : Option ℕ) (q : x ≡ number_of form f) where
+  pub stored_wrong : x ≡ None → Stored form f xs k false xs
   unfolding number_of
   stored_wrong e = go (proper form f) refl (sym q ∙ e)
     where
-      go : (b : Bool) → proper form f ≡ b → cond b (number.Is (value_of form f)) number.Wrong ≡ number.Wrong → Stored form f xs k false xs
+      go : (b : Bool) → proper form f ≡ b → cond b (Some (value_of form f)) None ≡ None → Stored form f xs k false xs
       go true u v = absurd (let z : ◌≡◌ {A = ℕ} 0 1 = cc in omega arith)
       go false u v = record { answer = sym u; numbers = rw u }
 
-  pub stored_is : (v : ℕ) → x ≡ number.Is v → Stored form f xs k true (set xs k v)
+  pub stored_is : (v : ℕ) → x ≡ Some v → Stored form f xs k true (set xs k v)
   unfolding number_of
   stored_is v e = go (proper form f) refl (sym q ∙ e)
     where
-      go : (b : Bool) → proper form f ≡ b → cond b (number.Is (value_of form f)) number.Wrong ≡ number.Is v → Stored form f xs k true (set xs k v)
+      go : (b : Bool) → proper form f ≡ b → cond b (Some (value_of form f)) None ≡ Some v → Stored form f xs k true (set xs k v)
       go true u z = let s : value_of form f ≡ v = cc in record { answer = sym u; numbers = rw (u, s) }
       go false u z = absurd (let y : ◌≡◌ {A = ℕ} 0 1 = cc in omega arith)
 
 pub ruleset stored_cases = (stored_wrong, stored_is)
 
 -- the fields fs of n concentrators were read: how many, and their numbers stand at the front
-pub record FieldsRead (n : ℕ) (fs : List (List ℕ)) (room : ℕ) (r : Fields) (after : List ℕ) : Type 0 where
+pub record FieldsRead (n : ℕ) (fs : List (List ℕ)) (room : ℕ) (r : Option ℕ) (after : List ℕ) : Type 0 where
   pub size : length after ≡ room
-  pub answer : r ≡ cond (proper_all n 0 fs && leb (length fs) room) (Count (length fs)) Wrong
-  pub numbers : (c : ℕ) → r ≡ Count c → take c after ≡ values_all n 0 fs
+  pub answer : r ≡ cond (proper_all n 0 fs && leb (length fs) room) (Some (length fs)) None
+  pub numbers : (c : ℕ) → r ≡ Some c → take c after ≡ values_all n 0 fs
 
 -- what the answer tells of the fields
-module _ (n : ℕ) (fs : List (List ℕ)) (room : ℕ) (r : Fields) (after : List ℕ) (h : FieldsRead n fs room r after) where
-  answered : (b : Bool) → proper_all n 0 fs && leb (length fs) room ≡ b → r ≡ cond b (Count (length fs)) Wrong
+module _ (n : ℕ) (fs : List (List ℕ)) (room : ℕ) (r : Option ℕ) (after : List ℕ) (h : FieldsRead n fs room r after) where
+  answered : (b : Bool) → proper_all n 0 fs && leb (length fs) room ≡ b → r ≡ cond b (Some (length fs)) None
   answered b e = h.answer ∙ rw e
 
-  pub read_none : r ≡ Wrong → (proper_all n 0 fs ≡ false) ⊎ (room < length fs)
+  pub read_none : r ≡ None → (proper_all n 0 fs ≡ false) ⊎ (room < length fs)
   read_none e = go (proper_all n 0 fs) refl (leb (length fs) room) refl
     where
       go : (a : Bool) → proper_all n 0 fs ≡ a → (b : Bool) → leb (length fs) room ≡ b → (proper_all n 0 fs ≡ false) ⊎ (room < length fs)
       go false u b v = inl u
       go true u false v = inr (leb-false (length fs) room v)
-      go true u true v = absurd (let x : r ≡ Count (length fs) = answered true (rw (u, v)) in let z : ◌≡◌ {A = ℕ} 0 1 = cc in omega arith)
+      go true u true v = absurd (let x : r ≡ Some (length fs) = answered true (rw (u, v)) in let z : ◌≡◌ {A = ℕ} 0 1 = cc in omega arith)
 
-  pub read_count : (k : ℕ) → r ≡ Count k → (proper_all n 0 fs ≡ true) × (k ≤ room)
+  pub read_count : (k : ℕ) → r ≡ Some k → (proper_all n 0 fs ≡ true) × (k ≤ room)
   read_count k e = go (proper_all n 0 fs) refl (leb (length fs) room) refl
     where
       go : (a : Bool) → proper_all n 0 fs ≡ a → (b : Bool) → leb (length fs) room ≡ b → (proper_all n 0 fs ≡ true) × (k ≤ room)
       go true u true v =
-          let x : r ≡ Count (length fs) = answered true (rw (u, v)) in
+          let x : r ≡ Some (length fs) = answered true (rw (u, v)) in
           let y : length fs ≡ k = cc in
           (u, rw y at (leb-true (length fs) room v))
-      go true u false v = absurd (let x : r ≡ Wrong = answered false (rw (u, v)) in let z : ◌≡◌ {A = ℕ} 0 1 = cc in omega arith)
-      go false u b v = absurd (let x : r ≡ Wrong = answered false (rw u) in let z : ◌≡◌ {A = ℕ} 0 1 = cc in omega arith)
+      go true u false v = absurd (let x : r ≡ None = answered false (rw (u, v)) in let z : ◌≡◌ {A = ℕ} 0 1 = cc in omega arith)
+      go false u b v = absurd (let x : r ≡ None = answered false (rw u) in let z : ◌≡◌ {A = ℕ} 0 1 = cc in omega arith)
 
 -- a loop that has read k fields and is at a place
 pub record Filling (n : ℕ) (b : List ℕ) (start room at k : ℕ) (xs : List ℕ) : Type 0 where
@@ -89,11 +85,11 @@ pub record Filling (n : ℕ) (b : List ℕ) (start room at k : ℕ) (xs : List �
 pub filling_start : (n : ℕ) (b : List ℕ) (start : ℕ) (xs : List ℕ) → start ≤ length b → Filling n b start (length xs) start 0 xs
 filling_start n b start xs h = record { size = refl; fits = omega arith; inside = h; right = refl; long = omega arith; numbers = refl }
 
-wrong_fields : (n : ℕ) (fs : List (List ℕ)) (room : ℕ) (after : List ℕ) → length after ≡ room → proper_all n 0 fs && leb (length fs) room ≡ false → FieldsRead n fs room Wrong after
+wrong_fields : (n : ℕ) (fs : List (List ℕ)) (room : ℕ) (after : List ℕ) → length after ≡ room → proper_all n 0 fs && leb (length fs) room ≡ false → FieldsRead n fs room None after
 wrong_fields n fs room after s e = record { size = s; answer = rw e; numbers = λ c z. absurd (let y : ◌≡◌ {A = ℕ} 0 1 = cc in omega arith) }
 
 module _ (n : ℕ) (b : List ℕ) (start room at k : ℕ) (xs : List ℕ) (h : Filling n b start room at k xs) where
-  pub filling_many : length xs ≤ k → FieldsRead n (fields_at b start) room Wrong xs
+  pub filling_many : length xs ≤ k → FieldsRead n (fields_at b start) room None xs
   filling_many l =
       let more : length (fields_at b at) ≡ suc (length (fields_at b (place_of TAB b at + 1))) = ap length (field_at b at (place_of TAB b at) h.inside refl).field in
       wrong_fields n (fields_at b start) room xs h.size (rw (lt-leb (length (fields_at b start)) room (omega (arith, h.long, h.size))) (and_none (proper_all n 0 (fields_at b start))))
@@ -109,7 +105,7 @@ module _ (n : ℕ) (b : List ℕ) (start room at k : ℕ) (xs : List ℕ) (h : F
         go true = length-set xs k (value_of form (take (e - at) (drop at b)))
         go false = refl
 
-    pub filling_wrong : not t ≡ true → FieldsRead n (fields_at b start) room Wrong after
+    pub filling_wrong : not t ≡ true → FieldsRead n (fields_at b start) room None after
     unfolding proper_all
     filling_wrong w = wrong_fields n (fields_at b start) room after size_after (rw (h.right ∙ ap (proper_all n k) j.field, ← proper_here, not-true t w))
 
@@ -131,7 +127,7 @@ module _ (n : ℕ) (b : List ℕ) (start room at k : ℕ) (xs : List ℕ) (h : F
           ∙ ap (λ (gs : List (List ℕ)). take k xs ++ values_all n k gs) j.field
           ∙ rw (stored, add-one k, take-suc-set xs k (value_of (form_at n k) (take (e - at) (drop at b))) l) (sym (append_assoc (take k xs) (value_of (form_at n k) (take (e - at) (drop at b)) ∷ []) _))
 
-      pub filling_end : e ≡ length b → FieldsRead n (fields_at b start) room (Count (k + 1)) after
+      pub filling_end : e ≡ length b → FieldsRead n (fields_at b start) room (Some (k + 1)) after
       unfolding proper_all values_all
       filling_end d =
           let none_left : fields_at b (e + 1) ≡ [] = ap (λ (m : ℕ). fields_at b (m + 1)) d ∙ fields_past b in

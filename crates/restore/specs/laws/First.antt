@@ -1,8 +1,7 @@
 -- The first line as the code takes it.
-use Rattle.std.specs.Prelude.{ℕ, ◌+◌, ◌-◌, ◌^◌, ◌≤◌, ◌<◌, Bool, ◌||◌, not, List, [], ◌∷◌, ◌⊎◌, eqb, leb, get_or, take, drop}
+use Rattle.std.specs.Prelude.{ℕ, ◌+◌, ◌-◌, ◌^◌, ◌≤◌, ◌<◌, Bool, ◌||◌, not, List, [], ◌∷◌, ◌⊎◌, eqb, leb, get_or, take, drop, None, Option, Some}
 use Rattle.std.proofs.Math.Bool.{true, false, cond}
 use Rattle.std.proofs.Common.{inl, inr, sym, ap, subst, ◌∙◌, arith, length-take-le, get_or-take}
-use Rattle.std.proofs.Math.Option.{none}
 use Rattle.std.proofs.Math.Path.{◌≡◌, refl}
 use Rattle.std.proofs.Math.ListN.{length}
 use borrow.Author.Tests.{eq-eqb, ne_eqb, lt-leb, eqb-true, not-true, not-false}
@@ -20,10 +19,6 @@ use Rattle.restore.specs.laws.Opened.{CoinsFit, coins_below}
 use Rattle.restore.specs.laws.Given.{OpenGiven, refused}
 use Rattle.restore.specs.laws.Applying.{Tried, fields_past}
 use Rattle.restore.specs.laws.Turning.{first_field}
-use Rattle.restore.specs.declared.fields.Number.{Number}
-use Rattle.restore.specs.declared.fields.Number.TheVariants as number
-use Rattle.restore.specs.declared.first.Fields.{Fields}
-use Rattle.restore.specs.declared.first.Fields.TheVariants.{Wrong, Count}
 
 -- what is asked of so many numbers that were read from an opening line
 pub record CountGiven (n count : ℕ) (xs w : List ℕ) : Type 0 where
@@ -74,18 +69,18 @@ pub read_many : (n : ℕ) (fs : List (List ℕ)) (w : List ℕ) → 16 < n → T
 unfolding opening_read
 read_many n fs w h = refused _ w (rw (lt-leb n 16 h))
 
-module _ (n : ℕ) (fs : List (List ℕ)) (w after : List ℕ) (r : Fields) (few : n ≤ 16) (h : FieldsRead n fs 40 r after) where
-  pub read_wrong : r ≡ Wrong → Tried (opening_read n fs) w false w
+module _ (n : ℕ) (fs : List (List ℕ)) (w after : List ℕ) (r : Option ℕ) (few : n ≤ 16) (h : FieldsRead n fs 40 r after) where
+  pub read_wrong : r ≡ None → Tried (opening_read n fs) w false w
   unfolding counted_from count_right
   read_wrong e = refused _ w (opening_counted n fs few ∙ go (read_none n fs 40 r after h e))
     where
-      go : (proper_all n 0 fs ≡ false) ⊎ (40 < length fs) → cond (proper_all n 0 fs) (counted_from n (values_all n 0 fs)) none ≡ none
+      go : (proper_all n 0 fs ≡ false) ⊎ (40 < length fs) → cond (proper_all n 0 fs) (counted_from n (values_all n 0 fs)) None ≡ None
       go (inl u) = rw u
       go (inr l) =
           rw (values_length n 0 fs, ne_eqb (length fs) (7 + n) (λ z. omega arith), ne_eqb (length fs) (7 + n + n) (λ z. omega arith), ne_eqb (length fs) (7 + n + n + 1) (λ z. omega arith))
           (sym (none_of (proper_all n 0 fs)))
 
-  module _ (k : ℕ) (e : r ≡ Count k) where
+  module _ (k : ℕ) (e : r ≡ Some k) where
     all : (proper_all n 0 fs ≡ true) × (k ≤ 40)
     all = read_count n fs 40 r after h k e
 
@@ -110,11 +105,11 @@ pub ruleset read_cases = (read_many, read_wrong, read_given, read_opened)
 
 -- the number in the second field
 module _ (b : List ℕ) (at e : ℕ) (h : Field b at e) where
-  pub second_none : e ≡ length b → number.Wrong ≡ number_of 10 (field_at (fields_at b at) 1)
+  pub second_none : e ≡ length b → None ≡ number_of 10 (field_at (fields_at b at) 1)
   unfolding field_at number_of proper right complete
   second_none s = rw (h.field, s, fields_past)
 
-  pub second_is : (g : ℕ) (x : Number) → Field b (e + 1) g → x ≡ number_of 10 (take (g - (e + 1)) (drop (e + 1) b)) → x ≡ number_of 10 (field_at (fields_at b at) 1)
+  pub second_is : (g : ℕ) (x : Option ℕ) → Field b (e + 1) g → x ≡ number_of 10 (take (g - (e + 1)) (drop (e + 1) b)) → x ≡ number_of 10 (field_at (fields_at b at) 1)
   unfolding field_at
   second_is g x j q = q ∙ rw (h.field, j.field)
 
@@ -127,26 +122,26 @@ no_second m count [] h = refl
 no_second m count (f ∷ []) h = and_none (proper 10 f)
 no_second m count (f ∷ g ∷ fs) h = rw h (and_none (proper 10 f))
 
-module _ (fs : List (List ℕ)) (w : List ℕ) (x : Number) (q : x ≡ number_of 10 (field_at fs 1)) where
-  pub n_wrong : x ≡ number.Wrong → Tried (opening_read (value_of 10 (field_at fs 1)) fs) w false w
+module _ (fs : List (List ℕ)) (w : List ℕ) (x : Option ℕ) (q : x ≡ number_of 10 (field_at fs 1)) where
+  pub n_wrong : x ≡ None → Tried (opening_read (value_of 10 (field_at fs 1)) fs) w false w
   unfolding number_of opening_read
   n_wrong e = go (proper 10 (field_at fs 1)) refl (sym q ∙ e)
     where
-      go : (b : Bool) → proper 10 (field_at fs 1) ≡ b → cond b (number.Is (value_of 10 (field_at fs 1))) number.Wrong ≡ number.Wrong → Tried (opening_read (value_of 10 (field_at fs 1)) fs) w false w
+      go : (b : Bool) → proper 10 (field_at fs 1) ≡ b → cond b (Some (value_of 10 (field_at fs 1))) None ≡ None → Tried (opening_read (value_of 10 (field_at fs 1)) fs) w false w
       go true u v = absurd (let z : ◌≡◌ {A = ℕ} 0 1 = cc in omega arith)
       go false u v = refused _ w (rw (no_second (value_of 10 (field_at fs 1)) (length fs) fs u, and_none (leb (value_of 10 (field_at fs 1)) 16)))
 
-  pub n_is : (k : ℕ) (r : Bool) (t : List ℕ) → x ≡ number.Is k → Tried (opening_read k fs) w r t → Tried (opening_read (value_of 10 (field_at fs 1)) fs) w r t
+  pub n_is : (k : ℕ) (r : Bool) (t : List ℕ) → x ≡ Some k → Tried (opening_read k fs) w r t → Tried (opening_read (value_of 10 (field_at fs 1)) fs) w r t
   unfolding number_of
   n_is k r t e y = go (proper 10 (field_at fs 1)) refl (sym q ∙ e)
     where
-      go : (b : Bool) → proper 10 (field_at fs 1) ≡ b → cond b (number.Is (value_of 10 (field_at fs 1))) number.Wrong ≡ number.Is k → Tried (opening_read (value_of 10 (field_at fs 1)) fs) w r t
+      go : (b : Bool) → proper 10 (field_at fs 1) ≡ b → cond b (Some (value_of 10 (field_at fs 1))) None ≡ Some k → Tried (opening_read (value_of 10 (field_at fs 1)) fs) w r t
       go true u v = let s : value_of 10 (field_at fs 1) ≡ k = cc in rw s y
       go false u v = absurd (let z : ◌≡◌ {A = ℕ} 0 1 = cc in omega arith)
 
 pub ruleset n_cases = (n_wrong, n_is)
 
-none_read : (n : ℕ) → opening_read n [] ≡ none
+none_read : (n : ℕ) → opening_read n [] ≡ None
 unfolding opening_read field_at proper right complete
 none_read n = rw (no_second n 0 [] refl, and_none)
 

@@ -1,6 +1,5 @@
 -- The fields of an opening line by their places: the form of each, and what reading them all gives.
-use Rattle.std.specs.Prelude.{ℕ, zero, suc, ◌+◌, ◌≤◌, ◌<◌, Bool, true, false, cond, ◌&&◌, ◌||◌, List, [], ◌∷◌, ◌++◌, ◌≡◌, refl, eqb, ltb, length, replicate}
-use Rattle.std.proofs.Math.Option.{Option, none}
+use Rattle.std.specs.Prelude.{ℕ, zero, suc, ◌+◌, ◌≤◌, ◌<◌, Bool, true, false, cond, ◌&&◌, ◌||◌, List, [], ◌∷◌, ◌++◌, ◌≡◌, refl, eqb, ltb, length, replicate, Option, None}
 use Rattle.std.proofs.Common.{sym, ap, ◌∙◌, arith}
 use borrow.Author.Tests.{eq-eqb, ne_eqb, lt-ltb, le-ltb, le-leb, eqb-true, eqb-false}
 use Rattle.text.specs.Numbers.{DECIMAL, WORD, PACK, value_of, values_of}
@@ -107,30 +106,30 @@ count_right n count = eqb count (7 + n) || eqb count (7 + n + n) || eqb count (7
 
 -- what numbers of an opening line come to, by how many they are
 unfoldable pub counted_from : ℕ → List ℕ → Option Point
-counted_from n xs = cond (count_right n (length xs)) (opening_from n xs) none
+counted_from n xs = cond (count_right n (length xs)) (opening_from n xs) None
 
 pub values_length : (n k : ℕ) (fs : List (List ℕ)) → length (values_all n k fs) ≡ length fs
 unfolding values_all
 values_length n k [] = refl
 values_length n k (f ∷ fs) = ap suc (values_length n (k + 1) fs)
 
-pub none_of : (b : Bool) → ◌≡◌ {A = Option Point} none (cond b none none)
+pub none_of : (b : Bool) → ◌≡◌ {A = Option Point} None (cond b None None)
 none_of true = refl
 none_of false = refl
 
-pub opening_counted : (n : ℕ) (fs : List (List ℕ)) → n ≤ 16 → opening_read n fs ≡ cond (proper_all n 0 fs) (counted_from n (values_all n 0 fs)) none
+pub opening_counted : (n : ℕ) (fs : List (List ℕ)) → n ≤ 16 → opening_read n fs ≡ cond (proper_all n 0 fs) (counted_from n (values_all n 0 fs)) None
 unfolding opening_read forms_for figure_count counted_from count_right
 opening_counted n fs h = rw (le-leb n 16 h, values_length n 0 fs) (go (eqb (length fs) (7 + n)) refl (eqb (length fs) (7 + n + n)) refl (eqb (length fs) (7 + n + n + 1)) refl)
   where
     whole : (m : ℕ) → length fs ≡ 7 + n + m → opening_forms n m ≡ forms_from n 0 (length fs)
     whole m e = forms_opening n m ∙ ap (forms_from n 0) (sym e)
 
-    same : (m : ℕ) → length fs ≡ 7 + n + m → cond (all_proper (opening_forms n m) fs) (opening_from n (values_of (opening_forms n m) fs)) none ≡ cond (proper_all n 0 fs) (opening_from n (values_all n 0 fs)) none
+    same : (m : ℕ) → length fs ≡ 7 + n + m → cond (all_proper (opening_forms n m) fs) (opening_from n (values_of (opening_forms n m) fs)) None ≡ cond (proper_all n 0 fs) (opening_from n (values_all n 0 fs)) None
     same m e = rw (whole m e, proper_forms n 0 fs, values_forms n 0 fs)
 
     go : (a : Bool) → eqb (length fs) (7 + n) ≡ a → (b : Bool) → eqb (length fs) (7 + n + n) ≡ b → (c : Bool) → eqb (length fs) (7 + n + n + 1) ≡ c →
-        cond (all_proper (opening_forms n (cond a 0 (cond b n (n + 1)))) fs) (opening_from n (values_of (opening_forms n (cond a 0 (cond b n (n + 1)))) fs)) none
-        ≡ cond (proper_all n 0 fs) (cond (a || b || c) (opening_from n (values_all n 0 fs)) none) none
+        cond (all_proper (opening_forms n (cond a 0 (cond b n (n + 1)))) fs) (opening_from n (values_of (opening_forms n (cond a 0 (cond b n (n + 1)))) fs)) None
+        ≡ cond (proper_all n 0 fs) (cond (a || b || c) (opening_from n (values_all n 0 fs)) None) None
     go true u b v c x = same 0 (eqb-true _ _ u ∙ omega arith)
     go false u true v c x = same n (eqb-true _ _ v)
     go false u false v true x = same (n + 1) (eqb-true _ _ x ∙ omega arith)

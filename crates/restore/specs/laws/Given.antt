@@ -1,9 +1,7 @@
 -- An opening line as the code takes it: what is asked of its numbers, and what it comes to.
-use Rattle.std.specs.Prelude.{ℕ, ◌+◌, ◌^◌, ◌≤◌, ◌<◌, Bool, cond, not, List, ◌≡◌, refl, ltb, length, get_or, take, drop, replicate}
+use Rattle.std.specs.Prelude.{ℕ, ◌+◌, ◌^◌, ◌≤◌, ◌<◌, Bool, cond, not, List, ◌≡◌, refl, ltb, length, get_or, take, drop, replicate, Option, None, Result}
 use Rattle.std.proofs.Math.Bool.{true, false}
-use Rattle.std.proofs.Math.Option.{Option, none}
-use Rattle.std.proofs.Common.{sym, ◌∙◌, arith, length-take-le, get_or-take, Fits, lt-ltb, le-ltb, eqb-true}
-use Rattle.std.proofs.Math.Dec.{eqb}
+use Rattle.std.proofs.Common.{sym, ◌∙◌, arith, length-take-le, get_or-take, Fits, lt-ltb, le-ltb}
 use Rattle.std.specs.Int.{w32}
 use Rattle.std.proofs.lemmas.Bool.{not-true, not-false}
 use Rattle.opening.specs.Arguments.{Arguments, arguments}
@@ -15,9 +13,12 @@ use Rattle.restore.specs.Restoring.{Point, opened_from, opening_from}
 use Rattle.restore.specs.laws.Forms.{count_right}
 use Rattle.restore.specs.laws.Opened.{CoinsFit, Copied, WeightsRead, WeightsAsked, part_front}
 use Rattle.restore.specs.laws.Applying.{Tried, applies, words_or}
+use Rattle.std.specs.Result.{is_ok}
+use Rattle.settings.specs.declared.refusal.Refusal.{Refusal}
+use Rattle.settings.specs.laws.Answers.{true_taken}
 
 -- a line that cannot be applied
-pub refused : (p : Option Point) (w : List ℕ) → p ≡ none → Tried p w false w
+pub refused : (p : Option Point) (w : List ℕ) → p ≡ None → Tried p w false w
 unfolding applies words_or
 refused p w e = rw e (record { answer = refl; words = refl })
 
@@ -26,11 +27,11 @@ abbrev pub arguments_with : (n : ℕ) (xs coins weights : List ℕ) (boxed : ℕ
 arguments_with n xs coins weights boxed = arguments (get_or xs 0 0) n (get_or xs 2 0) (get_or xs 3 0) (get_or xs 4 0) (get_or xs 5 0) (get_or xs 6 0) coins weights boxed
 
 -- the opening
-pub open_tried : (w t : List ℕ) (o : Arguments) (a : ℕ) → length w ≡ 2048 → a ≡ open_answer (length w) o → t ≡ opened w o → Tried (opened_from o) w (eqb a 0) t
+pub open_tried : (w t : List ℕ) (o : Arguments) (a : Result (Unit {0}) Refusal) → length w ≡ 2048 → a ≡ open_answer (length w) o → t ≡ opened w o → Tried (opened_from o) w (is_ok a) t
 unfolding opened_from opened applies words_or
-open_tried w t o a s e f = go (eqb (open_answer 2048 o) 0) refl
+open_tried w t o a s e f = go (is_ok (open_answer 2048 o)) refl
   where
-    go : (b : Bool) → eqb (open_answer 2048 o) 0 ≡ b → Tried (opened_from o) w (eqb a 0) t
+    go : (b : Bool) → is_ok (open_answer 2048 o) ≡ b → Tried (opened_from o) w (is_ok a) t
     go true u = record { answer = rw (e, s, u); words = f ∙ rw (s, u) }
     go false u = record { answer = rw (e, s, u); words = f ∙ rw (s, u) }
 
@@ -51,7 +52,7 @@ module _ (n count : ℕ) (xs w : List ℕ) (g : OpenGiven n count xs w) where
   abbrev line : Arguments
   line = arguments_with n xs (take n (drop 7 xs)) (weights_from n (take count xs)) (boxed_from n (take count xs))
 
-  opening_is : opening_from n (take count xs) ≡ cond (ltb (get_or xs 5 0) (2 ^ 32)) (opened_from line) none
+  opening_is : opening_from n (take count xs) ≡ cond (ltb (get_or xs 5 0) (2 ^ 32)) (opened_from line) None
   unfolding opening_from
   opening_is =
       rw (front 0 (omega arith), front 2 (omega arith), front 3 (omega arith), front 4 (omega arith), front 5 (omega arith), front 6 (omega arith), part_front 7 n count xs g.least (omega (arith, g.long)))
@@ -67,9 +68,9 @@ module _ (n count : ℕ) (xs w : List ℕ) (g : OpenGiven n count xs w) where
     unfolding opened_from
     weights_wrong e = refused _ w (told ∙ go _ refl)
       where
-        go : (b : Bool) → eqb (open_answer 2048 line) 0 ≡ b → opened_from line ≡ none
+        go : (b : Bool) → is_ok (open_answer 2048 line) ≡ b → opened_from line ≡ None
         go false u = rw u
-        go true u = no_truth (sym (accepted_given 2048 line (eqb-true _ _ u)) ∙ h.wrong (not-true r e))
+        go true u = no_truth (sym (accepted_given 2048 line (true_taken _ u)) ∙ h.wrong (not-true r e))
 
     pub values_opened : (q : Bool) (coins after : List ℕ) (boxed : ℕ) → not r ≡ false → Copied xs 7 n 16 coins → boxed ≡ boxed_from n (take count xs) →
         Tried (opened_from (arguments_with n xs (take n coins) (take n weights) boxed)) w q after → Tried (opening_from n (take count xs)) w q after

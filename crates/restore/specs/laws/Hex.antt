@@ -1,6 +1,6 @@
 -- A field of hexadecimal digits that is read as bytes.
 use Prim.Native.Nat.{ℕ, suc, ◌+◌, ◌*◌, ◌≤◌, ◌<◌}
-use Rattle.std.specs.Prelude.{Bool, true, false, cond, ◌&&◌, ◌≡◌, refl, leb, ltb, set}
+use Rattle.std.specs.Prelude.{Bool, true, false, cond, ◌&&◌, ◌≡◌, refl, leb, ltb, set, Option, Some, None}
 use mathlib.Core.List.{List, [], ◌∷◌, ◌++◌, append-nil, append_assoc}
 use Rattle.std.proofs.Common.{sym, ◌∙◌, arith, length-append}
 use Rattle.std.proofs.Math.Path.{ap}
@@ -11,22 +11,20 @@ use borrow.Author.Tests.{lt-ltb, le-ltb, le-leb, lt-leb, ltb-true}
 use Rattle.text.specs.Numbers.{digit_of}
 use Rattle.restore.specs.laws.Truth.{and_none}
 use Rattle.restore.specs.Reading.{hex_right, bytes_of}
-use Rattle.restore.specs.declared.fields.Hex.{Hex}
-use Rattle.restore.specs.declared.fields.Hex.TheVariants.{Wrong, Is}
 
 -- the byte of two digits, and 256 where one is none
 unfoldable pub byte_of : ℕ → ℕ → ℕ
 byte_of a b = cond (ltb (digit_of a) 16) (cond (ltb (digit_of b) 16) (digit_of a * 16 + digit_of b) 256) 256
 
 -- the number of bytes of a field, where it is right and there is room for them
-unfoldable pub hex_of : List ℕ → ℕ → Hex
-hex_of f room = cond (hex_right f && leb (length (bytes_of f)) room) (Is (length (bytes_of f))) Wrong
+unfoldable pub hex_of : List ℕ → ℕ → Option ℕ
+hex_of f room = cond (hex_right f && leb (length (bytes_of f)) room) (Some (length (bytes_of f))) None
 
 -- the field f was read into lent bytes that are now after
-pub record HexRead (f : List ℕ) (room : ℕ) (r : Hex) (after : List ℕ) : Type 0 where
+pub record HexRead (f : List ℕ) (room : ℕ) (r : Option ℕ) (after : List ℕ) : Type 0 where
   pub size : length after ≡ room
   pub answer : r ≡ hex_of f room
-  pub bytes : (n : ℕ) → r ≡ Is n → take n after ≡ bytes_of f
+  pub bytes : (n : ℕ) → r ≡ Some n → take n after ≡ bytes_of f
 
 -- two digits that are a byte
 record Byte (a b x : ℕ) : Type 0 where
@@ -69,7 +67,7 @@ module _ (a b d : ℕ) (p : d ≡ digit_of a) where
 
 pub ruleset byte_cases = (byte_first, byte_second, byte_both)
 
-wrong_read : (f after : List ℕ) (room : ℕ) → length after ≡ room → hex_right f && leb (length (bytes_of f)) room ≡ false → HexRead f room Wrong after
+wrong_read : (f after : List ℕ) (room : ℕ) → length after ≡ room → hex_right f && leb (length (bytes_of f)) room ≡ false → HexRead f room None after
 unfolding hex_of
 wrong_read f after room s e = record { size = s; answer = rw e; bytes = λ n z. absurd (let y : ◌≡◌ {A = ℕ} 0 1 = cc in omega arith) }
 
@@ -98,14 +96,14 @@ module _ (f out : List ℕ) (room k : ℕ) (h : Hexing f out room k) where
         ∙ ap (λ (m : ℕ). get_or f (2 * k) 0 ∷ drop m f) second
         ∙ ap (λ (t : List ℕ). get_or f (2 * k) 0 ∷ t) (drop-cons f (2 * k + 1) 0 l ∙ ap (λ (m : ℕ). get_or f (2 * k + 1) 0 ∷ drop m f) third)
 
-    pub hexing_long : length out ≤ k → HexRead f room Wrong out
+    pub hexing_long : length out ≤ k → HexRead f room None out
     unfolding bytes_of
     hexing_long r =
         let more : length (bytes_of (drop (2 * k) f)) ≡ suc (length (bytes_of (drop (2 * (k + 1)) f))) = ap (λ (g : List ℕ). length (bytes_of g)) pair in
         wrong_read f out room h.size (rw (lt-leb (length (bytes_of f)) room (omega (arith, long, h.size))) (and_none (hex_right f)))
 
     module _ (x : ℕ) (p : x ≡ byte_of (get_or f (2 * k) 0) (get_or f (2 * k + 1) 0)) where
-      pub hexing_wrong : 255 < x → HexRead f room Wrong out
+      pub hexing_wrong : 255 < x → HexRead f room None out
       hexing_wrong n = wrong_read f out room h.size (rw (h.right ∙ ap hex_right pair ∙ no_byte (get_or f (2 * k) 0) (get_or f (2 * k + 1) 0) (drop (2 * (k + 1)) f) (rw p at n)))
 
       pub hexing_next : x ≤ 255 → k < length out → Hexing f (set out k x) room (k + 1)
@@ -120,13 +118,13 @@ module _ (f out : List ℕ) (room k : ℕ) (h : Hexing f out room k) where
             bytes = h.bytes ∙ ap (λ (g : List ℕ). take k out ++ bytes_of g) pair ∙ rw (← b.value, add-one k, take-suc-set out k x r) (sym (append_assoc (take k out) (x ∷ []) _));
           }
 
-  pub hexing_odd : length f ≤ 2 * k + 1 → 2 * k < length f → HexRead f room Wrong out
+  pub hexing_odd : length f ≤ 2 * k + 1 → 2 * k < length f → HexRead f room None out
   unfolding hex_right
   hexing_odd l n =
       let last : drop (2 * k) f ≡ get_or f (2 * k) 0 ∷ [] = drop-cons f (2 * k) 0 n ∙ ap (λ (g : List ℕ). get_or f (2 * k) 0 ∷ g) (drop_of_length-le f {i = suc (2 * k)} (omega arith)) in
       wrong_read f out room h.size (rw (h.right ∙ ap hex_right last))
 
-  pub hexing_done : length f ≤ 2 * k → HexRead f room (Is k) out
+  pub hexing_done : length f ≤ 2 * k → HexRead f room (Some k) out
   unfolding hex_of hex_right bytes_of
   hexing_done l =
       let none : drop (2 * k) f ≡ [] = drop_of_length-le f l in

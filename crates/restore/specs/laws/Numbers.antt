@@ -1,5 +1,5 @@
 -- A field that is read as a number.
-use Rattle.std.specs.Prelude.{ℕ, ◌+◌, ◌*◌, ◌^◌, ◌≤◌, ◌<◌, Bool, ◌&&◌, not, List, [], ◌∷◌, ◌≡◌, eqb, length, get_or, drop}
+use Rattle.std.specs.Prelude.{ℕ, ◌+◌, ◌*◌, ◌^◌, ◌≤◌, ◌<◌, Bool, ◌&&◌, not, List, [], ◌∷◌, ◌≡◌, eqb, length, get_or, drop, Option, Some, None}
 use Rattle.std.proofs.Math.Bool.{true, false, cond}
 use Rattle.std.proofs.Math.Path.{refl, sym, ap}
 use Rattle.std.proofs.Common.{◌∙◌, arith, add-one, mul-le-mul_left, drop_of_length-le, drop-cons}
@@ -9,16 +9,14 @@ use Rattle.text.specs.Fields.{letter}
 use Rattle.text.specs.Numbers.{digit_of, base_of, all_digits, value_from, value_of, complete, right}
 use Rattle.restore.specs.laws.Truth.{and_none}
 use Rattle.restore.specs.Reading.{zero_led, proper}
-use Rattle.restore.specs.declared.fields.Number.{Number}
-use Rattle.restore.specs.declared.fields.Number.TheVariants.{Wrong, Is}
 
 -- the number of digits to a base, after the number v, where it is below 2^64
-unfoldable pub digits_from : ℕ → ℕ → List ℕ → Number
-digits_from base v f = cond (all_digits base f && ltb (value_from base v f) (2 ^ 64)) (Is (value_from base v f)) Wrong
+unfoldable pub digits_from : ℕ → ℕ → List ℕ → Option ℕ
+digits_from base v f = cond (all_digits base f && ltb (value_from base v f) (2 ^ 64)) (Some (value_from base v f)) None
 
 -- the number of a field of a form
-unfoldable pub number_of : ℕ → List ℕ → Number
-number_of form f = cond (proper form f) (Is (value_of form f)) Wrong
+unfoldable pub number_of : ℕ → List ℕ → Option ℕ
+number_of form f = cond (proper form f) (Some (value_of form f)) None
 
 -- a loop that has read the first k digits
 pub record Counting (base : ℕ) (f : List ℕ) (k v : ℕ) : Type 0 where
@@ -44,7 +42,7 @@ pub counting_fits : (v base d : ℕ) (t : Bool) → t ≡ ltb (v * base + d) (2 
 counting_fits v base d t q b = ltb-true _ _ (sym q ∙ not-false t b)
 
 module _ (base : ℕ) (f : List ℕ) (k v : ℕ) (h : Counting base f k v) where
-  pub counting_done : length f ≤ k → Is v ≡ digits_from base 0 f
+  pub counting_done : length f ≤ k → Some v ≡ digits_from base 0 f
   unfolding digits_from all_digits value_from
   counting_done l = sym (h.whole ∙ rw (drop_of_length-le f l, lt-ltb v (2 ^ 64) h.fits))
 
@@ -52,12 +50,12 @@ module _ (base : ℕ) (f : List ℕ) (k v : ℕ) (h : Counting base f k v) where
     here : drop k f ≡ get_or f k 0 ∷ drop (k + 1) f
     here = rw add-one (drop-cons f k 0 l)
 
-    pub counting_no_digit : base ≤ d → Wrong ≡ digits_from base 0 f
+    pub counting_no_digit : base ≤ d → None ≡ digits_from base 0 f
     unfolding digits_from all_digits
     counting_no_digit n = sym (h.whole ∙ rw (here, ← e, le-ltb d base n))
 
     module _ (n : d < base) (t : Bool) (q : t ≡ ltb (v * base + d) (2 ^ 64)) where
-      pub counting_too_big : not t ≡ true → Wrong ≡ digits_from base 0 f
+      pub counting_too_big : not t ≡ true → None ≡ digits_from base 0 f
       unfolding digits_from all_digits value_from
       counting_too_big b =
           let big : 2 ^ 64 ≤ v * base + d = ltb-false _ _ (sym q ∙ not-true t b) in
@@ -74,20 +72,20 @@ pub ruleset counting = (counting_start, counting_done, counting_no_digit, counti
 
 -- the cases of a number
 module _ (form : ℕ) (f : List ℕ) (t : Bool) (q : t ≡ complete form (length f)) where
-  pub number_incomplete : not t ≡ true → Wrong ≡ number_of form f
+  pub number_incomplete : not t ≡ true → None ≡ number_of form f
   unfolding number_of proper right
   number_incomplete b = rw (← q, not-true t b)
 
   module _ (b : not t ≡ false) (z : Bool) (p : z ≡ zero_led f) where
-    pub number_zero_led : eqb form 10 && z ≡ true → Wrong ≡ number_of form f
+    pub number_zero_led : eqb form 10 && z ≡ true → None ≡ number_of form f
     unfolding number_of proper
     number_zero_led s = rw (← p, s, and_none)
 
-    pub number_digits : (base : ℕ) (r : Number) → eqb form 10 && z ≡ false → base ≡ base_of form → r ≡ digits_from base 0 f → r ≡ number_of form f
+    pub number_digits : (base : ℕ) (r : Option ℕ) → eqb form 10 && z ≡ false → base ≡ base_of form → r ≡ digits_from base 0 f → r ≡ number_of form f
     unfolding number_of proper right digits_from value_of
     number_digits base r s e d = d ∙ rw (← p, s, e, ← q, not-false t b) (go (all_digits (base_of form) f && ltb (value_from (base_of form) 0 f) (2 ^ 64)))
       where
-        go : (x : Bool) → cond x (Is (value_from (base_of form) 0 f)) Wrong ≡ cond (x && true) (Is (value_from (base_of form) 0 f)) Wrong
+        go : (x : Bool) → cond x (Some (value_from (base_of form) 0 f)) None ≡ cond (x && true) (Some (value_from (base_of form) 0 f)) None
         go true = refl
         go false = refl
 

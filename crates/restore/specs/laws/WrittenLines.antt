@@ -1,10 +1,9 @@
 -- What a line says is read back: an accepted opening, delivery or recording, a turn that acts.
 use Prim.Native.Nat.{ℕ, zero, suc, ◌+◌, ◌-◌, ◌*◌, ◌/◌, ◌%◌, ◌^◌, ◌≤◌, ◌<◌}
-use Rattle.std.specs.Prelude.{Bool, ◌≢◌, take, drop, leb, ltb}
+use Rattle.std.specs.Prelude.{Bool, ◌≢◌, take, drop, leb, ltb, Some, None, Ok}
 use Rattle.std.proofs.Math.Bool.{true, false, cond}
 use mathlib.Core.List.{List, [], ◌∷◌, ◌++◌}
 use Rattle.std.proofs.Common.{inl, inr, ◌∙◌, mod-lt, length-append, take_at, drop_at, drop-drop, get_or-drop}
-use Rattle.std.proofs.Math.Option.{none, some}
 use Rattle.std.proofs.Math.Path.{◌≡◌, refl, sym, ap}
 use native.Mathlib.Omega.{arith}
 use Rattle.std.proofs.Math.ListN.{length, replicate, get_or}
@@ -167,7 +166,7 @@ figures_small [] boxed h k (suc i) l = absurd (omega arith)
 figures_small (x ∷ weights) boxed h k zero l = k 0 (omega arith)
 figures_small (x ∷ weights) boxed h k (suc i) l = figures_small weights boxed h (λ j m. k (suc j) (omega arith)) i (omega arith)
 
-module _ (o : Arguments) (taken : open_answer state_words o ≡ 0) where
+module _ (o : Arguments) (taken : open_answer state_words o ≡ Ok tt) where
   told : Accepted state_words o
   told = accepted state_words o taken
 
@@ -269,7 +268,7 @@ module _ (o : Arguments) (taken : open_answer state_words o ≡ 0) where
     n_read = (decimal_read o.n (omega (arith, rules.few))).1
 
     -- an accepted opening
-    pub first_reads : first_line (opening_text o) ≡ some (record { words = open_words o; turned = none })
+    pub first_reads : first_line (opening_text o) ≡ Some (record { words = open_words o; turned = None })
     unfolding first_line first_of letter opening_read opening_from opened_from
     first_reads =
         rw (
@@ -300,14 +299,14 @@ delivery_fields link b =
     fields_tabbed (68 ∷ []) (decimal_text link ∷ hex_bytes b ∷ []) (λ e. absurd (omega arith), tt)
     (decimal_without TAB (omega arith) link, (hex_without TAB (omega arith) b, tt))
 
-link_small : (w : List ℕ) (m : ℕ) (b : List ℕ) → deliver_answer w m b ≡ 0 → m < 2 ^ 64
+link_small : (w : List ℕ) (m : ℕ) (b : List ℕ) → deliver_answer w m b ≡ Ok tt → m < 2 ^ 64
 link_small w m b e =
     let t = answer_accepted w m b e in
     let f = accepted_link w m b (verdict w m b) refl t.message t.accepted in
     omega (arith, f.fits)
 
 -- an accepted delivery
-pub delivery_reads : (w : List ℕ) (m : ℕ) (b : List ℕ) → EachByte b → deliver_answer w m b ≡ 0 → next_line w (delivery_text m b) ≡ some (record { words = delivered w m b; turned = none })
+pub delivery_reads : (w : List ℕ) (m : ℕ) (b : List ℕ) → EachByte b → deliver_answer w m b ≡ Ok tt → next_line w (delivery_text m b) ≡ Some (record { words = delivered w m b; turned = None })
 unfolding next_line next_of letter delivered_from
 delivery_reads w m b each e =
     let small = link_small w m b e in
@@ -328,7 +327,7 @@ recording_fields i r b =
     (numbers_without TAB (omega arith) recording_forms (i ∷ r ∷ b ∷ []))
 
 -- an accepted recording
-pub recording_reads : (w : List ℕ) (i r b : ℕ) → record_answer w i r b ≡ 0 → next_line w (recording_text i r b) ≡ some (record { words = recorded_words w i r b; turned = none })
+pub recording_reads : (w : List ℕ) (i r b : ℕ) → record_answer w i r b ≡ Ok tt → next_line w (recording_text i r b) ≡ Some (record { words = recorded_words w i r b; turned = None })
 unfolding next_line next_of letter recorded_from recorded_by settings_of
 recording_reads w i r b e =
     let k = recordable_told w i r b e in
@@ -341,6 +340,6 @@ pub turn_without : Without LF turn_text
 turn_without = (λ z. absurd (let y : ◌≡◌ {A = ℕ} 84 10 = z in omega arith), tt)
 
 -- a turn that acts, whatever it is lent
-pub turn_reads : (w : List ℕ) (room : ℕ) → acts (turn_outcome w room) ≡ true → next_line w turn_text ≡ some (record { words = turn_words w room; turned = some w })
+pub turn_reads : (w : List ℕ) (room : ℕ) → acts (turn_outcome w room) ≡ true → next_line w turn_text ≡ Some (record { words = turn_words w room; turned = Some w })
 unfolding next_line next_of fields in_front letter turned_from
 turn_reads w room e = rw (acts_outcome w room e, e, acts_words w room e)

@@ -1,14 +1,8 @@
-use Rattle.quorum.specs.laws.Every.{holding}
+-- Each of 1 to n is asked.
+use Rattle.std.proofs.Common.{rules}
+use Rattle.quorum.proofs.laws.Asked.{every_asked}
+use Rattle.session.specs.laws.Session.{place_right}
 use Rattle.session.proofs.places_right.Goals as goal
 
-pub loop-k-init : goal.loop-k-init
-loop-k-init c = search holding
-
-pub returns-then-not-place_right : goal.returns-then-not-place_right
-returns-then-not-place_right c = search holding
-
-pub loop-k-preserved : goal.loop-k-preserved
-loop-k-preserved c = search holding
-
 pub returns : goal.returns
-returns c = search holding
+returns c = every_asked (place_right c.args.s.now c.args.n) c.all.result c.all.ensures.ran (λ k b f h. search rules)

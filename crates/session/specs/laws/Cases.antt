@@ -1,5 +1,5 @@
 -- The cases of the code.
-use Rattle.std.specs.Prelude.{ℕ, ◌≤◌, ◌<◌, Bool, true, false, ◌&&◌, not, List, ◌≡◌, length}
+use Rattle.std.specs.Prelude.{ℕ, ◌≤◌, ◌<◌, Bool, true, false, ◌&&◌, not, List, ◌≡◌, length, Option, Some, None}
 use Rattle.std.proofs.Common.{sym, ◌∙◌, arith, Fits}
 use Rattle.std.specs.Int.{w8}
 use Rattle.std.proofs.Math.Dec.{leb}
@@ -9,8 +9,6 @@ use Rattle.settings.specs.Check.{check_settings}
 use Rattle.settings.specs.Versions.{version_known, turn_bound}
 use Rattle.settings.specs.laws.Rules.{Taken, check_taken, check_refused}
 use Rattle.settings.specs.declared.Settings.{Settings}
-use Rattle.settings.specs.declared.Checked.{Checked}
-use Rattle.settings.specs.declared.Checked.TheVariants.{Valid, Invalid}
 use Rattle.quorum.specs.Every.{every}
 use Rattle.quorum.specs.laws.Every.{every_both}
 use Rattle.quorum.specs.Whole.{whole_of}
@@ -22,8 +20,6 @@ use Rattle.records.specs.Words.{word}
 use Rattle.session.specs.Session.{numbered, rounds_right, commits_right, numbers_right, settings_of, is_state, session_with, session_of, stored}
 use Rattle.session.specs.laws.Session.{place_right, is_state_lem, stored_with}
 use Rattle.session.specs.declared.Session.{Session}
-use Rattle.session.specs.declared.Stored.{Stored}
-use Rattle.session.specs.declared.Stored.TheVariants.{NoState, Held}
 
 module _ (g : Settings) (s : List ℕ) (own : ℕ) (eo : own ≡ word s own_at) (b : Bool) (eb : b ≡ numbered g.n own) where
   pub own_wrong : not b ≡ true → false ≡ numbers_right g s
@@ -56,24 +52,24 @@ own_small g s b e t h =
     let l : word s own_at ≤ g.n = leb-true (word s own_at) g.n (and_right (leb 1 (word s own_at)) _ o) in
     omega arith
 
-pub with_held : (g : Settings) (s : List ℕ) (b : Bool) (x : Session) → b ≡ numbers_right g s → b ≡ true → x ≡ session_with g s → Held x ≡ stored_with g s
+pub with_held : (g : Settings) (s : List ℕ) (b : Bool) (x : Session) → b ≡ numbers_right g s → b ≡ true → x ≡ session_with g s → Some x ≡ stored_with g s
 unfolding stored_with
 with_held g s b x e t f = rw (← e, t, f)
 
-pub with_none : (g : Settings) (s : List ℕ) (b : Bool) → b ≡ numbers_right g s → b ≡ false → NoState ≡ stored_with g s
+pub with_none : (g : Settings) (s : List ℕ) (b : Bool) → b ≡ numbers_right g s → b ≡ false → None ≡ stored_with g s
 unfolding stored_with
 with_none g s b e t = rw (← e, t)
 
-pub size_wrong : (s : List ℕ) → (length s ≡ 2048 → ⊥) → NoState ≡ stored s
+pub size_wrong : (s : List ℕ) → (length s ≡ 2048 → ⊥) → None ≡ stored s
 unfolding stored is_state
 size_wrong s h = rw (ne_eqb (length s) 2048 h)
 
-module _ (s : List ℕ) (size : length s ≡ 2048) (n ta ts w : ℕ) (en : n ≡ word s n_at) (ea : ta ≡ word s ta_at) (es : ts ≡ word s ts_at) (ew : w ≡ word s weights_at) (c : Checked) (ec : c ≡ check_settings n ta ts w) where
-  pub settings_wrong : c ≡ Invalid → NoState ≡ stored s
+module _ (s : List ℕ) (size : length s ≡ 2048) (n ta ts w : ℕ) (en : n ≡ word s n_at) (ea : ta ≡ word s ta_at) (es : ts ≡ word s ts_at) (ew : w ≡ word s weights_at) (c : Option Settings) (ec : c ≡ check_settings n ta ts w) where
+  pub settings_wrong : c ≡ None → None ≡ stored s
   unfolding stored is_state
   settings_wrong t = rw (eq-eqb (length s) 2048 size, ← en, ← ea, ← es, ← ew, check_refused n ta ts w (sym ec ∙ t))
 
-  pub settings_right : (g : Settings) (r : Stored) → c ≡ Valid g → r ≡ stored_with g s → r ≡ stored s
+  pub settings_right : (g : Settings) (r : Option Session) → c ≡ Some g → r ≡ stored_with g s → r ≡ stored s
   unfolding stored is_state session_of stored_with settings_of
   settings_right g r t f =
       let k : Taken n ta ts w g = check_taken n ta ts w g (sym ec ∙ t) in

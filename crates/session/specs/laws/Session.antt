@@ -1,6 +1,6 @@
 -- When a lent buffer holds a state: the refusal 9, NO STATE.
 -- What a buffer that holds a state tells.
-use Rattle.std.specs.Prelude.{ℕ, ◌≤◌, Bool, ◌&&◌, cond, true, false, List, length, eqb, leb, ◌≡◌, refl}
+use Rattle.std.specs.Prelude.{ℕ, ◌≤◌, Bool, ◌&&◌, cond, true, false, List, length, eqb, leb, ◌≡◌, refl, Option, Some, None}
 use Rattle.settings.specs.Settings.{valid_settings, moved_out_round}
 use Rattle.settings.specs.Versions.{version_known, turn_bound}
 use Rattle.settings.specs.laws.Versions.{Known, version_known_lem, known_version}
@@ -10,8 +10,6 @@ use Rattle.records.specs.Layout.{n_at, ta_at, ts_at, own_at, weights_at, boxed_a
 use Rattle.records.specs.Records.{version}
 use Rattle.records.specs.Words.{word}
 use Rattle.session.specs.declared.Session.{Session}
-use Rattle.session.specs.declared.Stored.{Stored}
-use Rattle.session.specs.declared.Stored.TheVariants.{NoState, Held}
 use Rattle.session.specs.Session.{numbered, rounds_right, commits_right, numbers_right, settings_of, is_state, session_with, session_of, stored}
 use Rattle.std.proofs.Common.{arith, eqb-true, eq-eqb, leb-true, le-leb}
 use Rattle.quorum.specs.laws.Bools.{and_left, and_right}
@@ -23,8 +21,8 @@ use Rattle.quorum.specs.laws.Every.{every_each, each_every}
 unfoldable pub place_right : List ℕ → ℕ → ℕ → Bool
 place_right s n k = leb (word s (round_at k)) moved_out_round && leb (word s (commit_count_at k)) n
 
-unfoldable pub stored_with : Settings → List ℕ → Stored
-stored_with g s = cond (numbers_right g s) (Held (session_with g s)) NoState
+unfoldable pub stored_with : Settings → List ℕ → Option Session
+stored_with g s = cond (numbers_right g s) (Some (session_with g s)) None
 
 pub record State (s : List ℕ) : Type 0 where
   pub size : length s ≡ 2048
@@ -89,10 +87,10 @@ pub record Read (s : List ℕ) (x : Session) : Type 0 where
   pub state : State s
   pub same : x ≡ session_of s
 
-pub held_read : (s : List ℕ) (x : Session) → stored s ≡ Held x → Read s x
+pub held_read : (s : List ℕ) (x : Session) → stored s ≡ Some x → Read s x
 unfolding stored
 held_read s x e = go (is_state s) refl e
   where
-    go : (b : Bool) → is_state s ≡ b → cond b (Held (session_of s)) NoState ≡ Held x → Read s x
+    go : (b : Bool) → is_state s ≡ b → cond b (Some (session_of s)) None ≡ Some x → Read s x
     go true t f = record { state = is_state_lem s t; same = cc }
     go false t f = absurd (let z : ◌≡◌ {A = ℕ} 0 1 = cc in omega arith)

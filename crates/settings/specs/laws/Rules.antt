@@ -1,5 +1,5 @@
 -- What `valid_settings` and `check_settings` take is what the rules ask.
-use Rattle.std.specs.Prelude.{ℕ, ◌+◌, ◌*◌, ◌≤◌, ◌≡◌, refl, Bool, true, false, ◌&&◌, cond, ltb, leb}
+use Rattle.std.specs.Prelude.{ℕ, ◌+◌, ◌*◌, ◌≤◌, ◌≡◌, refl, Bool, true, false, ◌&&◌, cond, ltb, leb, Some, None}
 use Rattle.std.proofs.Common.{arith, le-leb, lt-ltb, leb-true, ltb-true}
 use Rattle.quorum.specs.laws.Bools.{and_left, and_right}
 use Rattle.quorum.specs.Whole.{whole_of, weights_right}
@@ -7,7 +7,6 @@ use Rattle.quorum.specs.laws.Whole.{whole_le}
 use Rattle.settings.specs.Settings.{valid_settings, settings_from}
 use Rattle.settings.specs.Check.{check_settings}
 use Rattle.settings.specs.declared.Settings.{Settings}
-use Rattle.settings.specs.declared.Checked.TheVariants.{Valid, Invalid}
 use Rattle.settings.specs.Rules.{Rules, Ruled}
 
 pub whole_few : (g : Settings) → Ruled g → g.whole ≤ 64
@@ -32,7 +31,7 @@ pub rules_valid : (n ta ts w : ℕ) → Rules n ta ts (whole_of w n) w → valid
 unfolding valid_settings
 rules_valid n ta ts w r = simp (le-leb 1 n r.some, le-leb n 16 r.few, r.right, le-leb ta ts r.ordered, lt-ltb (2 * ts + ta) (whole_of w n) r.margin)
 
-pub refused_check : (n ta ts w : ℕ) → valid_settings n ta ts w ≡ false → check_settings n ta ts w ≡ Invalid
+pub refused_check : (n ta ts w : ℕ) → valid_settings n ta ts w ≡ false → check_settings n ta ts w ≡ None
 unfolding check_settings
 refused_check n ta ts w e = rw e
 
@@ -41,18 +40,18 @@ pub record Taken (n ta ts w : ℕ) (g : Settings) : Type 0 where
   pub valid : valid_settings n ta ts w ≡ true
   pub same : g ≡ settings_from n ta ts w
 
-pub check_taken : (n ta ts w : ℕ) (g : Settings) → check_settings n ta ts w ≡ Valid g → Taken n ta ts w g
+pub check_taken : (n ta ts w : ℕ) (g : Settings) → check_settings n ta ts w ≡ Some g → Taken n ta ts w g
 unfolding check_settings
 check_taken n ta ts w g e = go (valid_settings n ta ts w) refl e
   where
-    go : (b : Bool) → valid_settings n ta ts w ≡ b → cond b (Valid (settings_from n ta ts w)) Invalid ≡ Valid g → Taken n ta ts w g
+    go : (b : Bool) → valid_settings n ta ts w ≡ b → cond b (Some (settings_from n ta ts w)) None ≡ Some g → Taken n ta ts w g
     go true v q = record { valid = v; same = cc }
     go false v q = absurd (let z : ◌≡◌ {A = ℕ} 0 1 = cc in omega arith)
 
-pub check_refused : (n ta ts w : ℕ) → check_settings n ta ts w ≡ Invalid → valid_settings n ta ts w ≡ false
+pub check_refused : (n ta ts w : ℕ) → check_settings n ta ts w ≡ None → valid_settings n ta ts w ≡ false
 unfolding check_settings
 check_refused n ta ts w e = go (valid_settings n ta ts w) e
   where
-    go : (b : Bool) → cond b (Valid (settings_from n ta ts w)) Invalid ≡ Invalid → b ≡ false
+    go : (b : Bool) → cond b (Some (settings_from n ta ts w)) None ≡ None → b ≡ false
     go true q = absurd (let z : ◌≡◌ {A = ℕ} 0 1 = cc in omega arith)
     go false q = refl

@@ -1,5 +1,5 @@
 -- The digits that the `io` library gives are the text of the definition.
-use Rattle.std.specs.Prelude.{ℕ, zero, suc, ◌+◌, ◌*◌, ◌-◌, ◌/◌, ◌%◌, ◌^◌, ◌≤◌, ◌<◌, Bool, true, false, ◌≡◌, leb, length, get_or, take, set}
+use Rattle.std.specs.Prelude.{ℕ, zero, suc, ◌+◌, ◌*◌, ◌-◌, ◌/◌, ◌%◌, ◌^◌, ◌≤◌, ◌<◌, Bool, true, false, ◌≡◌, leb, min, max, length, get_or, take, set}
 use mathlib.Core.List.{List, [], ◌∷◌, ◌++◌}
 use Rattle.std.proofs.Common.{sym, ◌∙◌, arith, le-div_iff_mul-le, div-lt_iff_lt-mul, mod-eq_of_lt, mod-lt, pow-suc, length-set, Fits}
 use Rattle.std.proofs.Math.Path.{ap, subst}
@@ -8,7 +8,7 @@ use Rattle.std.proofs.Math.Nat.{one-le-pow, pow-le-pow_right}
 use borrow.Author.Tests.{lt-ltb, le-ltb, le-leb, lt-leb, leb-true}
 use Rattle.std.specs.Int.{w64}
 use Rattle.io.specs.Digits.{last_digits, hex_digit_ascii, IsDigitCount}
-use Rattle.text.specs.Numbers.{decimal_in, decimal_text, hex_text, word_text, byte_text}
+use Rattle.text.specs.Numbers.{decimal_in, decimal_text, byte_text}
 use Rattle.text.specs.Paste.{Wrote}
 use Rattle.text.specs.laws.Paste.{wrote_both, wrote_within}
 use Rattle.text.specs.Fields.{each_text}
@@ -63,13 +63,11 @@ module _ (n k : ℕ) (t s after : List ℕ) (a r : ℕ) (h : n < 2 ^ 64) (w : Wr
   pub wrote_decimal : IsDigitCount 10 1 n k → take k t ≡ last_digits 10 k n → Wrote (decimal_text n) s a r after
   wrote_decimal f e = subst (λ (u : List ℕ). Wrote u s a r after) (e ∙ decimal_text_lem n k h f) w
 
-  pub wrote_hex : IsDigitCount 16 16 n k → take k t ≡ last_digits 16 k n → Wrote (hex_text n) s a r after
-  unfolding hex_text
-  wrote_hex f e = subst (λ (u : List ℕ). Wrote u s a r after) (e ∙ ap (λ (m : ℕ). last_digits 16 m n) (exactly 16 n k (omega arith) f)) w
-
-pub wrote_word : (n k : ℕ) (t s after : List ℕ) (a r : ℕ) → n < 2 ^ 32 → Wrote (take k t) s a r after → IsDigitCount 16 8 n k → take k t ≡ last_digits 16 k n → Wrote (word_text n) s a r after
-unfolding word_text
-wrote_word n k t s after a r h w f e = subst (λ (u : List ℕ). Wrote u s a r after) (e ∙ ap (λ (m : ℕ). last_digits 16 m n) (exactly 8 n k (omega arith) f)) w
+pub wrote_width : (n k width : ℕ) (t s after : List ℕ) (a r : ℕ) → 0 < width → width ≤ 16 → n < 16 ^ width → Wrote (take k t) s a r after →
+    IsDigitCount 16 (min (max width 1) 16) n k → take k t ≡ last_digits 16 k n → Wrote (last_digits 16 width n) s a r after
+wrote_width n k width t s after a r p q h w f e =
+    let m : min (max width 1) 16 ≡ width = omega arith in
+    subst (λ (u : List ℕ). Wrote u s a r after) (e ∙ ap (λ (d : ℕ). last_digits 16 d n) (exactly width n k h (rw m at f))) w
 
 -- two digits are a byte's text
 pub wrote_byte : (b c d a r q : ℕ) (s s' s'' : List ℕ) → c ≡ hex_digit_ascii (b / 16) → d ≡ hex_digit_ascii (b % 16) →

@@ -5,14 +5,14 @@ use Rattle.turn.proofs.admit.Goals as goal
 pub returns-then-s-ne-STATE_WORDS : goal.returns-then-s-ne-STATE_WORDS
 returns-then-s-ne-STATE_WORDS c = search admit_cases
 
+pub returns-in_default : goal.returns-in_default
+returns-in_default c = search admit_cases
+
 pub returns-then-closed : goal.returns-then-closed
 returns-then-closed c = search admit_cases
 
 pub returns-then-room-lt-MESSAGE_BYTES : goal.returns-then-room-lt-MESSAGE_BYTES
 returns-then-room-lt-MESSAGE_BYTES c = search admit_cases
 
-pub returns-in-NoState : goal.returns-in-NoState
-returns-in-NoState c = search admit_cases
-
-pub returns-else-room-lt-MESSAGE_BYTES : goal.returns-else-room-lt-MESSAGE_BYTES
-returns-else-room-lt-MESSAGE_BYTES c = search admit_cases
+pub returns : goal.returns
+returns c = search admit_cases

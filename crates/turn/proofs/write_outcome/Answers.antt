@@ -2,9 +2,6 @@
 use Rattle.turn.specs.laws.Taking.{write_cases}
 use Rattle.turn.proofs.write_outcome.Goals as goal
 
-pub returns-in-Refused : goal.returns-in-Refused
-returns-in-Refused c = search write_cases
-
 pub returns-in-Idle : goal.returns-in-Idle
 returns-in-Idle c = search write_cases
 

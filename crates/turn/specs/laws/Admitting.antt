@@ -1,5 +1,5 @@
 -- What an admitted turn tells.
-use Rattle.std.specs.Prelude.{ℕ, ◌≤◌, Bool, true, false, cond, List, ◌≡◌, refl, ltb, length}
+use Rattle.std.specs.Prelude.{ℕ, ◌≤◌, Bool, true, false, cond, List, ◌≡◌, refl, ltb, length, Option, Some, None, Ok, Err}
 use Rattle.std.proofs.Math.Path.{ap}
 use Rattle.std.proofs.Common.{◌∙◌, sym, arith, ltb-false}
 use Rattle.settings.specs.Rules.{Ruled}
@@ -11,12 +11,10 @@ use Rattle.records.specs.Records.{closed}
 use Rattle.session.specs.Session.{stored, settings_of, session_with, session_of}
 use Rattle.session.specs.laws.Session.{State, Read, held_read}
 use Rattle.session.specs.declared.Session.{Session}
-use Rattle.session.specs.declared.Stored.{Stored}
-use Rattle.session.specs.declared.Stored.TheVariants.{NoState, Held}
 use Rattle.turn.specs.Turn.{admits}
 use Rattle.turn.specs.laws.Choosing.{Readable}
-use Rattle.turn.specs.declared.Admitted.TheVariants.{Refused, Open}
 use Rattle.turn.specs.laws.Stored.{admitted_for, admits_stored}
+use Rattle.settings.specs.declared.refusal.Refusal.TheVariants as refusal
 
 -- a turn of session x is taken, with room bytes lent
 pub record Admitting (s : List ℕ) (room : ℕ) (x : Session) : Type 0 where
@@ -25,23 +23,23 @@ pub record Admitting (s : List ℕ) (room : ℕ) (x : Session) : Type 0 where
   pub unclosed : closed s ≡ false
   pub long : 140 ≤ room
 
-pub admitting : (s : List ℕ) (room : ℕ) (x : Session) → admits s room ≡ Open x → Admitting s room x
+pub admitting : (s : List ℕ) (room : ℕ) (x : Session) → admits s room ≡ Ok x → Admitting s room x
 unfolding admitted_for
 admitting s room x e = of (stored s) refl (sym (admits_stored s room) ∙ e)
   where
-    in_room : (y : Session) → Read s y → closed s ≡ false → (b : Bool) → ltb room 140 ≡ b → cond b (Refused 8) (Open y) ≡ Open x → Admitting s room x
+    in_room : (y : Session) → Read s y → closed s ≡ false → (b : Bool) → ltb room 140 ≡ b → cond b (Err refusal.Short) (Ok y) ≡ Ok x → Admitting s room x
     in_room y r c true l f = absurd (let z : ◌≡◌ {A = ℕ} 0 1 = cc in omega arith)
     in_room y r c false l f =
         let q : x ≡ y = cc in
         record { state = r.state; same = q ∙ r.same; unclosed = c; long = ltb-false room 140 l }
 
-    open_session : (y : Session) → Read s y → (c : Bool) → closed s ≡ c → cond c (Refused 10) (cond (ltb room 140) (Refused 8) (Open y)) ≡ Open x → Admitting s room x
+    open_session : (y : Session) → Read s y → (c : Bool) → closed s ≡ c → cond c (Err refusal.Closed) (cond (ltb room 140) (Err refusal.Short) (Ok y)) ≡ Ok x → Admitting s room x
     open_session y r true c f = absurd (let z : ◌≡◌ {A = ℕ} 0 1 = cc in omega arith)
     open_session y r false c f = in_room y r c (ltb room 140) refl f
 
-    of : (y : Stored) → stored s ≡ y → admitted_for y s room ≡ Open x → Admitting s room x
-    of NoState t f = absurd (let z : ◌≡◌ {A = ℕ} 0 1 = cc in omega arith)
-    of (Held y) t f = open_session y (held_read s y t) (closed s) refl f
+    of : (y : Option Session) → stored s ≡ y → admitted_for y s room ≡ Ok x → Admitting s room x
+    of None t f = absurd (let z : ◌≡◌ {A = ℕ} 0 1 = cc in omega arith)
+    of (Some y) t f = open_session y (held_read s y t) (closed s) refl f
 
 module _ (s : List ℕ) (room : ℕ) (x : Session) (h : Admitting s room x) where
   -- its settings are those stored, and within the rules

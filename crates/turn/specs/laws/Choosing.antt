@@ -22,7 +22,7 @@ use Rattle.broadcasts.specs.laws.Broadcasts.{outputs_marks}
 use Rattle.settings.specs.Versions.{finishing}
 use Rattle.records.specs.Records.{version}
 use Rattle.votes.specs.Votes.{votes_decided_one, vote_due, vote_rule}
-use Rattle.exits.specs.Exits.{Exit, named}
+use Rattle.exits.specs.Exits.{Exit, number_or_none, named}
 use Rattle.exits.specs.Stated.{Stated}
 use Rattle.exits.specs.declared.Named.{Named}
 use Rattle.commits.specs.Commits.{commit_held, set_holders, set_leads, set_leader, set_of, leading_set}
@@ -122,7 +122,7 @@ pub ruleset repeat_cases = (none_repeated, set_room, set_repeated)
 
 -- an answer of `exits` states the exit: number and set apart
 module _ (r : Named) (x : Exit) (h : Stated r x) where
-  number_stated : r.exit ≡ x.number
+  number_stated : number_or_none r.exit ≡ x.number
   unfolding named
   number_stated = ap (λ (z : Exit). z.number) h.states
 
@@ -211,6 +211,6 @@ module _ (g : Settings) (s : List ℕ) (outputs : ℕ) (values : List ℕ) (r : 
       first_agree (λ i. vote_due g s w (mark outputs i) (votes_decided_one g s) i) (λ i. vote_due g s w (present (output g s i)) (votes_decided_one g s) i) g.n
       (λ i a b. ap (λ (o : Bool). vote_due g s w o (votes_decided_one g s) i) (outputs_marks g s outputs values r x i a b))
 
-  pub later_same : (y : Named) → Stated y (exit_now g s) → later_rules g s outputs (eqb y.exit 1) ≡ or_act (send_rule s) (or_act (echo_rule g s) (or_act (ready_rule g s) (votes_rule g s)))
+  pub later_same : (y : Named) → Stated y (exit_now g s) → later_rules g s outputs (eqb (number_or_none y.exit) 1) ≡ or_act (send_rule s) (or_act (echo_rule g s) (or_act (ready_rule g s) (votes_rule g s)))
   unfolding later_rules last_rules votes_rule
   later_same y h = rw (rule_same, number_stated y (exit_now g s) h)

@@ -1,6 +1,6 @@
 -- The paths of `due` in src/due.rt.
 use Rattle.std.specs.Prelude.{ℕ, Bool, true, false, List, ◌≡◌, eqb}
-use Rattle.std.proofs.Common.{sym, ◌∙◌}
+use Rattle.std.proofs.Common.{sym, ap, ◌∙◌}
 use Rattle.settings.specs.Rules.{Ruled}
 use Rattle.settings.specs.declared.Settings.{Settings}
 use Rattle.acts.specs.Acts.{is_due, or_act}
@@ -10,7 +10,7 @@ use Rattle.broadcasts.specs.Outputs.{Outputs}
 use Rattle.exits.specs.Stated.{Stated}
 use Rattle.exits.specs.declared.Named.{Named}
 use Rattle.turn.specs.Due.{in_force_rule, commit_due, commit_rule, send_rule, votes_rule, due}
-use Rattle.exits.specs.Exits.{exit_now}
+use Rattle.exits.specs.Exits.{number_or_none, exit_now}
 use Rattle.turn.specs.laws.Choosing.{Chosen, later_rules, later_same}
 use Rattle.turn.specs.laws.Due.{in_force_no_commit, later_no_commit}
 
@@ -28,11 +28,11 @@ module _ (g : Settings) (s : List ℕ) (a : Act) (d : Bool) (ea : a ≡ in_force
     unfolding due or_act
     first_commit_lem te = let eb : b ≡ commit_rule g s = h.same in record { same = rw (← ea, ← ed, td, ← eb, ← ee, te); front = h.front }
 
-    pub first_later : (outputs : ℕ) (values : List ℕ) (y : Named) (c : Act) → e ≡ false → Ruled g → Outputs g s g.n outputs values → Stated y (exit_now g s) → c ≡ later_rules g s outputs (eqb y.exit 1) → Chosen (due g s) (commit_due g s) c set
+    pub first_later : (outputs : ℕ) (values : List ℕ) (y : Named) (first : Bool) (c : Act) → e ≡ false → Ruled g → Outputs g s g.n outputs values → Stated y (exit_now g s) → first ≡ eqb (number_or_none y.exit) 1 → c ≡ later_rules g s outputs first → Chosen (due g s) (commit_due g s) c set
     unfolding due
-    first_later outputs values y c te r x st ec =
+    first_later outputs values y first c te r x st ef ec =
         let eb : b ≡ commit_rule g s = h.same in
-        let is : c ≡ or_act (send_rule s) (or_act (echo_rule g s) (or_act (ready_rule g s) (votes_rule g s))) = ec ∙ later_same g s outputs values r x y st in
+        let is : c ≡ or_act (send_rule s) (or_act (echo_rule g s) (or_act (ready_rule g s) (votes_rule g s))) = ec ∙ ap (later_rules g s outputs) ef ∙ later_same g s outputs values r x y st in
         record {
           same = rw (← ea, ← eb) (rest_last a b _ c d e ed td ee te is);
           front = λ k f. absurd (later_no_commit g s r c k is f);

@@ -1,24 +1,22 @@
 -- Whether a turn is taken, as the code works it out from what is stored.
-use Rattle.std.specs.Prelude.{ℕ, ◌≤◌, Bool, true, false, not, cond, List, ◌≡◌, refl, ltb}
+use Rattle.std.specs.Prelude.{ℕ, ◌≤◌, Bool, true, false, not, cond, List, ◌≡◌, refl, ltb, Option, Some, None, Result, Ok, Err}
 use Rattle.std.proofs.Common.{le-ltb}
-use Rattle.settings.specs.Refusals.{SHORT, NO_STATE, CLOSED}
+use Rattle.settings.specs.declared.refusal.Refusal.TheVariants as refusal
 use Rattle.records.specs.Records.{closed}
 use Rattle.session.specs.Session.{is_state, session_of, stored}
-use Rattle.session.specs.declared.Stored.{Stored}
-use Rattle.session.specs.declared.Stored.TheVariants.{NoState, Held}
 use Rattle.turn.specs.Turn.{admits}
-use Rattle.turn.specs.declared.Admitted.{Admitted}
-use Rattle.turn.specs.declared.Admitted.TheVariants.{Refused, Open}
+use Rattle.session.specs.declared.Session.{Session}
+use Rattle.settings.specs.declared.refusal.Refusal.{Refusal}
 
-unfoldable pub admitted_for : Stored → List ℕ → ℕ → Admitted
-admitted_for NoState s room = Refused NO_STATE
-admitted_for (Held x) s room = cond (closed s) (Refused CLOSED) (cond (ltb room 140) (Refused SHORT) (Open x))
+unfoldable pub admitted_for : Option Session → List ℕ → ℕ → Result Session Refusal
+admitted_for None s room = Err refusal.NoState
+admitted_for (Some x) s room = cond (closed s) (Err refusal.Closed) (cond (ltb room 140) (Err refusal.Short) (Ok x))
 
 pub admits_stored : (s : List ℕ) (room : ℕ) → admits s room ≡ admitted_for (stored s) s room
 unfolding admits admitted_for stored
 admits_stored s room = go (is_state s)
   where
-    go : (t : Bool) → cond (not t) (Refused NO_STATE) (cond (closed s) (Refused CLOSED) (cond (ltb room 140) (Refused SHORT) (Open (session_of s)))) ≡ admitted_for (cond t (Held (session_of s)) NoState) s room
+    go : (t : Bool) → cond (not t) (Err refusal.NoState) (cond (closed s) (Err refusal.Closed) (cond (ltb room 140) (Err refusal.Short) (Ok (session_of s)))) ≡ admitted_for (cond t (Some (session_of s)) None) s room
     go true = refl
     go false = refl
 

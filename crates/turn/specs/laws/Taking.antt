@@ -1,5 +1,5 @@
 -- The paths of src/lib.rt.
-use Rattle.std.specs.Prelude.{ℕ, ◌+◌, ◌≤◌, ◌<◌, min, Bool, cond, ◌≡◌, length, take, ltb}
+use Rattle.std.specs.Prelude.{ℕ, ◌+◌, ◌≤◌, ◌<◌, min, Bool, cond, ◌≡◌, length, take, ltb, Option, Some, None, Result, Ok, Err}
 use Rattle.std.proofs.Math.Bool.{true, false}
 use mathlib.Core.List.{List}
 use Rattle.std.proofs.Math.Path.{refl, ap}
@@ -13,8 +13,6 @@ use Rattle.votes.specs.Votes.{estimate}
 use Rattle.session.specs.laws.Cases.{size_wrong}
 use Rattle.session.specs.Session.{stored}
 use Rattle.session.specs.declared.Session.{Session}
-use Rattle.session.specs.declared.Stored.{Stored}
-use Rattle.session.specs.declared.Stored.TheVariants.{NoState, Held}
 use Rattle.wire.specs.Message.{count_of, besides, values_of, encode, at_front}
 use Rattle.wire.specs.Writing.{written, Wrote}
 use Rattle.wire.proofs.Laws.{written_whole}
@@ -26,31 +24,31 @@ use Rattle.turn.specs.laws.Told.{CommitTold}
 use Rattle.turn.specs.laws.Due.{due_is}
 use Rattle.turn.specs.laws.Choosing.{Chosen}
 use Rattle.turn.specs.laws.Admitting.{Admitting, admitting, admitted_ruled, admitted_readable, admitted_turns}
-use Rattle.turn.specs.declared.Admitted.{Admitted}
-use Rattle.turn.specs.declared.Admitted.TheVariants as admitted
 use Rattle.turn.specs.declared.Outcome.{Outcome}
 use Rattle.turn.specs.declared.Outcome.TheVariants as outcome
 use Rattle.turn.specs.laws.Stored.{admitted_for, admits_stored}
+use Rattle.settings.specs.declared.refusal.Refusal.{Refusal}
+use Rattle.settings.specs.declared.refusal.Refusal.TheVariants as refusal
 
-module _ (s : List ℕ) (room : ℕ) (y : Stored) (ey : y ≡ stored s) where
-  pub admit_none : y ≡ NoState → admitted.Refused 9 ≡ admits s room
+module _ (s : List ℕ) (room : ℕ) (y : Option Session) (ey : y ≡ stored s) where
+  pub admit_none : y ≡ None → Err refusal.NoState ≡ admits s room
   unfolding admitted_for
   admit_none t = rw (admits_stored s room, ← ey, t)
 
-  module _ (x : Session) (tx : y ≡ Held x) (c : Bool) (ec : c ≡ closed s) where
-    pub admit_closed : c ≡ true → admitted.Refused 10 ≡ admits s room
+  module _ (x : Session) (tx : y ≡ Some x) (c : Bool) (ec : c ≡ closed s) where
+    pub admit_closed : c ≡ true → Err refusal.Closed ≡ admits s room
     unfolding admitted_for
     admit_closed t = rw (admits_stored s room, ← ey, tx, ← ec, t)
 
-    pub admit_short : c ≡ false → room < 140 → admitted.Refused 8 ≡ admits s room
+    pub admit_short : c ≡ false → room < 140 → Err refusal.Short ≡ admits s room
     unfolding admitted_for
     admit_short t l = rw (admits_stored s room, ← ey, tx, ← ec, t, lt-ltb room 140 l)
 
-    pub admit_open : c ≡ false → 140 ≤ room → admitted.Open x ≡ admits s room
+    pub admit_open : c ≡ false → 140 ≤ room → Ok x ≡ admits s room
     unfolding admitted_for
     admit_open t l = rw (admits_stored s room, ← ey, tx, ← ec, t, le-ltb room 140 l)
 
-pub admit_size : (s : List ℕ) (room : ℕ) → (length s ≡ 2048 → ⊥) → admitted.Refused 9 ≡ admits s room
+pub admit_size : (s : List ℕ) (room : ℕ) → (length s ≡ 2048 → ⊥) → Err refusal.NoState ≡ admits s room
 unfolding admitted_for
 admit_size s room h = rw (admits_stored s room, ← size_wrong s h)
 
@@ -114,17 +112,12 @@ pub ruleset outcome_cases = (move_sends, move_out, of_idle, of_in_force, of_comm
 
 -- the bytes out with the message of an outcome at their front; the values of a COMMIT are the first of xs
 unfoldable pub written_for : ℕ → Session → Outcome → List ℕ → List ℕ → List ℕ
-written_for v x (outcome.Refused k) xs out = out
 written_for v x outcome.Idle xs out = out
 written_for v x (outcome.Sent m) xs out = at_front (written m v x.own x.number xs out) out
 written_for v x outcome.MovedOut xs out = out
 written_for v x outcome.InForce xs out = out
 
 module _ (v : ℕ) (x : Session) (o : Outcome) (xs out : List ℕ) where
-  pub write_refused : (k : ℕ) → o ≡ outcome.Refused k → out ≡ written_for v x o xs out
-  unfolding written_for
-  write_refused k e = rw e
-
   pub write_idle : o ≡ outcome.Idle → out ≡ written_for v x o xs out
   unfolding written_for
   write_idle e = rw e
@@ -141,7 +134,7 @@ module _ (v : ℕ) (x : Session) (o : Outcome) (xs out : List ℕ) where
   unfolding written_for
   write_sent m k after e w = rw e w.bytes
 
-pub ruleset write_cases = (write_refused, write_idle, write_moved, write_in_force, write_sent)
+pub ruleset write_cases = (write_idle, write_moved, write_in_force, write_sent)
 
 module _ (x : Session) (s set out : List ℕ) (long : 140 ≤ length out) where
   abbrev xs : List ℕ
@@ -197,9 +190,9 @@ module _ (x : Session) (s set : List ℕ) (a : Act) (ch : Chosen (due x.settings
 pub ruleset taking_cases = (admitted_readable, admitted_turns, turn_outcome_lem, turn_words_lem, turn_bytes_lem)
 
 -- `turn`
-module _ (s out : List ℕ) (v : Admitted) (e : v ≡ admits s (length out)) where
-  module _ (k : ℕ) (t : v ≡ admitted.Refused k) where
-    pub refused_answer : outcome.Refused k ≡ turn_outcome s (length out)
+module _ (s out : List ℕ) (v : Result Session Refusal) (e : v ≡ admits s (length out)) where
+  module _ (k : Refusal) (t : v ≡ Err k) where
+    pub refused_answer : Err k ≡ turn_outcome s (length out)
     unfolding taking turn_outcome
     refused_answer = rw (← e, t)
 
@@ -211,13 +204,13 @@ module _ (s out : List ℕ) (v : Admitted) (e : v ≡ admits s (length out)) whe
     unfolding taking turn_bytes
     refused_bytes = rw (← e, t)
 
-  module _ (x : Session) (t : v ≡ admitted.Open x) where
+  module _ (x : Session) (t : v ≡ Ok x) where
     pub open_admits : Admitting s (length out) x
     open_admits = admitting s (length out) x (sym e ∙ t)
 
-    pub open_answer_lem : (o : Outcome) → o ≡ outcome_of x.own s (due x.settings s) → o ≡ turn_outcome s (length out)
+    pub open_answer_lem : (o : Outcome) → o ≡ outcome_of x.own s (due x.settings s) → Ok o ≡ turn_outcome s (length out)
     unfolding taking turn_outcome
-    open_answer_lem o f = rw (← e, t) f
+    open_answer_lem o f = rw (← e, t) (ap Ok f)
 
     pub open_words_lem : (r : List ℕ) → r ≡ applied s (due x.settings s) → r ≡ turn_words s (length out)
     unfolding taking turn_words

@@ -1,5 +1,5 @@
 -- What an act that is due tells of the state: its evidence.
-use Rattle.std.specs.Prelude.{ℕ, ◌≤◌, true, false, List, ◌≢◌, ◌≡◌, length}
+use Rattle.std.specs.Prelude.{ℕ, ◌≤◌, true, false, List, ◌≢◌, ◌≡◌, length, Some}
 use Rattle.settings.specs.Settings.{quorum, repeat}
 use Rattle.settings.specs.declared.Settings.{Settings}
 use Rattle.records.specs.Layout.{input_at}
@@ -9,7 +9,6 @@ use Rattle.acts.specs.declared.Act.{Act}
 use Rattle.acts.specs.declared.Act.TheVariants.{Idle, InForce, Commit, Send, Echo, Ready, Start, Relay, Aux, Move, Finish}
 use Rattle.broadcasts.specs.Leading.{present}
 use Rattle.broadcasts.specs.Broadcasts.{output, ready_due}
-use Rattle.broadcasts.specs.declared.Output.TheVariants.{Value}
 use Rattle.votes.specs.Votes.{votes_decided_one}
 use Rattle.votes.specs.laws.Told.{StartTold, RelayTold, AuxTold, MoveTold, FinishTold, Among}
 use Rattle.commits.specs.Commits.{commit_held, set_holders}
@@ -53,7 +52,7 @@ pub record EchoTold (g : Settings) (s : List ℕ) (i v : ℕ) : Type 0 where
 pub record ReadyTold (g : Settings) (s : List ℕ) (i v : ℕ) : Type 0 where
   pub among : Among g.n i
   pub unsent : ready_sent s i ≡ false
-  pub rests : ready_due g s i ≡ Value v
+  pub rests : ready_due g s i ≡ Some v
 
 -- the evidence of an act, where Set k is that of a COMMIT of k values
 abbrev pub Evidence : Settings → List ℕ → (ℕ → Type 0) → Act → Type 0

@@ -1,10 +1,9 @@
 -- A session that goes on: after any steps its words are sound, and the count is that of the turns that acted.
-use Rattle.std.specs.Prelude.{ℕ, ◌+◌, Bool, ◌≡◌, length}
+use Rattle.std.specs.Prelude.{ℕ, ◌+◌, Bool, ◌≡◌, length, Ok}
 use Rattle.std.proofs.Math.Bool.{true, false, cond}
 use mathlib.Core.List.{List, [], ◌∷◌}
 use Rattle.std.proofs.Math.Path.{refl, ap}
-use Rattle.std.proofs.Common.{◌∙◌, arith, eqb-true}
-use Rattle.std.proofs.Math.Dec.{eqb}
+use Rattle.std.proofs.Common.{◌∙◌, arith}
 use Rattle.settings.specs.Rules.{Ruled}
 use Rattle.records.specs.Layout.{turns_at}
 use Rattle.records.specs.Words.{word}
@@ -22,6 +21,8 @@ use Rattle.turn_bound.proofs.laws.Delivering.{delivery_sound}
 use Rattle.turn_bound.proofs.laws.Recorded.{recording_sound}
 use Rattle.turn_bound.proofs.laws.Turning.{turn_sound}
 use Rattle.turn_bound.proofs.laws.Opened.{opened_ruled, opened_sound, opened_turns}
+use Rattle.std.specs.Result.{is_ok}
+use Rattle.settings.specs.laws.Answers.{true_taken}
 
 -- a state's report gives its stored count
 told : (w : List ℕ) (k : ℕ) → is_state w ≡ true → word w turns_at ≡ k → Reports w k
@@ -34,7 +35,7 @@ pub record Going (g : Terms) (w : List ℕ) (k : ℕ) : Type 0 where
   pub sound : Sound g w
   pub count : word w turns_at ≡ k
 
-pub opening_going : (w : List ℕ) (o : Arguments) → open_answer (length w) o ≡ 0 → Going (terms_by o) (opened w o) 0
+pub opening_going : (w : List ℕ) (o : Arguments) → open_answer (length w) o ≡ Ok tt → Going (terms_by o) (opened w o) 0
 opening_going w o e =
     record {
       ruled = opened_ruled w o e;
@@ -42,7 +43,7 @@ opening_going w o e =
       count = opened_turns w o e;
     }
 
-pub refused_words : (w : List ℕ) (o : Arguments) → eqb (open_answer (length w) o) 0 ≡ false → opened w o ≡ w
+pub refused_words : (w : List ℕ) (o : Arguments) → is_ok (open_answer (length w) o) ≡ false → opened w o ≡ w
 unfolding opened
 refused_words w o e = rw e
 
@@ -50,11 +51,11 @@ module _ (g : Terms) (s : List ℕ) (start : Going g s 0) where
   pub going : (cs : List Step) → Going (current g s cs) (after s cs) (acting s cs)
   unfolding current after acting
   going [] = start
-  going (opening o ∷ cs) = at (eqb (open_answer (length (after s cs)) o) 0) refl (going cs)
+  going (opening o ∷ cs) = at (is_ok (open_answer (length (after s cs)) o)) refl (going cs)
     where
-      at : (b : Bool) → eqb (open_answer (length (after s cs)) o) 0 ≡ b → Going (current g s cs) (after s cs) (acting s cs) →
+      at : (b : Bool) → is_ok (open_answer (length (after s cs)) o) ≡ b → Going (current g s cs) (after s cs) (acting s cs) →
           Going (cond b (terms_by o) (current g s cs)) (opened (after s cs) o) (cond b 0 (acting s cs))
-      at true e x = opening_going (after s cs) o (eqb-true (open_answer (length (after s cs)) o) 0 e)
+      at true e x = opening_going (after s cs) o (true_taken (open_answer (length (after s cs)) o) e)
       at false e x = rw (refused_words (after s cs) o e) x
   going (delivery link b ∷ cs) =
       let x = going cs in

@@ -1,5 +1,5 @@
 -- A delivery keeps the words sound, and does not count as a turn.
-use Rattle.std.specs.Prelude.{ℕ, ◌≤◌, ◌<◌, List, ◌≢◌, ◌≡◌, length, drop}
+use Rattle.std.specs.Prelude.{ℕ, ◌≤◌, ◌<◌, List, ◌≢◌, ◌≡◌, length, drop, Result, Ok, Err}
 use Rattle.std.proofs.Common.{inl, inr, ◌∙◌}
 use Rattle.std.proofs.Math.Path.{refl, sym, ap}
 use native.Mathlib.Omega.{arith}
@@ -23,14 +23,13 @@ use Rattle.delivery.specs.Delivery.{recorded, verdict, words_after, delivered}
 use Rattle.delivery.specs.laws.Frame.{Changed, word_recorded, length_recorded}
 use Rattle.delivery.specs.laws.Kept.{in_layout_lem, Untouched, word_untouched, word_free}
 use Rattle.delivery.specs.laws.Accepting.{accepting}
-use Rattle.delivery.specs.declared.Verdict.{Verdict}
-use Rattle.delivery.specs.declared.Verdict.TheVariants.{Refused, Accepted}
 use Rattle.turn.proofs.laws.Marks.{Keeps}
 use Rattle.turn_bound.proofs.laws.Potential.{Grows, potential_grows}
 use Rattle.turn_bound.proofs.laws.Rounds.{still, orderly_kept}
 use Rattle.turn_bound.specs.TurnBound.{Terms, terms_of}
 use Rattle.turn_bound.proofs.laws.Finishes.{finishes, measure}
 use Rattle.turn_bound.proofs.laws.Sound.{Sound, same_settings, same_version}
+use Rattle.settings.specs.declared.refusal.Refusal.{Refusal}
 
 -- a COMMIT that is recorded has at most n values
 module _ (n : ℕ) (few : n ≤ 16) (s v : List ℕ) (size : length s ≡ 2048) (p : ℕ) (low : 1 ≤ p) (high : p ≤ n) where
@@ -174,10 +173,10 @@ module _ (k : Terms) (ruled : Ruled k.settings) (s : List ℕ) (h : Sound k s) (
   unfolding session_of session_with
   session_settings = same_settings k ruled s h
 
-  of_verdict : (v : Verdict) → verdict s link b ≡ v → Delivered k s (words_after v s link b)
+  of_verdict : (v : Result Message Refusal) → verdict s link b ≡ v → Delivered k s (words_after v s link b)
   unfolding words_after
-  of_verdict (Refused j) e = record { sound = h; count = refl; kind = refl; same = λ a u. refl }
-  of_verdict (Accepted m) e =
+  of_verdict (Err j) e = record { sound = h; count = refl; kind = refl; same = λ a u. refl }
+  of_verdict (Ok m) e =
       accepted_sound m
       (taken_form k.version k.settings.n (session_of s).number link b m (rw (session_settings, same_version k ruled s h) at (accepting s link b m e).taken))
 

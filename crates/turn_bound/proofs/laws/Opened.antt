@@ -1,10 +1,10 @@
 -- The words after an accepted opening are sound.
 use Prim.Native.Nat.{ℕ, zero, suc, ◌≤◌, ◌<◌}
-use Rattle.std.specs.Prelude.{true, List, ◌≡◌, length, leb}
+use Rattle.std.specs.Prelude.{true, List, ◌≡◌, length, leb, Ok}
 use Rattle.std.proofs.lemmas.Bool.{false≢true}
 use Rattle.std.proofs.Math.Path.{refl}
 use Rattle.std.proofs.Common.{sym, ap, ◌∙◌, arith}
-use borrow.Author.Tests.{eq-eqb, leb-true}
+use borrow.Author.Tests.{leb-true}
 use Rattle.quorum.specs.laws.Bools.{and_left, and_right}
 use Rattle.settings.specs.Rules.{Ruled}
 use Rattle.settings.specs.laws.Rules.{valid_rules}
@@ -26,6 +26,7 @@ use Rattle.turn_bound.proofs.laws.Potential.{instance_part, potential}
 use Rattle.turn_bound.specs.TurnBound.{terms_by, terms_of}
 use Rattle.turn_bound.proofs.laws.Finishes.{measure}
 use Rattle.turn_bound.proofs.laws.Sound.{Sound}
+use Rattle.settings.specs.laws.Answers.{taken_true}
 
 -- the words of a new state
 module _ (o : Arguments) (few : o.n ≤ 16) where
@@ -87,7 +88,7 @@ module _ (o : Arguments) (few : o.n ≤ 16) where
         turns = first_turns o ∙ sym new_measure;
       }
 
-module _ (s : List ℕ) (o : Arguments) (e : open_answer (length s) o ≡ 0) where
+module _ (s : List ℕ) (o : Arguments) (e : open_answer (length s) o ≡ Ok tt) where
   abbrev g : Settings
   g = settings_by o
 
@@ -99,7 +100,7 @@ module _ (s : List ℕ) (o : Arguments) (e : open_answer (length s) o ≡ 0) whe
 
   pub opened_new : opened s o ≡ open_words o
   unfolding opened
-  opened_new = rw (eq-eqb (open_answer (length s) o) 0 e)
+  opened_new = rw (taken_true (open_answer (length s) o) e)
 
   own_low : 1 ≤ o.own
   unfolding numbered

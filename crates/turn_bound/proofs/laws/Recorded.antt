@@ -1,6 +1,6 @@
 -- A recording keeps the words sound: it sets a mark in a coin word, which no bound reads, and does not count as a turn.
-use Rattle.std.specs.Prelude.{ℕ, ◌≤◌, Bool, true, false, List, ◌≡◌, refl, eqb}
-use Rattle.std.proofs.Common.{arith, eqb-true}
+use Rattle.std.specs.Prelude.{ℕ, ◌≤◌, Bool, true, false, List, ◌≡◌, refl}
+use Rattle.std.proofs.Common.{arith}
 use Rattle.settings.specs.Rules.{Ruled}
 use Rattle.records.specs.Layout.{turns_at, commit_count_at}
 use Rattle.records.specs.Words.{word}
@@ -11,6 +11,8 @@ use Rattle.recording.specs.laws.Recording.{Recordable, accepted, refused_same, a
 use Rattle.turn_bound.specs.TurnBound.{Terms}
 use Rattle.turn_bound.proofs.laws.Delivering.{same_sound}
 use Rattle.turn_bound.proofs.laws.Sound.{Sound}
+use Rattle.std.specs.Result.{is_ok}
+use Rattle.settings.specs.laws.Answers.{true_taken}
 
 -- what a recording leaves: every word but the coins'
 pub record Recorded (k : Terms) (s t : List ℕ) : Type 0 where
@@ -34,8 +36,8 @@ module _ (k : Terms) (ruled : Ruled k.settings) (s : List ℕ) (h : Sound k s) (
       same a off = other_word s i r b x a (λ z. omega (arith, off (omega (arith, x.vote_low)), x.vote_high, x.state.ruled.few))
 
   pub recording_sound : Recorded k s (recorded_words s i r b)
-  recording_sound = at (eqb (record_answer s i r b) 0) refl
+  recording_sound = at (is_ok (record_answer s i r b)) refl
     where
-      at : (c : Bool) → eqb (record_answer s i r b) 0 ≡ c → Recorded k s (recorded_words s i r b)
-      at true e = rw (accepted_marks s i r b e) (accepted_sound (accepted s i r b (eqb-true (record_answer s i r b) 0 e)))
+      at : (c : Bool) → is_ok (record_answer s i r b) ≡ c → Recorded k s (recorded_words s i r b)
+      at true e = rw (accepted_marks s i r b e) (accepted_sound (accepted s i r b (true_taken (record_answer s i r b) e)))
       at false e = rw (refused_same s i r b e) (record { sound = h; count = refl; same = λ a off. refl })

@@ -1,6 +1,6 @@
 -- Calls without lines and without restores, one after another at one concentrator, and the count of turns over them. What the calls of
 -- calls/Machine come to, such steps come to (Stepped).
-use Rattle.std.specs.Prelude.{ℕ, ◌+◌, cond, List, [], ◌∷◌, eqb, length}
+use Rattle.std.specs.Prelude.{ℕ, ◌+◌, cond, List, [], ◌∷◌, length}
 use Rattle.opening.specs.Arguments.{Arguments}
 use Rattle.opening.specs.Opening.{open_answer, opened}
 use Rattle.delivery.specs.Delivery.{delivered}
@@ -8,6 +8,7 @@ use Rattle.recording.specs.Recording.{recorded_words}
 use Rattle.turn.specs.Turn.{turn_outcome, turn_words}
 use Rattle.journal.specs.Journal.{acts}
 use Rattle.turn_bound.specs.TurnBound.{Terms, terms_by}
+use Rattle.std.specs.Result.{is_ok}
 
 -- an opening, a delivery of any bytes from any link, a turn lent any bytes, a report, or a recording of any vote, round and bit
 pub data Step : Type 0 where
@@ -29,7 +30,7 @@ after s (recording i r b ∷ cs) = recorded_words (after s cs) i r b
 -- the version and the settings of the last accepted opening, g before any
 unfoldable pub current : Terms → List ℕ → List Step → Terms
 current g s [] = g
-current g s (opening o ∷ cs) = cond (eqb (open_answer (length (after s cs)) o) 0) (terms_by o) (current g s cs)
+current g s (opening o ∷ cs) = cond (is_ok (open_answer (length (after s cs)) o)) (terms_by o) (current g s cs)
 current g s (delivery link b ∷ cs) = current g s cs
 current g s (turn out ∷ cs) = current g s cs
 current g s (report ∷ cs) = current g s cs
@@ -38,7 +39,7 @@ current g s (recording i r b ∷ cs) = current g s cs
 -- the turns since the opening that were neither idle nor refused (PROTOCOL 8.19): an accepted opening starts anew, a recording is no turn
 unfoldable pub acting : List ℕ → List Step → ℕ
 acting s [] = 0
-acting s (opening o ∷ cs) = cond (eqb (open_answer (length (after s cs)) o) 0) 0 (acting s cs)
+acting s (opening o ∷ cs) = cond (is_ok (open_answer (length (after s cs)) o)) 0 (acting s cs)
 acting s (delivery link b ∷ cs) = acting s cs
 acting s (turn out ∷ cs) = cond (acts (turn_outcome (after s cs) (length out))) (acting s cs + 1) (acting s cs)
 acting s (report ∷ cs) = acting s cs

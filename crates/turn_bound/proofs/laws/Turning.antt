@@ -1,5 +1,5 @@
 -- A turn keeps the words sound, and is counted where it acts.
-use Rattle.std.specs.Prelude.{ℕ, ◌+◌, ◌≤◌, ◌<◌, Bool, true, false, cond, List, ◌≡◌, refl, ltb, length}
+use Rattle.std.specs.Prelude.{ℕ, ◌+◌, ◌≤◌, ◌<◌, Bool, true, false, cond, List, ◌≡◌, refl, ltb, length, Ok}
 use Rattle.std.proofs.Common.{subst, ◌∙◌, arith}
 use Rattle.settings.specs.Rules.{Ruled}
 use Rattle.settings.specs.Settings.{round_limit}
@@ -28,7 +28,7 @@ use Rattle.turn_bound.proofs.laws.Finishes.{act_measured, act_sent}
 use Rattle.turn_bound.proofs.laws.Sound.{Sound, same_settings, same_version}
 
 -- an outcome acts where an act was due
-outcome_acts : (own : ℕ) (s : List ℕ) (a : Act) → acts (outcome_of own s a) ≡ is_due a
+outcome_acts : (own : ℕ) (s : List ℕ) (a : Act) → acts (Ok (outcome_of own s a)) ≡ is_due a
 unfolding outcome_of move_outcome
 outcome_acts own s Idle = refl
 outcome_acts own s InForce = refl
@@ -42,7 +42,7 @@ outcome_acts own s (Aux i r b) = refl
 outcome_acts own s (Finish i b) = refl
 outcome_acts own s (Move i r v) = go (ltb r round_limit)
   where
-    go : (t : Bool) → acts (cond t (outcome.Sent (message.Est i (r + 1) (estimate (coin s i r) v))) outcome.MovedOut) ≡ true
+    go : (t : Bool) → acts (Ok (cond t (outcome.Sent (message.Est i (r + 1) (estimate (coin s i r) v))) outcome.MovedOut)) ≡ true
     go true = refl
     go false = refl
 

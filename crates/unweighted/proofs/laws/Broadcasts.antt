@@ -1,6 +1,6 @@
 -- With all weights 1: the output of a broadcast, and rules 4 and 5.
 use Prim.Native.Nat.{ℕ}
-use Rattle.std.specs.Prelude.{Bool, ◌&&◌, List, ◌≡◌}
+use Rattle.std.specs.Prelude.{Bool, ◌&&◌, List, ◌≡◌, Option}
 use Rattle.std.proofs.Math.Bool.{cond}
 use Rattle.std.proofs.Math.Path.{refl, ap, ap₂, fun_ext}
 use Rattle.std.proofs.Common.{◌∙◌}
@@ -14,7 +14,6 @@ use Rattle.broadcasts.specs.Broadcasts.{ready_of}
 use Rattle.broadcasts.specs.Broadcasts as weighted
 use Rattle.broadcasts.specs.Leading.{value_of, or_output}
 use Rattle.broadcasts.specs.Leading as weighted_leading
-use Rattle.broadcasts.specs.declared.Output.{Output}
 use Rattle.settings.specs.declared.Settings as weighted_settings
 use Rattle.unweighted.specs.Broadcasts.{holders, leads, leading, output, ready_due, ready_act, echo_rule, ready_rule}
 use Rattle.unweighted.proofs.laws.Counts.{Ones, plain, counts, quorum_same, repeat_same}
@@ -47,7 +46,7 @@ module _ (g : weighted_settings.Settings) (one : Ones g) where
 
     act_same : (i : ℕ) → weighted.ready_act g s i ≡ ready_act (plain g) s i
     unfolding weighted.ready_act ready_act
-    act_same i = ap (λ (o : Output). cond (ready_sent s i) Idle (ready_of i o)) (due_same i)
+    act_same i = ap (λ (o : Option ℕ). cond (ready_sent s i) Idle (ready_of i o)) (due_same i)
 
     pub echo_rule_same : weighted.echo_rule g s ≡ echo_rule (plain g) s
     unfolding weighted.echo_rule echo_rule

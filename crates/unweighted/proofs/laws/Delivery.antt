@@ -1,11 +1,11 @@
 -- A delivery to words in which all weights are 1.
 use Prim.Native.Nat.{ℕ}
-use Rattle.std.specs.Prelude.{Bool, ◌&&◌, not, ◌≡◌, eqb, drop}
+use Rattle.std.specs.Prelude.{Bool, ◌&&◌, not, ◌≡◌, eqb, drop, Result, Ok, Err}
 use Rattle.std.proofs.Math.Bool.{cond}
 use mathlib.Core.List.{List}
 use Rattle.std.proofs.Math.Path.{refl, ap}
 use Rattle.std.proofs.Common.{◌∙◌}
-use Rattle.settings.specs.Refusals.{NO_STATE, CLOSED}
+use Rattle.settings.specs.declared.refusal.Refusal.TheVariants as refusal
 use Rattle.records.specs.Layout.{n_at}
 use Rattle.records.specs.Words.{word}
 use Rattle.records.specs.Records.{closed, version}
@@ -17,8 +17,6 @@ use Rattle.wire.specs.declared.Message.{Message}
 use Rattle.wire.specs.declared.Message.TheVariants as message
 use Rattle.delivery.specs.Delivery.{judged, answer_of}
 use Rattle.delivery.specs.Delivery as weighted
-use Rattle.delivery.specs.declared.Verdict.{Verdict}
-use Rattle.delivery.specs.declared.Verdict.TheVariants.{Refused, Accepted}
 use Rattle.unweighted.specs.Settings.{Settings}
 use Rattle.unweighted.specs.Session.{session_number}
 use Rattle.unweighted.specs.Votes.{one_alone, finish_decides}
@@ -26,10 +24,11 @@ use Rattle.unweighted.specs.Delivery.{verdict, first_noted, finish_settled, reco
 use Rattle.unweighted.specs.Statement.{AllOne}
 use Rattle.unweighted.proofs.laws.Session.{stored_ones, plain_same, state_same}
 use Rattle.unweighted.proofs.laws.Votes.{one_alone_same, finish_decides_same}
+use Rattle.settings.specs.declared.refusal.Refusal.{Refusal}
 
 module _ (s : List ℕ) (all : AllOne s) (link : ℕ) (b : List ℕ) where
-  abbrev judge : Bool → Verdict
-  judge t = cond (not t) (Refused NO_STATE) (cond (closed s) (Refused CLOSED) (judged s link (read_message (version s) (word s n_at) (session_number s) link b)))
+  abbrev judge : Bool → Result Message Refusal
+  judge t = cond (not t) (Err refusal.NoState) (cond (closed s) (Err refusal.Closed) (judged s link (read_message (version s) (word s n_at) (session_number s) link b)))
 
   verdict_same : weighted.verdict s link b ≡ verdict s link b
   unfolding weighted.verdict verdict session_of session_with weighted_session.settings_of session_number
@@ -63,11 +62,11 @@ module _ (s : List ℕ) (all : AllOne s) (link : ℕ) (b : List ℕ) where
   recorded_same (message.Commit k) v = refl
   recorded_same (message.Finish i c) v = settled_same link i c
 
-  after_same : (v : Verdict) → weighted.words_after v s link b ≡ words_after v s link b
+  after_same : (v : Result Message Refusal) → weighted.words_after v s link b ≡ words_after v s link b
   unfolding weighted.words_after words_after
-  after_same (Refused k) = refl
-  after_same (Accepted m) = recorded_same m (drop 12 b)
+  after_same (Err k) = refl
+  after_same (Ok m) = recorded_same m (drop 12 b)
 
   pub delivered_same : weighted.delivered s link b ≡ delivered s link b
   unfolding weighted.delivered delivered
-  delivered_same = after_same (weighted.verdict s link b) ∙ ap (λ (v : Verdict). words_after v s link b) verdict_same
+  delivered_same = after_same (weighted.verdict s link b) ∙ ap (λ (v : Result Message Refusal). words_after v s link b) verdict_same

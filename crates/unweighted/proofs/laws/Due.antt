@@ -2,7 +2,7 @@
 use Prim.Native.Nat.{ℕ}
 use Rattle.std.proofs.Math.Bool.{cond}
 use mathlib.Core.List.{List}
-use Rattle.std.specs.Prelude.{◌≡◌, eqb}
+use Rattle.std.specs.Prelude.{◌≡◌, eqb, Option}
 use Rattle.std.proofs.Math.Path.{ap, ap₂, fun_ext}
 use Rattle.std.proofs.Common.{◌∙◌}
 use Rattle.settings.specs.Versions.{finishing}
@@ -12,7 +12,6 @@ use Rattle.acts.specs.declared.Act.{Act}
 use Rattle.acts.specs.declared.Act.TheVariants.{Idle, InForce}
 use Rattle.broadcasts.specs.Broadcasts as weighted_broadcasts
 use Rattle.broadcasts.specs.Leading.{present}
-use Rattle.broadcasts.specs.declared.Output.{Output}
 use Rattle.exits.specs.Exits.{Exit}
 use Rattle.turn.specs.Due.{or_set, commit_of}
 use Rattle.turn.specs.Due as weighted
@@ -42,7 +41,7 @@ module _ (g : weighted_settings.Settings) (one : Ones g) (s : List ℕ) where
 
   vote_same : (i : ℕ) → weighted_votes.vote_due g s (finishing (version s)) (present (weighted_broadcasts.output g s i)) (weighted_votes.votes_decided_one g s) i ≡ vote_due (plain g) s (finishing (version s)) (present (output (plain g) s i)) (votes_decided_one (plain g) s) i
   vote_same i =
-      ap₂ (λ (o : Output) (k : ℕ). weighted_votes.vote_due g s (finishing (version s)) (present o) k i) (output_same g one s i) (decided_same g one s)
+      ap₂ (λ (o : Option ℕ) (k : ℕ). weighted_votes.vote_due g s (finishing (version s)) (present o) k i) (output_same g one s i) (decided_same g one s)
       ∙ vote_due_same g one s i (finishing (version s)) (present (output (plain g) s i)) (votes_decided_one (plain g) s)
 
   votes_same : weighted.votes_rule g s ≡ votes_rule (plain g) s

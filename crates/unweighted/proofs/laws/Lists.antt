@@ -1,11 +1,11 @@
 -- After an accepted opening that is given weights of 1, and any calls whose openings are, all weights are 1, and the unweighted run stands beside.
 use Prim.Native.Nat.{ℕ, ◌+◌, ◌≤◌}
-use Rattle.std.specs.Prelude.{Bool, true, false, cond, ◌≡◌, eqb, length}
+use Rattle.std.specs.Prelude.{Bool, true, false, cond, ◌≡◌, eqb, length, Option, Some}
 use mathlib.Core.List.{List, [], ◌∷◌, ◌++◌}
-use Rattle.std.proofs.Math.Option.{Option, some}
 use Rattle.std.proofs.Math.Path.{refl}
 use Rattle.std.proofs.Common.{sym, ap, subst, eqb-true, eq-eqb}
 use Rattle.quorum.specs.Weights.{weight_of}
+use Rattle.settings.specs.laws.Answers.{true_taken}
 use Rattle.settings.specs.Rules.{Ruled}
 use Rattle.settings.specs.declared.Settings.{Settings}
 use Rattle.records.specs.Layout.{weights_at}
@@ -14,7 +14,7 @@ use Rattle.session.specs.Session.{settings_of}
 use Rattle.opening.specs.Given.{weights_word}
 use Rattle.opening.specs.Arguments.{Arguments, weights_by, settings_by}
 use Rattle.opening.specs.Opening.{open_answer}
-use Rattle.journal.specs.Journal.{open_number}
+use Rattle.journal.specs.Journal.{open_line_answer}
 use Rattle.journal.specs.laws.Journal.{line_taken}
 use Rattle.calls.specs.Machine.{Call, opening, delivery, turn, report, restore, recording, place, left, words, traced}
 use Rattle.calls.specs.Engine.{OpeningGiven, engine}
@@ -40,19 +40,19 @@ given_ones o e r =
 -- a session is begun whose weights are all 1
 record OnesBegun (x : Option Begun) : Type 0 where
   session : Begun
-  was : x ≡ some session
+  was : x ≡ Some session
   ones : Ones session.terms.settings
 
-opening_ones : (w : List ℕ) (o : OpeningGiven) → engine.opens w o ≡ true → GivenOnes o.given → OnesBegun (some (record { terms = terms_by o.given; turns = 0 }))
-unfolding open_number
+opening_ones : (w : List ℕ) (o : OpeningGiven) → engine.opens w o ≡ true → GivenOnes o.given → OnesBegun (Some (record { terms = terms_by o.given; turns = 0 }))
+unfolding open_line_answer
 opening_ones w o e h =
-    let t = line_taken (open_answer (length w) o.given) o.line (eqb-true _ 0 e) in
+    let t = line_taken (open_answer (length w) o.given) o.line (true_taken _ e) in
     record { session = record { terms = terms_by o.given; turns = 0 }; was = refl; ones = given_ones o.given h (opened_ruled w o.given t.0) }
 
 ones_after : (c : Call engine) → GivesOnes c → (w : List ℕ) (x : Option Begun) → OnesBegun x → OnesBegun (session_after c w x)
 ones_after (opening p o) h w x y = of (engine.opens w o) refl
   where
-    of : (b : Bool) → engine.opens w o ≡ b → OnesBegun (cond b (some (record { terms = terms_by o.given; turns = 0 })) x)
+    of : (b : Bool) → engine.opens w o ≡ b → OnesBegun (cond b (Some (record { terms = terms_by o.given; turns = 0 })) x)
     of true e = opening_ones w o e h
     of false e = y
 ones_after (delivery p m b) h w x y = y

@@ -1,13 +1,14 @@
 -- An opening that is given n weights of 1.
-use Rattle.std.specs.Prelude.{ℕ, zero, suc, ◌+◌, ◌-◌, ◌^◌, ◌≤◌, ◌≢◌, ◌≡◌, refl, length}
+use Rattle.std.specs.Prelude.{ℕ, zero, suc, ◌+◌, ◌-◌, ◌^◌, ◌≤◌, ◌≢◌, ◌≡◌, refl, length, Ok}
 use mathlib.Core.List.{List}
 use Rattle.std.proofs.Math.Path.{ap}
 use Rattle.std.proofs.Common.{◌∙◌, arith}
 use Rattle.std.proofs.Math.Decide.{dec_le}
 use Rattle.std.proofs.lemmas.List.{set_comm}
-use borrow.Author.Tests.{le-leb, lt-leb, eq-eqb, ne_eqb}
+use borrow.Author.Tests.{le-leb, lt-leb}
 use Rattle.quorum.specs.Weights.{weight_of}
 use Rattle.quorum.specs.laws.Whole.{ones_weight}
+use Rattle.settings.specs.laws.Answers.{taken_true, not_taken}
 use Rattle.settings.specs.laws.Rules.{valid_rules}
 use Rattle.settings.specs.Settings as weighted_settings
 use Rattle.records.specs.Layout.{weights_at, boxed_at, version_at, coin_at}
@@ -73,25 +74,25 @@ module _ (o : Arguments) (ones : GivenOnes o) where
       ∙ store_put (item o.coins) (coin_at 0) _ weights_at (ones_word o.n) o.n (λ j lo hi z. omega arith))
 
   module _ (s : List ℕ) where
-    pub accepted_few : open_answer (length s) o ≡ 0 → (1 ≤ o.n) × (o.n ≤ 16)
+    pub accepted_few : open_answer (length s) o ≡ Ok tt → (1 ≤ o.n) × (o.n ≤ 16)
     accepted_few e =
         let r = valid_rules o.n (ta_by o) o.ts (weights_by o) (weighted_cases.accepted (length s) o (answer_same (length s) o ones ∙ e)).valid in
         (r.some, r.few)
 
-    opened_accepted : open_answer (length s) o ≡ 0 → weighted.opened s o ≡ put (opened s o) weights_at (2 ^ o.n - 1)
+    opened_accepted : open_answer (length s) o ≡ Ok tt → weighted.opened s o ≡ put (opened s o) weights_at (2 ^ o.n - 1)
     unfolding weighted.opened opened
     opened_accepted e =
         let few = accepted_few e in
-        rw (answer_same (length s) o ones, eq-eqb (open_answer (length s) o) 0 e)
+        rw (answer_same (length s) o ones, taken_true (open_answer (length s) o) e)
         (words_same few.0 few.1 ∙ ap (put (open_words o) weights_at) (ones_word_lem o.n few.0 few.1))
 
-    opened_refused : open_answer (length s) o ≢ 0 → weighted.opened s o ≡ s
+    opened_refused : open_answer (length s) o ≢ Ok tt → weighted.opened s o ≡ s
     unfolding weighted.opened
-    opened_refused ne = rw (answer_same (length s) o ones, ne_eqb (open_answer (length s) o) 0 ne)
+    opened_refused ne = rw (answer_same (length s) o ones, not_taken (open_answer (length s) o) ne)
 
-    both_refused : open_answer (length s) o ≢ 0 → opened s o ≡ s
+    both_refused : open_answer (length s) o ≢ Ok tt → opened s o ≡ s
     unfolding opened
-    both_refused ne = rw (ne_eqb (open_answer (length s) o) 0 ne)
+    both_refused ne = rw (not_taken (open_answer (length s) o) ne)
 
     pub opens_same : OpensAlike s o
     opens_same = record { accepted = opened_accepted; refused = opened_refused; unweighted_refused = both_refused }

@@ -1,5 +1,7 @@
 -- A recording in words in which all weights are 1.
-use Rattle.std.specs.Prelude.{ℕ, List, ◌≡◌, eqb}
+use Rattle.std.specs.Prelude.{ℕ, List, ◌≡◌, Result}
+use Rattle.std.specs.Result.{is_ok}
+use Rattle.settings.specs.declared.refusal.Refusal.{Refusal}
 use Rattle.std.proofs.Math.Bool.{cond}
 use Rattle.std.proofs.Math.Path.{ap}
 use Rattle.recording.specs.Recording.{with_bit}
@@ -15,4 +17,4 @@ module _ (s : List ℕ) (all : AllOne s) (i r b : ℕ) where
 
   pub recorded_same : weighted.recorded_words s i r b ≡ recorded_words s i r b
   unfolding weighted.recorded_words recorded_words
-  recorded_same = ap (λ (k : ℕ). cond (eqb k 0) (with_bit s i r b) s) record_answer_same
+  recorded_same = ap (λ (a : Result (Unit {0}) Refusal). cond (is_ok a) (with_bit s i r b) s) record_answer_same

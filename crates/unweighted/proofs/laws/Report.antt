@@ -1,13 +1,14 @@
 -- A report on words in which all weights are 1.
 use Prim.Native.Nat.{ℕ}
-use Rattle.std.specs.Prelude.{Bool, ◌||◌, not, ◌≡◌}
+use Rattle.std.specs.Prelude.{Bool, ◌||◌, not, ◌≡◌, Ok, Err}
 use Rattle.std.proofs.Math.Bool.{true, false, cond}
 use mathlib.Core.List.{List, []}
 use Rattle.std.proofs.Math.Path.{refl, ap, ap₂}
 use Rattle.std.proofs.Common.{◌∙◌}
 use Rattle.std.proofs.Math.Dec.{ltb}
 use Rattle.std.proofs.Math.ListN.{length}
-use Rattle.settings.specs.Refusals.{SHORT, NO_STATE}
+use Rattle.settings.specs.declared.refusal.Refusal.{Refusal}
+use Rattle.settings.specs.declared.refusal.Refusal.TheVariants as refusal
 use Rattle.settings.specs.declared.Settings.{Settings}
 use Rattle.records.specs.Layout.{turns_at}
 use Rattle.records.specs.Words.{word}
@@ -15,8 +16,6 @@ use Rattle.records.specs.Records.{closed}
 use Rattle.session.specs.Session as weighted_session
 use Rattle.exits.specs.Exits.{Exit}
 use Rattle.report.specs.Report as weighted
-use Rattle.report.specs.declared.Admitted.TheVariants.{Refused, Open}
-use Rattle.report.specs.declared.Answer.TheVariants as answer
 use Rattle.report.specs.declared.Figures.{Figures}
 use Rattle.unweighted.specs.Session.{settings_of}
 use Rattle.unweighted.specs.Report.{in_force_set, figures_of, giving, report_answer, report_named, report_in_force}
@@ -28,11 +27,11 @@ use Rattle.wire.specs.Message.{at_front}
 
 module _ (s : List ℕ) (all : AllOne s) where
   -- what the refusals give in their order, or the settings
-  module _ {A : Type 0} (refused : ℕ → A) (done : Settings → A) (named_words in_force_words : ℕ) where
+  module _ {A : Type 0} (refused : Refusal → A) (done : Settings → A) (named_words in_force_words : ℕ) where
     abbrev made : Bool → Bool → A
-    made t l = cond (not t) (refused NO_STATE) (cond l (refused SHORT) (done (weighted_session.settings_of s)))
+    made t l = cond (not t) (refused refusal.NoState) (cond l (refused refusal.Short) (done (weighted_session.settings_of s)))
 
-    by_tests : (t l : Bool) → weighted.giving (cond (not t) (Refused NO_STATE) (cond l (Refused SHORT) (Open (weighted_session.settings_of s)))) refused done ≡ made t l
+    by_tests : (t l : Bool) → weighted.giving (cond (not t) (Err refusal.NoState) (cond l (Err refusal.Short) (Ok (weighted_session.settings_of s)))) refused done ≡ made t l
     unfolding weighted.giving
     by_tests false l = refl
     by_tests true true = refl
@@ -58,8 +57,8 @@ module _ (s : List ℕ) (all : AllOne s) where
   pub report_answer_same : (named_words in_force_words : ℕ) → weighted.report_answer s named_words in_force_words ≡ report_answer s named_words in_force_words
   unfolding weighted.report_answer report_answer
   report_answer_same named_words in_force_words =
-      given answer.Refused _ named_words in_force_words
-      ∙ ap (λ (x : Figures). giving s named_words in_force_words answer.Refused (answer.Given x)) figures_same
+      given Err _ named_words in_force_words
+      ∙ ap (λ (x : Figures). giving s named_words in_force_words Err (Ok x)) figures_same
 
   pub report_named_same : (named : List ℕ) (in_force_words : ℕ) → weighted.report_named s named in_force_words ≡ report_named s named in_force_words
   unfolding weighted.report_named report_named

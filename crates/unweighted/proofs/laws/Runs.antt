@@ -1,8 +1,10 @@
 -- A call with weights of 1 and the same unweighted call: from words that are the same but for that of the weights to such words.
-use Rattle.std.specs.Prelude.{ℕ, ◌-◌, ◌^◌, ◌≤◌, Bool, true, false, cond, List, ◌≡◌, refl, ltb, length}
-use Rattle.std.proofs.Common.{sym, ap, ◌∙◌, arith, set-set, eqb-true, eq-eqb}
-use Rattle.std.proofs.Math.Decide.{ℕ_discrete}
+use Rattle.std.specs.Prelude.{ℕ, ◌-◌, ◌^◌, ◌≤◌, Bool, true, false, cond, List, ◌≢◌, ◌≡◌, refl, ltb, length, Result, Ok, Err}
+use Rattle.std.proofs.Common.{sym, ap, ◌∙◌, arith, set-set}
+use Rattle.std.proofs.lemmas.Bool.{false≢true}
 use Rattle.std.proofs.lemmas.List.{set-get_or}
+use Rattle.settings.specs.declared.refusal.Refusal.{Refusal}
+use Rattle.settings.specs.laws.Answers.{taken_true, true_taken, refused_false}
 use Rattle.records.specs.Layout.{state_words, n_at, ta_at, ts_at, own_at, session_at, input_at, weights_at, boxed_at, version_at, coin_at}
 use Rattle.records.specs.Words.{word, put}
 use Rattle.records.specs.laws.Words.{length_put, word_put_other}
@@ -14,7 +16,7 @@ use Rattle.opening.specs.Opening as weighted_opening
 use Rattle.delivery.specs.Delivery as weighted_delivery
 use Rattle.recording.specs.Recording as weighted_recording
 use Rattle.turn.specs.Turn as weighted_turn
-use Rattle.journal.specs.Journal.{LINE_BYTES, line_words, open_number, opened_words, delivered_words, record_words, turn_room}
+use Rattle.journal.specs.Journal.{LINE_BYTES, line_words, open_line_answer, opened_words, delivered_words, record_words, turn_room}
 use Rattle.journal.specs.laws.Journal.{line_taken, line_words_lem}
 use Rattle.calls.specs.Machine.{Call, opening, delivery, turn, report, restore, recording, left}
 use Rattle.calls.specs.Engine.{OpeningGiven, engine}
@@ -62,9 +64,9 @@ module _ (o : Arguments) where
       ∙ word_blank state_words weights_at (omega arith)
 
   -- accepted, it sets all words
-  opened_all_lem : (s : List ℕ) → open_answer (length s) o ≡ 0 → opened s o ≡ open_words o
+  opened_all_lem : (s : List ℕ) → open_answer (length s) o ≡ Ok tt → opened s o ≡ open_words o
   unfolding opened
-  opened_all_lem s e = rw (eq-eqb (open_answer (length s) o) 0 e)
+  opened_all_lem s e = rw (taken_true (open_answer (length s) o) e)
 
   same_length : (s t : List ℕ) → length t ≡ length s → open_answer (length t) o ≡ open_answer (length s) o
   same_length s t l = ap (λ (k : ℕ). open_answer k o) l
@@ -75,7 +77,7 @@ module _ (o : Arguments) where
 
     module _ (s : List ℕ) where
       -- accepted, from words of the same number
-      accepted_beside : (t : List ℕ) → length t ≡ length s → open_answer (length s) o ≡ 0 → opened t o ≡ put (weighted_opening.opened s o) weights_at 0
+      accepted_beside : (t : List ℕ) → length t ≡ length s → open_answer (length s) o ≡ Ok tt → opened t o ≡ put (weighted_opening.opened s o) weights_at 0
       accepted_beside t l e =
           let all = opened_all_lem s e in
           let few = (accepted_few o ones s e).1 in
@@ -87,15 +89,16 @@ module _ (o : Arguments) where
 
       -- accepted or refused, from words that are the same but for that of the weights
       opened_beside : (t : List ℕ) → t ≡ put s weights_at 0 → opened t o ≡ put (weighted_opening.opened s o) weights_at 0
-      opened_beside t same = by (ℕ_discrete (open_answer (length s) o) 0)
+      opened_beside t same = by (open_answer (length s) o) refl
         where
           l : length t ≡ length s
           l = ap (λ (u : List ℕ). length u) same ∙ length_put s weights_at 0
 
-          by : Dec (open_answer (length s) o ≡ 0) → opened t o ≡ put (weighted_opening.opened s o) weights_at 0
-          by (yes e) = accepted_beside t l e
-          by (no ne) =
-              (opens_same o ones t).unweighted_refused (λ e. ne (sym (same_length s t l) ∙ e))
+          by : (a : Result (Unit {0}) Refusal) → open_answer (length s) o ≡ a → opened t o ≡ put (weighted_opening.opened s o) weights_at 0
+          by (Ok tt) e = accepted_beside t l e
+          by (Err k) e =
+              let ne : open_answer (length s) o ≢ Ok tt = λ f. false≢true (sym (refused_false _ k e) ∙ taken_true _ f) in
+              (opens_same o ones t).unweighted_refused (λ f. ne (sym (same_length s t l) ∙ f))
               ∙ same
               ∙ ap (λ (u : List ℕ). put u weights_at 0) (sym ((opens_same o ones s).refused ne))
 
@@ -140,9 +143,9 @@ module _ (w u : List ℕ) (same : u ≡ put w weights_at 0) (ones : AllOne w) wh
 
 -- an accepted opening, from the same words
 pub first_beside : (s : List ℕ) (o : OpeningGiven) → engine.opens s o ≡ true → GivenOnes o.given → line_words o.line s (opened s o.given) ≡ put (engine.opened s o) weights_at 0
-unfolding opened_words open_number
+unfolding opened_words open_line_answer
 first_beside s o e ones =
-    let t = line_taken (weighted_opening.open_answer (length s) o.given) o.line (eqb-true _ 0 e) in
+    let t = line_taken (weighted_opening.open_answer (length s) o.given) o.line (true_taken _ e) in
     line_words_lem o.line s (opened s o.given) t.1
     ∙ accepted_beside o.given ones s s refl (sym (answer_alike o.given ones s) ∙ t.0)
     ∙ ap (λ (v : List ℕ). put v weights_at 0) (sym (line_words_lem o.line s (weighted_opening.opened s o.given) t.1))

@@ -1,10 +1,11 @@
 -- A turn on words in which all weights are 1.
-use Rattle.std.specs.Prelude.{ℕ, Bool, not, cond, ◌≡◌, ltb, length}
+use Rattle.std.specs.Prelude.{ℕ, Bool, not, cond, ◌≡◌, ltb, length, Ok, Err}
 use Rattle.std.proofs.Math.Bool.{true, false}
 use mathlib.Core.List.{List}
 use Rattle.std.proofs.Math.Path.{refl, ap}
 use Rattle.std.proofs.Common.{◌∙◌}
-use Rattle.settings.specs.Refusals.{SHORT, NO_STATE, CLOSED}
+use Rattle.settings.specs.declared.refusal.Refusal.{Refusal}
+use Rattle.settings.specs.declared.refusal.Refusal.TheVariants as refusal
 use Rattle.records.specs.Layout.{own_at}
 use Rattle.records.specs.Words.{word}
 use Rattle.records.specs.Records.{closed, version}
@@ -16,7 +17,6 @@ use Rattle.wire.specs.Message.{encode, at_front}
 use Rattle.turn.specs.Due.{due}
 use Rattle.turn.specs.Turn.{outcome_of, applied}
 use Rattle.turn.specs.Turn as weighted
-use Rattle.turn.specs.declared.Admitted.TheVariants.{Refused, Open}
 use Rattle.turn.specs.declared.Outcome.{Outcome}
 use Rattle.turn.specs.declared.Outcome.TheVariants as outcome
 use Rattle.unweighted.specs.Session.{session_number}
@@ -26,11 +26,11 @@ use Rattle.unweighted.proofs.laws.Session.{state_same, stored_commit, stored_due
 
 module _ (s : List ℕ) (all : AllOne s) where
   -- what the refusals give in their order, or the session
-  module _ {A : Type 0} (refused : ℕ → A) (done : Session → A) (room : ℕ) where
+  module _ {A : Type 0} (refused : Refusal → A) (done : Session → A) (room : ℕ) where
     abbrev made : Bool → Bool → Bool → A
-    made t c l = cond (not t) (refused NO_STATE) (cond c (refused CLOSED) (cond l (refused SHORT) (done (session_of s))))
+    made t c l = cond (not t) (refused refusal.NoState) (cond c (refused refusal.Closed) (cond l (refused refusal.Short) (done (session_of s))))
 
-    by_tests : (t c l : Bool) → weighted.taking (cond (not t) (Refused NO_STATE) (cond c (Refused CLOSED) (cond l (Refused SHORT) (Open (session_of s))))) refused done ≡ made t c l
+    by_tests : (t c l : Bool) → weighted.taking (cond (not t) (Err refusal.NoState) (cond c (Err refusal.Closed) (cond l (Err refusal.Short) (Ok (session_of s))))) refused done ≡ made t c l
     unfolding weighted.taking
     by_tests false c l = refl
     by_tests true true l = refl
@@ -51,7 +51,6 @@ module _ (s : List ℕ) (all : AllOne s) where
 
   after_same : (o : Outcome) (out : List ℕ) → weighted.bytes_after (session_of s) s o out ≡ bytes_after s o out
   unfolding weighted.bytes_after session_of session_with bytes_after session_number
-  after_same (outcome.Refused k) out = refl
   after_same outcome.Idle out = refl
   after_same (outcome.Sent m) out = ap (λ (set : List ℕ). at_front (encode m (version s) (word s own_at) (session_number s) set) out) (stored_commit s all)
   after_same outcome.MovedOut out = refl
@@ -62,7 +61,7 @@ module _ (s : List ℕ) (all : AllOne s) where
 
   pub turn_outcome_same : (room : ℕ) → weighted.turn_outcome s room ≡ turn_outcome s room
   unfolding weighted.turn_outcome turn_outcome
-  turn_outcome_same room = taken outcome.Refused _ room ∙ ap (taking s room outcome.Refused) outcome_same
+  turn_outcome_same room = taken Err _ room ∙ ap (λ (o : Outcome). taking s room Err (Ok o)) outcome_same
 
   pub turn_words_same : (room : ℕ) → weighted.turn_words s room ≡ turn_words s room
   unfolding weighted.turn_words turn_words

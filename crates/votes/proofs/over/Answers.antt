@@ -5,5 +5,5 @@ use Rattle.votes.proofs.over.Goals as goal
 pub returns-then-finishes : goal.returns-then-finishes
 returns-then-finishes c = search befores
 
-pub returns : goal.returns
-returns c = search befores
+pub returns-else-finishes : goal.returns-else-finishes
+returns-else-finishes c = rw c.if-finishes.false (search befores)

@@ -1,15 +1,8 @@
-use Rattle.acts.specs.laws.First.{firsts}
+-- `relay_act` looks at the rounds up to the last in rising order.
+use Rattle.std.proofs.Common.{rules}
+use Rattle.votes.specs.Votes.{relay_round}
 use Rattle.votes.specs.laws.Cases.{relay_rounds}
 use Rattle.votes.proofs.relay_act.Goals as goal
 
-pub loop-r-init : goal.loop-r-init
-loop-r-init c = search firsts
-
-pub returns-then-is_due : goal.returns-then-is_due
-returns-then-is_due c = search (relay_rounds, firsts)
-
-pub loop-r-preserved : goal.loop-r-preserved
-loop-r-preserved c = search firsts
-
 pub returns : goal.returns
-returns c = search (relay_rounds, firsts)
+returns c = relay_rounds _ _ _ _ _ _ c.round.ensures c.min-last.ensures (c.first_due.ensures (relay_round c.args.g c.args.s.now c.args.i) (λ r a l h p. search rules))

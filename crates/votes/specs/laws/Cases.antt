@@ -4,7 +4,6 @@ use Rattle.std.proofs.Common.{ap₂, ◌∙◌, arith}
 use Rattle.std.specs.Int.Bits.{bit_or}
 use borrow.Author.Tests.{le-leb, lt-leb, eq-eqb, ne_eqb}
 use Rattle.settings.specs.Settings.{weighed, vote_quorum, relay, round_limit}
-use Rattle.settings.specs.Versions.{finishing}
 use Rattle.settings.specs.declared.Settings.{Settings}
 use Rattle.quorum.specs.Marks.{mark}
 use Rattle.quorum.specs.laws.Marks.{mark_zero}
@@ -15,7 +14,7 @@ use Rattle.quorum.specs.laws.Total.{total_agree}
 use Rattle.records.specs.Layout.{aux_group}
 use Rattle.records.specs.Words.{marked}
 use Rattle.records.specs.MarkWords.{decided_one_marks, vote_marks}
-use Rattle.records.specs.Records.{aux_held, decided_one, round, est_sent, aux_sent, one_first, coin_known, finish_sent, decided_zero, version}
+use Rattle.records.specs.Records.{aux_held, decided_one, round, est_sent, aux_sent, one_first, coin_known, finish_sent, decided_zero}
 use Rattle.acts.specs.Acts.{is_due, or_act, first_act}
 use Rattle.acts.specs.declared.Act.{Act}
 use Rattle.acts.specs.declared.Act.TheVariants.{Idle, Start, Relay, Aux, Move, Finish}
@@ -84,9 +83,9 @@ module _ (g : Settings) (s : List ℕ) (i r b : ℕ) (t : Bool) (e : t ≡ est_s
 
 pub ruleset relays = (est_was_sent, relay_due, relay_waits)
 
-pub relay_rounds : (g : Settings) (s : List ℕ) (i last : ℕ) (x : Act) → last ≡ min (round s i) round_limit → x ≡ first_act (relay_round g s i) last → x ≡ relay_act g s i
+pub relay_rounds : (g : Settings) (s : List ℕ) (i r last : ℕ) (x : Act) → r ≡ round s i → last ≡ min r round_limit → x ≡ first_act (relay_round g s i) last → x ≡ relay_act g s i
 unfolding relay_act
-relay_rounds g s i last x e h = rw (← e) h
+relay_rounds g s i r last x f e h = rw (← f, ← e) h
 
 -- whether 1 was accepted first
 module _ (g : Settings) (s : List ℕ) (i r : ℕ) (m : Bool) (e : m ≡ one_first s i r) where
@@ -251,10 +250,6 @@ module _ (g : Settings) (s : List ℕ) (finishes output : Bool) (ones i : ℕ) (
     due_steps x k q = due_second (first_finish g s finishes i) _ a x t e d h (rw (← f, k) q) ∙ due_given g s finishes output ones i
 
 pub ruleset dues = (due_finish, due_over, due_steps)
-
--- vote i, where its mark in `outputs` tells whether broadcast i has output
-pub vote_numbered : (g : Settings) (s : List ℕ) (outputs ones i : ℕ) (v : ℕ) (w t : Bool) (x : Act) → v ≡ version s → w ≡ finishing v → ones ≡ votes_decided_one g s → t ≡ mark outputs i → x ≡ vote_due g s w t ones i → x ≡ vote_due g s (finishing (version s)) (mark outputs i) (votes_decided_one g s) i
-vote_numbered g s outputs ones i v w t x ev ew o e h = rw (← ev, ← ew, ← o, ← e) h
 
 pub decides_only : (coin : Bool) (v : View) (b k : ℕ) → v ≡ Only b → k ≡ coin_value coin → eqb b k ≡ decides coin v
 decides_only coin v b k e f = rw (e, f)

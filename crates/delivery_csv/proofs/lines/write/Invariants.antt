@@ -1,11 +1,6 @@
 -- `write` writes byte after byte: what is left completes the whole.
-use Prim.Native.Nat.{◌-◌}
-use lib.ListN.{length}
 use Rattle.delivery_csv.specs.laws.LineScan.{Putting}
 use Rattle.delivery_csv.proofs.lines.write.Given as goal
 
 abbrev pub invariant-loop-k : goal.invariant-loop-k
 invariant-loop-k l = Putting l.text l.initial.reader l.initial.at l.initial.out l.k l.reader l.at l.out
-
-abbrev pub decreases-loop-k : goal.decreases-loop-k
-decreases-loop-k l = length l.text - l.k

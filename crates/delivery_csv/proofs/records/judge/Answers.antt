@@ -1,14 +1,15 @@
+use Rattle.std.proofs.Common.{rules}
 use Rattle.delivery_csv.specs.laws.RecordLoop.{scannings}
 use Rattle.delivery_csv.proofs.records.judge.Goals as goal
 
-pub loop-k-init : goal.loop-k-init
-loop-k-init c = search scannings
+pub loop-byte-init : goal.loop-byte-init
+loop-byte-init c = search (scannings, rules)
 
-pub loop-k-preserved : goal.loop-k-preserved
-loop-k-preserved c = search scannings
+pub loop-byte-preserved : goal.loop-byte-preserved
+loop-byte-preserved c = search (scannings, rules)
 
-pub scan_answer-requires : goal.scan_answer-requires
-scan_answer-requires c = search scannings
+pub answer-requires : goal.answer-requires
+answer-requires c = search (scannings, rules)
 
 pub returns : goal.returns
-returns c = search scannings
+returns c = search (scannings, rules)

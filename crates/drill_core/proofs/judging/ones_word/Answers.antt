@@ -5,8 +5,5 @@ use Rattle.drill_core.proofs.judging.ones_word.Goals as goal
 pub returns-then-n-gt16 : goal.returns-then-n-gt16
 returns-then-n-gt16 c = search ones_cases
 
-pub overflow_sub-result : goal.overflow_sub-result
-overflow_sub-result c = search ones_cases
-
 pub returns : goal.returns
 returns c = search ones_cases

@@ -1,9 +1,7 @@
 -- The rules on settings are those of opening.
-use Rattle.drill_core.specs.laws.JudgingCases.{open_cases}
+use Rattle.std.proofs.Common.{◌∙◌}
+use Rattle.drill_core.specs.laws.JudgingCases.{opened_if_valid}
 use Rattle.drill_core.proofs.judging.settings_open.Goals as goal
 
-pub returns-in-Valid : goal.returns-in-Valid
-returns-in-Valid c = search open_cases
-
-pub returns-in-Invalid : goal.returns-in-Invalid
-returns-in-Invalid c = search open_cases
+pub returns : goal.returns
+returns c = c.is_some.ensures ∙ search opened_if_valid

@@ -1,12 +1,8 @@
-use Rattle.std.proofs.Common.{rules}
 use Rattle.drill_core.specs.laws.OutputCases.{printing}
 use Rattle.drill_core.proofs.results.put_all.Goals as goal
 
-pub loop-p-init : goal.loop-p-init
-loop-p-init c = (search printing, search rules)
+pub loop-k-init : goal.loop-k-init
+loop-k-init c = search printing
 
-pub loop-p-preserved : goal.loop-p-preserved
-loop-p-preserved c = (search printing, search rules)
-
-pub returns : goal.returns
-returns c = search printing
+pub loop-k-preserved : goal.loop-k-preserved
+loop-k-preserved c = search printing

@@ -1,10 +1,6 @@
--- After p steps the lines of 1 to p are written.
-use Rattle.std.proofs.Common.{◌≡◌, ◌-◌, length}
+-- After k steps the lines of 1 to k are printed.
 use Rattle.drill_core.specs.laws.OutputCases.{Printing}
 use Rattle.drill_core.proofs.results.put_all.Given as goal
 
-abbrev pub invariant-loop-p : goal.invariant-loop-p
-invariant-loop-p l = (Printing l.honest l.n l.words l.initial.out l.p l.at l.out) × (length l.out ≡ length l.initial.out)
-
-abbrev pub decreases-loop-p : goal.decreases-loop-p
-decreases-loop-p l = l.n - l.p
+abbrev pub invariant-loop-k : goal.invariant-loop-k
+invariant-loop-k l = Printing l.g.honest l.g.n l.words l.initial.out l.k l.at l.out

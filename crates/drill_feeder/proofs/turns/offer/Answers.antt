@@ -1,13 +1,12 @@
 use Rattle.drill_feeder.specs.laws.Steps.{stepping}
 use Rattle.drill_feeder.specs.Lines.{offer}
-use borrow.Author.Rules.{rules}
 use Rattle.drill_feeder.proofs.turns.offer.Goals as goal
 
-pub loop-q-init : goal.loop-q-init
-loop-q-init c = (search stepping, search rules)
+pub loop-j-init : goal.loop-j-init
+loop-j-init c = search stepping
 
-pub loop-q-preserved : goal.loop-q-preserved
-loop-q-preserved c = (search stepping, search rules)
+pub loop-j-preserved : goal.loop-j-preserved
+loop-j-preserved c = search stepping
 
 pub returns : goal.returns
 unfolding offer

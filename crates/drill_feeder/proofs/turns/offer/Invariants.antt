@@ -1,13 +1,7 @@
--- After k steps concentrators 1 to k had the message.
-use Prim.Native.Nat.{◌-◌}
-use mathlib.Core.Path.{◌≡◌}
-use lib.ListN.{length}
+-- After j steps concentrators 1 to j had the message.
 use Rattle.drill_feeder.specs.laws.Steps.{Stepping}
 use Rattle.drill_feeder.specs.Lines.{offer_to}
 use Rattle.drill_feeder.proofs.turns.offer.Given as goal
 
-abbrev pub invariant-loop-q : goal.invariant-loop-q
-invariant-loop-q l = (Stepping (offer_to l.honest l.store l.k) l.n l.initial.words l.words l.q) × (length l.words ≡ length l.initial.words)
-
-abbrev pub decreases-loop-q : goal.decreases-loop-q
-decreases-loop-q l = l.n - l.q
+abbrev pub invariant-loop-j : goal.invariant-loop-j
+invariant-loop-j l = Stepping (offer_to l.g.honest l.store l.k) l.g.n l.initial.words l.words l.j

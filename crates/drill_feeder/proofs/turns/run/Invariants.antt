@@ -1,12 +1,7 @@
--- The rounds that are left of 1,601.
-use mathlib.Core.Path.{◌≡◌}
-use lib.ListN.{length}
+-- The rounds that are over of 1,601.
 use Rattle.drill_feeder.specs.laws.RunCases.{Running}
 use Rattle.drill_feeder.specs.Lines.{memory}
 use Rattle.drill_feeder.proofs.turns.run.Given as goal
 
-abbrev pub invariant-loop-left : goal.invariant-loop-left
-invariant-loop-left l = (Running l.g 1601 l.left (memory l.initial.words l.initial.store l.initial.counts) (memory l.words l.store l.counts)) × (length l.words ≡ length l.initial.words) × (length l.store ≡ length l.initial.store)
-
-abbrev pub decreases-loop-left : goal.decreases-loop-left
-decreases-loop-left l = l.left
+abbrev pub invariant-loop : goal.invariant-loop
+invariant-loop l = Running l.g 1601 l.counter (memory l.initial.words l.initial.store l.initial.c) (memory l.words l.store l.c)

@@ -1,13 +1,12 @@
 use Rattle.drill_feeder.specs.laws.Steps.{stepping}
 use Rattle.drill_feeder.specs.Lines.{swept}
-use borrow.Author.Rules.{rules}
 use Rattle.drill_feeder.proofs.turns.sweep_all.Goals as goal
 
-pub loop-p-init : goal.loop-p-init
-loop-p-init c = (search stepping, search rules, search rules)
+pub loop-k-init : goal.loop-k-init
+loop-k-init c = search stepping
 
-pub loop-p-preserved : goal.loop-p-preserved
-loop-p-preserved c = (search stepping, search rules, search rules)
+pub loop-k-preserved : goal.loop-k-preserved
+loop-k-preserved c = search stepping
 
 pub returns : goal.returns
 unfolding swept

@@ -1,13 +1,7 @@
--- After p steps concentrators 1 to p had their turns.
-use Prim.Native.Nat.{◌-◌}
-use mathlib.Core.Path.{◌≡◌}
-use lib.ListN.{length}
+-- After k steps concentrators 1 to k had their turns.
 use Rattle.drill_feeder.specs.laws.Steps.{Stepping}
 use Rattle.drill_feeder.specs.Lines.{memory, sweep_if}
 use Rattle.drill_feeder.proofs.turns.sweep_all.Given as goal
 
-abbrev pub invariant-loop-p : goal.invariant-loop-p
-invariant-loop-p l = (Stepping (sweep_if l.honest) l.n (memory l.initial.words l.initial.store l.initial.counts) (memory l.words l.store l.counts) l.p) × (length l.words ≡ length l.initial.words) × (length l.store ≡ length l.initial.store)
-
-abbrev pub decreases-loop-p : goal.decreases-loop-p
-decreases-loop-p l = l.n - l.p
+abbrev pub invariant-loop-k : goal.invariant-loop-k
+invariant-loop-k l = Stepping (sweep_if 401 l.g.honest) l.g.n (memory l.initial.words l.initial.store l.initial.c) (memory l.words l.store l.c) l.k

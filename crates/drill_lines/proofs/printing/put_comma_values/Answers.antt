@@ -1,14 +1,8 @@
 use Rattle.text.specs.laws.Each.{each}
 use Rattle.drill_lines.proofs.printing.put_comma_values.Goals as goal
 
-pub loop-k-init : goal.loop-k-init
-loop-k-init c = search each
+pub loop-value-init : goal.loop-value-init
+loop-value-init c = search each
 
-pub loop-k-preserved : goal.loop-k-preserved
-loop-k-preserved c = search each
-
-pub shape_of-out : goal.shape_of-out
-shape_of-out c = search each
-
-pub returns : goal.returns
-returns c = search each
+pub loop-value-preserved : goal.loop-value-preserved
+loop-value-preserved c = search each

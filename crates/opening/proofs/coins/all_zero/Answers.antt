@@ -1,14 +1,8 @@
-use Rattle.quorum.specs.laws.Every.{holding}
+-- Each coin word is asked.
+use Rattle.std.proofs.Common.{rules}
+use Rattle.quorum.proofs.laws.Asked.{every_asked}
+use Rattle.opening.specs.Given.{coin_zero}
 use Rattle.opening.proofs.coins.all_zero.Goals as goal
 
-pub loop-i-init : goal.loop-i-init
-loop-i-init c = search holding
-
-pub returns-then-not-coin_zero : goal.returns-then-not-coin_zero
-returns-then-not-coin_zero c = search holding
-
-pub loop-i-preserved : goal.loop-i-preserved
-loop-i-preserved c = search holding
-
 pub returns : goal.returns
-returns c = search holding
+returns c = every_asked (coin_zero c.args.coins.now) c.all.result c.all.ensures.ran (λ k b f h. search rules)

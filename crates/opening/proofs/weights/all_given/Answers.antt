@@ -1,14 +1,8 @@
-use Rattle.quorum.specs.laws.Every.{holding}
+-- Each weight is asked.
+use Rattle.std.proofs.Common.{rules}
+use Rattle.quorum.proofs.laws.Asked.{every_asked}
+use Rattle.opening.specs.Given.{weight_given}
 use Rattle.opening.proofs.weights.all_given.Goals as goal
 
-pub loop-p-init : goal.loop-p-init
-loop-p-init c = search holding
-
-pub returns-then-not-weight_given : goal.returns-then-not-weight_given
-returns-then-not-weight_given c = search holding
-
-pub loop-p-preserved : goal.loop-p-preserved
-loop-p-preserved c = search holding
-
 pub returns : goal.returns
-returns c = search holding
+returns c = every_asked (weight_given c.args.weights.now) c.all.result c.all.ensures.ran (λ k b f h. search rules)

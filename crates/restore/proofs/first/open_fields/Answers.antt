@@ -8,8 +8,8 @@ returns-then-n-gt16 c = search read_cases
 pub open_counted-requires : goal.open_counted-requires
 open_counted-requires c = search read_cases
 
-pub returns-in-Wrong : goal.returns-in-Wrong
-returns-in-Wrong c = search read_cases
+pub returns-in_default : goal.returns-in_default
+returns-in_default c = search read_cases
 
-pub returns-in-Count : goal.returns-in-Count
-returns-in-Count c = search read_cases
+pub returns : goal.returns
+returns c = search read_cases

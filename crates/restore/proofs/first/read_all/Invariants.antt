@@ -1,11 +1,7 @@
 -- After k fields the line is what they are, and the fields that are left.
-use Prim.Native.Nat.{◌-◌}
 use lib.ListN.{length}
 use Rattle.restore.specs.laws.Filling.{Filling}
 use Rattle.restore.proofs.first.read_all.Given as goal
 
 abbrev pub invariant-loop-k : goal.invariant-loop-k
 invariant-loop-k l = Filling l.n l.line l.start (length l.initial.values) l.at l.k l.values
-
-abbrev pub decreases-loop-k : goal.decreases-loop-k
-decreases-loop-k l = length l.initial.values - l.k

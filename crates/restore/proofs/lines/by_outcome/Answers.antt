@@ -2,8 +2,8 @@
 use Rattle.restore.specs.laws.Turning.{outcome_cases}
 use Rattle.restore.proofs.lines.by_outcome.Goals as goal
 
-pub returns-in-Refused : goal.returns-in-Refused
-returns-in-Refused c = search outcome_cases
+pub returns-in_default : goal.returns-in_default
+returns-in_default c = search outcome_cases
 
 pub returns-in-Idle : goal.returns-in-Idle
 returns-in-Idle c = search outcome_cases

@@ -2,8 +2,8 @@
 use Rattle.restore.specs.laws.Applying.{link_cases}
 use Rattle.restore.proofs.lines.deliver_fields.Goals as goal
 
-pub returns-in-Wrong : goal.returns-in-Wrong
-returns-in-Wrong c = search link_cases
+pub returns-in_default : goal.returns-in_default
+returns-in_default c = search link_cases
 
-pub returns-in-Is : goal.returns-in-Is
-returns-in-Is c = search link_cases
+pub returns : goal.returns
+returns c = search link_cases

@@ -8,8 +8,8 @@ slice_bounds-bytes-end c = search hex_cases
 pub slice_bounds-deliver-end : goal.slice_bounds-deliver-end
 slice_bounds-deliver-end c = search hex_cases
 
-pub returns-in-Wrong : goal.returns-in-Wrong
-returns-in-Wrong c = search hex_cases
+pub returns-in_default : goal.returns-in_default
+returns-in_default c = search hex_cases
 
-pub returns-in-Is : goal.returns-in-Is
-returns-in-Is c = search hex_cases
+pub returns : goal.returns
+returns c = rw c.is_ok.ensures.value (search hex_cases)

@@ -5,8 +5,8 @@ use Rattle.restore.proofs.lines.record_line.Goals as goal
 pub record_numbers-requires : goal.record_numbers-requires
 record_numbers-requires c = search recording_cases
 
-pub returns-in-Wrong : goal.returns-in-Wrong
-returns-in-Wrong c = search recording_cases
+pub returns-in_default : goal.returns-in_default
+returns-in_default c = search recording_cases
 
-pub returns-in-Count : goal.returns-in-Count
-returns-in-Count c = search recording_cases
+pub returns : goal.returns
+returns c = search recording_cases

@@ -6,4 +6,4 @@ pub returns-then-count-ne3 : goal.returns-then-count-ne3
 returns-then-count-ne3 c = search numbers_cases
 
 pub returns : goal.returns
-returns c = search numbers_cases
+returns c = rw c.is_ok.ensures.value (search numbers_cases)

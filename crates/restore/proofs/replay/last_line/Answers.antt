@@ -2,8 +2,8 @@
 use Rattle.restore.specs.laws.Replaying.{taken_cases}
 use Rattle.restore.proofs.replay.last_line.Goals as goal
 
-pub returns-in-Wrong : goal.returns-in-Wrong
-returns-in-Wrong c = search taken_cases
+pub returns-in-None : goal.returns-in-None
+returns-in-None c = search taken_cases
 
-pub returns-in-Right : goal.returns-in-Right
-returns-in-Right c = search taken_cases
+pub returns-in-Some : goal.returns-in-Some
+returns-in-Some c = search taken_cases

@@ -2,8 +2,5 @@
 use Rattle.restore.specs.laws.Replaying.{taken_cases}
 use Rattle.restore.proofs.replay.middle_line.Goals as goal
 
-pub returns-in-Wrong : goal.returns-in-Wrong
-returns-in-Wrong c = search taken_cases
-
-pub returns-in-Right : goal.returns-in-Right
-returns-in-Right c = search taken_cases
+pub returns : goal.returns
+returns c = rw c.is_some.ensures (search taken_cases)

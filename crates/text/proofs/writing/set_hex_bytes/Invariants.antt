@@ -1,11 +1,6 @@
 -- `set_hex_bytes` writes byte by byte: after k turns the first k.
-use Prim.Native.Nat.{◌-◌}
-use lib.ListN.{length}
 use Rattle.text.specs.laws.Digits.{Within}
 use Rattle.text.proofs.writing.set_hex_bytes.Given as goal
 
 abbrev pub invariant-loop-k : goal.invariant-loop-k
 invariant-loop-k l = Within l.bytes l.initial.out l.at l.k l.out
-
-abbrev pub decreases-loop-k : goal.decreases-loop-k
-decreases-loop-k l = length l.bytes - l.k

@@ -1,28 +1,25 @@
 -- A delivery neither reads nor writes the word of the weights: on any words s, whatever x stands there.
-use Rattle.std.specs.Prelude.{ℕ, Bool, not, cond, List, ◌≡◌, drop}
+use Rattle.std.specs.Prelude.{ℕ, Bool, not, cond, List, ◌≡◌, drop, Result, Ok, Err}
 use Rattle.std.proofs.Math.Bool.{true, false}
 use Rattle.std.proofs.Math.Path.{refl, ap}
 use Rattle.std.proofs.Common.{◌∙◌, arith}
-use Rattle.settings.specs.Refusals.{NO_STATE, CLOSED, HELD}
+use Rattle.settings.specs.declared.refusal.Refusal.TheVariants as refusal
 use Rattle.records.specs.Layout.{n_at, weights_at}
 use Rattle.records.specs.Words.{word, put}
 use Rattle.records.specs.Records.{closed, version}
 use Rattle.wire.specs.Reading.{read_message}
 use Rattle.wire.specs.declared.Message.{Message}
 use Rattle.wire.specs.declared.Message.TheVariants as message
-use Rattle.wire.specs.declared.Parsed.{Parsed}
-use Rattle.wire.specs.declared.Parsed.TheVariants as parsed
 use Rattle.wire_laws.proofs.Converse.{taken_form}
 use Rattle.delivery.specs.Delivery.{place_held, judged, answer_of}
 use Rattle.delivery.specs.laws.Frame.{InLayout}
 use Rattle.delivery.specs.laws.Kept.{in_layout_lem}
-use Rattle.delivery.specs.declared.Verdict.{Verdict}
-use Rattle.delivery.specs.declared.Verdict.TheVariants as verdicts
 use Rattle.unweighted.specs.Session.{session_number, is_state}
 use Rattle.unweighted.specs.Delivery.{verdict, words_after, deliver_answer, delivered}
 use Rattle.unweighted.proofs.laws.apart.Records.{word_apart, version_apart, closed_apart, finish_held_apart, send_held_apart, echo_held_apart, ready_held_apart, est_held_apart, aux_held_apart, commit_held_apart}
 use Rattle.unweighted.proofs.laws.apart.Stores.{recorded_apart}
 use Rattle.unweighted.proofs.laws.apart.Session.{number_apart, state_apart, state_held, few_held}
+use Rattle.settings.specs.declared.refusal.Refusal.{Refusal}
 
 module _ (s : List ℕ) (x link : ℕ) (b : List ℕ) where
   abbrev t : List ℕ
@@ -38,10 +35,10 @@ module _ (s : List ℕ) (x link : ℕ) (b : List ℕ) where
   place_apart (message.Commit k) l = commit_held_apart s x link l.1
   place_apart (message.Finish i v) l = rw (finish_held_apart s x i 0, finish_held_apart s x i 1)
 
-  abbrev read : Parsed
+  abbrev read : Result Message Refusal
   read = read_message (version s) (word s n_at) (session_number s) link b
 
-  laid : is_state s ≡ true → (m : Message) → read ≡ parsed.Taken m → InLayout link m
+  laid : is_state s ≡ true → (m : Message) → read ≡ Ok m → InLayout link m
   laid e m f =
       let form = taken_form (version s) (word s n_at) (session_number s) link b m f in
       in_layout_lem (word s n_at) link m (few_held s e) form.link_low form.link_high form.layout
@@ -52,12 +49,12 @@ module _ (s : List ℕ) (x link : ℕ) (b : List ℕ) where
       rw (state_apart s x, closed_apart s x, version_apart s x, word_apart s x n_at (λ e. omega arith), number_apart s x)
       (at (is_state s) refl)
     where
-      of : is_state s ≡ true → (y : Parsed) → read ≡ y → judged t link y ≡ judged s link y
-      of e (parsed.Refused k) f = refl
-      of e (parsed.Taken m) f = rw (place_apart m (laid e m f))
+      of : is_state s ≡ true → (y : Result Message Refusal) → read ≡ y → judged t link y ≡ judged s link y
+      of e (Err k) f = refl
+      of e (Ok m) f = rw (place_apart m (laid e m f))
 
-      at : (c : Bool) → is_state s ≡ c → cond (not c) (verdicts.Refused NO_STATE) (cond (closed s) (verdicts.Refused CLOSED) (judged t link read)) ≡ cond (not c) (verdicts.Refused NO_STATE) (cond (closed s) (verdicts.Refused CLOSED) (judged s link read))
-      at true e = ap (λ (v : Verdict). cond (closed s) (verdicts.Refused CLOSED) v) (of e read refl)
+      at : (c : Bool) → is_state s ≡ c → cond (not c) (Err refusal.NoState) (cond (closed s) (Err refusal.Closed) (judged t link read)) ≡ cond (not c) (Err refusal.NoState) (cond (closed s) (Err refusal.Closed) (judged s link read))
+      at true e = ap (λ (v : Result Message Refusal). cond (closed s) (Err refusal.Closed) v) (of e read refl)
       at false e = refl
 
   pub deliver_answer_apart : deliver_answer t link b ≡ deliver_answer s link b
@@ -68,16 +65,16 @@ module _ (s : List ℕ) (x link : ℕ) (b : List ℕ) where
   unfolding verdict judged words_after
   words_apart = at (is_state s) refl (closed s)
     where
-      place : is_state s ≡ true → (m : Message) → InLayout link m → (p : Bool) → words_after (cond p (verdicts.Refused HELD) (verdicts.Accepted m)) t link b ≡ put (words_after (cond p (verdicts.Refused HELD) (verdicts.Accepted m)) s link b) weights_at x
+      place : is_state s ≡ true → (m : Message) → InLayout link m → (p : Bool) → words_after (cond p (Err refusal.Held) (Ok m)) t link b ≡ put (words_after (cond p (Err refusal.Held) (Ok m)) s link b) weights_at x
       place e m l true = refl
       place e m l false = recorded_apart x s (drop 12 b) link m (state_held s e).few l
 
-      of : is_state s ≡ true → (y : Parsed) → read ≡ y → words_after (judged s link y) t link b ≡ put (words_after (judged s link y) s link b) weights_at x
-      of e (parsed.Refused k) f = refl
-      of e (parsed.Taken m) f = place e m (laid e m f) (place_held s link m)
+      of : is_state s ≡ true → (y : Result Message Refusal) → read ≡ y → words_after (judged s link y) t link b ≡ put (words_after (judged s link y) s link b) weights_at x
+      of e (Err k) f = refl
+      of e (Ok m) f = place e m (laid e m f) (place_held s link m)
 
-      judge : Bool → Bool → Verdict
-      judge c d = cond (not c) (verdicts.Refused NO_STATE) (cond d (verdicts.Refused CLOSED) (judged s link read))
+      judge : Bool → Bool → Result Message Refusal
+      judge c d = cond (not c) (Err refusal.NoState) (cond d (Err refusal.Closed) (judged s link read))
 
       at : (c : Bool) → is_state s ≡ c → (d : Bool) → words_after (judge c d) t link b ≡ put (words_after (judge c d) s link b) weights_at x
       at true e true = refl
@@ -86,4 +83,4 @@ module _ (s : List ℕ) (x link : ℕ) (b : List ℕ) where
 
   pub delivered_apart : delivered t link b ≡ put (delivered s link b) weights_at x
   unfolding delivered
-  delivered_apart = ap (λ (v : Verdict). words_after v t link b) verdict_apart ∙ words_apart
+  delivered_apart = ap (λ (v : Result Message Refusal). words_after v t link b) verdict_apart ∙ words_apart

@@ -1,11 +1,13 @@
 -- A recording neither reads nor writes the word of the weights: on any words s, whatever x stands there.
-use Rattle.std.specs.Prelude.{ℕ, ◌≤◌, Bool, ◌&&◌, not, List, ◌≡◌}
+use Rattle.std.specs.Prelude.{ℕ, ◌≤◌, Bool, ◌&&◌, not, List, ◌≡◌, Result, Ok, Err}
+use Rattle.std.specs.Result.{is_ok}
 use Rattle.std.proofs.Math.Bool.{true, false, cond}
 use Rattle.std.proofs.Math.Path.{refl}
-use Rattle.std.proofs.Common.{arith, eqb-true}
-use Rattle.std.proofs.Math.Dec.{eqb}
-use Rattle.quorum.specs.laws.Bools.{and_left, refusal_passed, not_passed}
-use Rattle.settings.specs.Refusals.{NO_STATE, CLOSED, COIN}
+use Rattle.std.proofs.Common.{arith}
+use Rattle.quorum.specs.laws.Bools.{and_left, not_passed}
+use Rattle.settings.specs.declared.refusal.Refusal.{Refusal}
+use Rattle.settings.specs.declared.refusal.Refusal.TheVariants as refusal
+use Rattle.settings.specs.laws.Answers.{err_passed, true_taken}
 use Rattle.records.specs.Layout.{n_at, weights_at, coin_at}
 use Rattle.records.specs.Words.{word, put}
 use Rattle.records.specs.Records.{closed}
@@ -37,25 +39,28 @@ module _ (s : List ℕ) (x i r b : ℕ) where
   unfolding record_answer
   record_answer_apart = rw (state_apart s x, closed_apart s x, word_apart s x n_at (λ e. omega arith)) (at (is_state s) refl)
     where
-      at : (c : Bool) → is_state s ≡ c → cond (not c) NO_STATE (cond (closed s) CLOSED (cond (not (recordable t (word s n_at) i r b)) COIN 0)) ≡ cond (not c) NO_STATE (cond (closed s) CLOSED (cond (not (recordable s (word s n_at) i r b)) COIN 0))
+      judge : Bool → Bool → Result (Unit {0}) Refusal
+      judge c d = cond (not c) (Err refusal.NoState) (cond (closed s) (Err refusal.Closed) (cond (not d) (Err refusal.Coin) (Ok tt)))
+
+      at : (c : Bool) → is_state s ≡ c → judge c (recordable t (word s n_at) i r b) ≡ judge c (recordable s (word s n_at) i r b)
       at true e = rw (recordable_apart (word s n_at) (few_held s e))
       at false e = refl
 
   -- an accepted one is of one of the votes 1 to 16
-  accepted_few : record_answer s i r b ≡ 0 → i ≤ 16
+  accepted_few : record_answer s i r b ≡ Ok tt → i ≤ 16
   unfolding record_answer recordable
   accepted_few e =
       let n = word s n_at in
-      let y = refusal_passed (not (is_state s)) 9 _ (λ z. omega arith) e in
-      let z = refusal_passed (closed s) 10 _ (λ z. omega arith) y.1 in
-      let q = refusal_passed (not (recordable s n i r b)) 16 0 (λ z. omega arith) z.1 in
+      let y = err_passed (not (is_state s)) refusal.NoState _ tt e in
+      let z = err_passed (closed s) refusal.Closed _ tt y.1 in
+      let q = err_passed (not (recordable s n i r b)) refusal.Coin (Ok tt) tt z.1 in
       let both = not_passed (recordable s n i r b) q.0 in
       omega (arith, (within s n i r b (and_left (in_layout s n i r b) (unopposed s i r b) both)).vote_high, few_held s (not_passed (is_state s) y.0))
 
   pub recorded_apart : recorded_words t i r b ≡ put (recorded_words s i r b) weights_at x
   unfolding recorded_words with_bit
-  recorded_apart = rw record_answer_apart (at (eqb (record_answer s i r b) 0) refl)
+  recorded_apart = rw record_answer_apart (at (is_ok (record_answer s i r b)) refl)
     where
-      at : (c : Bool) → eqb (record_answer s i r b) 0 ≡ c → cond c (with_bit t i r b) t ≡ put (cond c (with_bit s i r b) s) weights_at x
-      at true e = let few = accepted_few (eqb-true (record_answer s i r b) 0 e) in mark_apart x s (coin_at i) (bit_mark r b) (λ z. omega arith)
+      at : (c : Bool) → is_ok (record_answer s i r b) ≡ c → cond c (with_bit t i r b) t ≡ put (cond c (with_bit s i r b) s) weights_at x
+      at true e = let few = accepted_few (true_taken (record_answer s i r b) e) in mark_apart x s (coin_at i) (bit_mark r b) (λ z. omega arith)
       at false e = refl

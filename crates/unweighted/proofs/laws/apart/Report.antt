@@ -1,16 +1,16 @@
 -- A report does not read the word of the weights: on any words s, whatever x stands there.
-use Rattle.std.specs.Prelude.{ℕ, true, false, not, cond, ◌||◌, ◌≡◌, refl, length}
+use Rattle.std.specs.Prelude.{ℕ, true, false, not, cond, ◌||◌, ◌≡◌, refl, length, Ok, Err}
 use Rattle.std.proofs.Math.Bool.{Bool}
 use mathlib.Core.List.{List}
 use Rattle.std.proofs.Math.Path.{ap}
 use Rattle.std.proofs.Common.{◌∙◌, arith}
 use Rattle.std.proofs.Math.Dec.{ltb}
-use Rattle.settings.specs.Refusals.{SHORT, NO_STATE}
+use Rattle.settings.specs.declared.refusal.Refusal.{Refusal}
+use Rattle.settings.specs.declared.refusal.Refusal.TheVariants as refusal
 use Rattle.records.specs.Layout.{turns_at, weights_at}
 use Rattle.records.specs.Words.{put}
 use Rattle.exits.specs.Exits.{Exit}
 use Rattle.wire.specs.Message.{at_front}
-use Rattle.report.specs.declared.Answer.TheVariants as answer
 use Rattle.unweighted.specs.Settings.{Settings, quorum}
 use Rattle.unweighted.specs.Session.{settings_of, is_state}
 use Rattle.unweighted.specs.Exits.{exit_now}
@@ -23,15 +23,15 @@ module _ (s : List ℕ) (x : ℕ) where
   abbrev t : List ℕ
   t = put s weights_at x
 
-  giving_apart : {A : Type 0} (named_words in_force_words : ℕ) (refused : ℕ → A) (a b : A) → (is_state s ≡ true → a ≡ b) → giving t named_words in_force_words refused a ≡ giving s named_words in_force_words refused b
+  giving_apart : {A : Type 0} (named_words in_force_words : ℕ) (refused : Refusal → A) (a b : A) → (is_state s ≡ true → a ≡ b) → giving t named_words in_force_words refused a ≡ giving s named_words in_force_words refused b
   unfolding giving
   giving_apart {A} named_words in_force_words refused a b same = rw (state_apart s x) (at (is_state s) refl)
     where
       short : Bool
       short = ltb named_words 16 || ltb in_force_words 16
 
-      at : (c : Bool) → is_state s ≡ c → cond (not c) (refused NO_STATE) (cond short (refused SHORT) a) ≡ cond (not c) (refused NO_STATE) (cond short (refused SHORT) b)
-      at true e = ap (λ (y : A). cond short (refused SHORT) y) (same e)
+      at : (c : Bool) → is_state s ≡ c → cond (not c) (refused refusal.NoState) (cond short (refused refusal.Short) a) ≡ cond (not c) (refused refusal.NoState) (cond short (refused refusal.Short) b)
+      at true e = ap (λ (y : A). cond short (refused refusal.Short) y) (same e)
       at false e = refl
 
   exit_in_apart : is_state s ≡ true → exit_now (settings_of t) t ≡ exit_now (settings_of s) s
@@ -47,7 +47,7 @@ module _ (s : List ℕ) (x : ℕ) where
 
   pub report_answer_apart : (named_words in_force_words : ℕ) → report_answer t named_words in_force_words ≡ report_answer s named_words in_force_words
   unfolding report_answer
-  report_answer_apart named_words in_force_words = giving_apart named_words in_force_words (λ k. answer.Refused k) _ _ (λ e. ap answer.Given (figures_apart e))
+  report_answer_apart named_words in_force_words = giving_apart named_words in_force_words (λ k. Err k) _ _ (λ e. ap Ok (figures_apart e))
 
   pub report_named_apart : (named : List ℕ) (in_force_words : ℕ) → report_named t named in_force_words ≡ report_named s named in_force_words
   unfolding report_named

@@ -1,6 +1,6 @@
 -- What is due, and the exit, are the same whatever x stands in the word of the weights. There are at most 16 concentrators.
 use Prim.Native.Nat.{ℕ, ◌-◌, ◌^◌, ◌≤◌, min}
-use Rattle.std.specs.Prelude.{Bool, ◌≡◌, refl, eqb}
+use Rattle.std.specs.Prelude.{Bool, ◌≡◌, refl, eqb, Option}
 use Rattle.std.proofs.Math.Bool.{◌&&◌, cond}
 use mathlib.Core.List.{List}
 use Rattle.std.proofs.Common.{sym, ◌∙◌, arith}
@@ -18,7 +18,6 @@ use Rattle.acts.specs.declared.Act.{Act}
 use Rattle.acts.specs.declared.Act.TheVariants.{Idle}
 use Rattle.broadcasts.specs.Broadcasts.{echo_act}
 use Rattle.broadcasts.specs.Leading.{present}
-use Rattle.broadcasts.specs.declared.Output.{Output}
 use Rattle.votes.specs.Votes.{running}
 use Rattle.votes.specs.Finishing.{finished}
 use Rattle.settings.specs.Versions.{finishing}
@@ -46,7 +45,7 @@ module _ (g : Settings) (few : g.n ≤ 16) where
   all_ones : Ones ones
   all_ones = record { each = λ p lo hi. ones_weight g.n p lo hi few; whole = refl }
 
-  exit_of_agree : (o p : ℕ → Output) (as0 as1 : ℕ → Bool) → ((i : ℕ) → 1 ≤ i → i ≤ g.n → o i ≡ p i) → exit_of g o as0 as1 ≡ exit_of g p as0 as1
+  exit_of_agree : (o p : ℕ → Option ℕ) (as0 as1 : ℕ → Bool) → ((i : ℕ) → 1 ≤ i → i ≤ g.n → o i ≡ p i) → exit_of g o as0 as1 ≡ exit_of g p as0 as1
   exit_of_agree o p as0 as1 h =
       sym (exit_same ones all_ones o as0 as1)
       ∙ exit_agree ones o p as0 as1 as0 as1 h (λ i lo hi. refl) (λ i lo hi. refl)
@@ -220,7 +219,7 @@ module _ (g : Settings) (few : g.n ≤ 16) (s : List ℕ) (x : ℕ) where
 
   vote_apart : (i : ℕ) → i ≤ 16 → vote_due g t (finishing (version t)) (present (output g t i)) (votes_decided_one g t) i ≡ vote_due g s (finishing (version s)) (present (output g s i)) (votes_decided_one g s) i
   vote_apart i high =
-      ap₂ (λ (o : Output) (k : ℕ). vote_due g t (finishing (version t)) (present o) k i) (output_apart i high) decided_apart
+      ap₂ (λ (o : Option ℕ) (k : ℕ). vote_due g t (finishing (version t)) (present o) k i) (output_apart i high) decided_apart
       ∙ vote_due_apart i high (present (output g s i)) (votes_decided_one g s)
 
   votes_apart : votes_rule g t ≡ votes_rule g s

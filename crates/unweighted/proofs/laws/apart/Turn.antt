@@ -1,9 +1,10 @@
 -- A turn neither reads nor writes the word of the weights: on any words s, whatever x stands there.
-use Rattle.std.specs.Prelude.{ℕ, Bool, not, List, ◌≡◌, ltb, length}
+use Rattle.std.specs.Prelude.{ℕ, Bool, not, List, ◌≡◌, ltb, length, Ok, Err}
 use Rattle.std.proofs.Math.Bool.{true, false, cond}
 use Rattle.std.proofs.Math.Path.{refl, ap}
 use Rattle.std.proofs.Common.{◌∙◌, arith}
-use Rattle.settings.specs.Refusals.{SHORT, NO_STATE, CLOSED}
+use Rattle.settings.specs.declared.refusal.Refusal.{Refusal}
+use Rattle.settings.specs.declared.refusal.Refusal.TheVariants as refusal
 use Rattle.records.specs.Layout.{own_at, weights_at}
 use Rattle.records.specs.Words.{word, put}
 use Rattle.records.specs.Records.{closed}
@@ -26,12 +27,12 @@ module _ (s : List ℕ) (x : ℕ) where
   abbrev t : List ℕ
   t = put s weights_at x
 
-  module _ {A : Type 0} (F : A → A) (room : ℕ) (refused : ℕ → A) (a b : A) (same : is_state s ≡ true → a ≡ F b) where
+  module _ {A : Type 0} (F : A → A) (room : ℕ) (refused : Refusal → A) (a b : A) (same : is_state s ≡ true → a ≡ F b) where
     taking_apart : taking t room (λ k. F (refused k)) a ≡ F (taking s room refused b)
     unfolding taking
     taking_apart = rw (state_apart s x, closed_apart s x) (at (is_state s) refl (closed s) (ltb room 140))
       where
-        at : (c : Bool) → is_state s ≡ c → (d l : Bool) → cond (not c) (F (refused NO_STATE)) (cond d (F (refused CLOSED)) (cond l (F (refused SHORT)) a)) ≡ F (cond (not c) (refused NO_STATE) (cond d (refused CLOSED) (cond l (refused SHORT) b)))
+        at : (c : Bool) → is_state s ≡ c → (d l : Bool) → cond (not c) (F (refused refusal.NoState)) (cond d (F (refused refusal.Closed)) (cond l (F (refused refusal.Short)) a)) ≡ F (cond (not c) (refused refusal.NoState) (cond d (refused refusal.Closed) (cond l (refused refusal.Short) b)))
         at true e true l = refl
         at true e false true = refl
         at true e false false = same e
@@ -61,7 +62,6 @@ module _ (s : List ℕ) (x : ℕ) where
 
   after_apart : is_state s ≡ true → (o : Outcome) (out : List ℕ) → bytes_after t o out ≡ bytes_after s o out
   unfolding bytes_after
-  after_apart e (outcome.Refused k) out = refl
   after_apart e outcome.Idle out = refl
   after_apart e (outcome.Sent m) out =
       rw (word_apart s x own_at (λ z. omega arith), version_apart s x, number_apart s x, settings_apart s x, commit_due_apart (settings_of s) (state_held s e).few s x)
@@ -70,7 +70,7 @@ module _ (s : List ℕ) (x : ℕ) where
 
   pub turn_outcome_apart : (room : ℕ) → turn_outcome t room ≡ turn_outcome s room
   unfolding turn_outcome
-  turn_outcome_apart room = taking_apart (λ o. o) room (λ k. outcome.Refused k) (outcome_in t) (outcome_in s) outcome_in_apart
+  turn_outcome_apart room = taking_apart (λ o. o) room (λ k. Err k) (Ok (outcome_in t)) (Ok (outcome_in s)) (λ e. ap Ok (outcome_in_apart e))
 
   pub turn_words_apart : (room : ℕ) → turn_words t room ≡ put (turn_words s room) weights_at x
   unfolding turn_words

@@ -1,13 +1,12 @@
--- `fields_right` is the test of the definition: the tests that led to a return say which kind it is.
-use Prim.Native.Nat.{ℕ}
-use mathlib.Core.Path.{◌≡◌}
-use mathlib.Core.Bool.{Bool, false, ◌&&◌}
-use lib.Dec.{eqb}
+-- `fields_right` is the test of the definition, kind by kind.
+use Rattle.std.proofs.Common.{ℕ, Bool, false, ◌≡◌, ◌⊎◌, inl, inr, ◌&&◌, nat_eq}
 use borrow.Author.Tests.{eq-eqb, ne_eqb}
-use Rattle.wire.specs.declared.Header.{Header}
-use Rattle.wire.specs.Message.{SEND, ECHO, READY, EST, AUX, COMMIT}
+use Rattle.wire.specs.Kinds.{byte_of}
+use Rattle.wire.specs.Message.{by_kind}
 use Rattle.wire.specs.Reading.{broadcast_fields, vote_fields, commit_fields, fields_right}
-use Rattle.wire.proofs.Laws.{by_send, by_echo, by_ready, by_est, by_aux, by_commit, by_finish}
+use Rattle.wire.specs.declared.Header.{Header}
+use Rattle.wire.specs.declared.kind.Kind.{Kind}
+use Rattle.wire.specs.declared.kind.Kind.TheVariants as kind
 use Rattle.wire.proofs.reading.fields_right.Goals as goal
 
 module _ (n : ℕ) (h : Header) where
@@ -15,60 +14,37 @@ module _ (n : ℕ) (h : Header) where
   unfolding fields_right
   reserved z = simp (ne_eqb _ _ z)
 
-  module _ (z : h.reserved ≡ 0) (r : Bool) where
-    send : h.kind ≡ SEND → r ≡ broadcast_fields n h → (r && eqb h.instance h.sender) ≡ fields_right n h
-    unfolding fields_right
-    send a q = simp (eq-eqb _ _ z, by_send, q)
+  module _ (k : Kind) (p : h.kind ≡ byte_of k) (z : h.reserved ≡ 0) (r : Bool) where
+    send : k ≡ kind.Send → r ≡ broadcast_fields n h → (r && nat_eq h.instance h.sender) ≡ fields_right n h
+    unfolding fields_right by_kind
+    send e q = simp (eq-eqb _ _ z, p, e, q)
 
-    module _ (a : h.kind ≡ SEND → ⊥) where
-      echo : h.kind ≡ ECHO → r ≡ broadcast_fields n h → r ≡ fields_right n h
-      unfolding fields_right
-      echo b q = simp (eq-eqb _ _ z, by_echo, q)
+    broadcast : (k ≡ kind.Echo) ⊎ ((k ≡ kind.Ready) ⊎ (k ≡ kind.Finish)) → r ≡ broadcast_fields n h → r ≡ fields_right n h
+    unfolding fields_right by_kind
+    broadcast (inl e) q = simp (eq-eqb _ _ z, p, e, q)
+    broadcast (inr (inl e)) q = simp (eq-eqb _ _ z, p, e, q)
+    broadcast (inr (inr e)) q = simp (eq-eqb _ _ z, p, e, q)
 
-      module _ (b : h.kind ≡ ECHO → ⊥) where
-        ready : h.kind ≡ READY → r ≡ broadcast_fields n h → r ≡ fields_right n h
-        unfolding fields_right
-        ready d q = simp (eq-eqb _ _ z, by_ready, q)
+    vote : (k ≡ kind.Est) ⊎ (k ≡ kind.Aux) → r ≡ vote_fields n h → r ≡ fields_right n h
+    unfolding fields_right by_kind
+    vote (inl e) q = simp (eq-eqb _ _ z, p, e, q)
+    vote (inr e) q = simp (eq-eqb _ _ z, p, e, q)
 
-        module _ (d : h.kind ≡ READY → ⊥) where
-          est : h.kind ≡ EST → r ≡ vote_fields n h → r ≡ fields_right n h
-          unfolding fields_right
-          est e q = simp (eq-eqb _ _ z, by_est, q)
-
-          module _ (e : h.kind ≡ EST → ⊥) where
-            aux : h.kind ≡ AUX → r ≡ vote_fields n h → r ≡ fields_right n h
-            unfolding fields_right
-            aux f q = simp (eq-eqb _ _ z, by_aux, q)
-
-            module _ (f : h.kind ≡ AUX → ⊥) where
-              commit : h.kind ≡ COMMIT → r ≡ commit_fields n h → r ≡ fields_right n h
-              unfolding fields_right
-              commit g q = simp (eq-eqb _ _ z, by_commit, q)
-
-              finish : (h.kind ≡ COMMIT → ⊥) → r ≡ broadcast_fields n h → r ≡ fields_right n h
-              unfolding fields_right
-              finish g q = simp (eq-eqb _ _ z, by_finish, q)
+    commit : k ≡ kind.Commit → r ≡ commit_fields n h → r ≡ fields_right n h
+    unfolding fields_right by_kind
+    commit e q = simp (eq-eqb _ _ z, p, e, q)
 
 pub returns-then-h-ne0 : goal.returns-then-h-ne0
 returns-then-h-ne0 c = search reserved
 
-pub returns-then-kind-eq-SEND : goal.returns-then-kind-eq-SEND
-returns-then-kind-eq-SEND c = search send
+pub returns-in-Send : goal.returns-in-Send
+returns-in-Send c = search send
 
-pub returns-then-kind-eq-ECHO : goal.returns-then-kind-eq-ECHO
-returns-then-kind-eq-ECHO c = search echo
+pub returns-in-Echo : goal.returns-in-Echo
+returns-in-Echo c = search broadcast
 
-pub returns-then-kind-eq-READY : goal.returns-then-kind-eq-READY
-returns-then-kind-eq-READY c = search ready
+pub returns-in-Est : goal.returns-in-Est
+returns-in-Est c = search vote
 
-pub returns-then-kind-eq-EST : goal.returns-then-kind-eq-EST
-returns-then-kind-eq-EST c = search est
-
-pub returns-then-kind-eq-AUX : goal.returns-then-kind-eq-AUX
-returns-then-kind-eq-AUX c = search aux
-
-pub returns-then-kind-eq-COMMIT : goal.returns-then-kind-eq-COMMIT
-returns-then-kind-eq-COMMIT c = search commit
-
-pub returns : goal.returns
-returns c = search finish
+pub returns-in-Commit : goal.returns-in-Commit
+returns-in-Commit c = search commit

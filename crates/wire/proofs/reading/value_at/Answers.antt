@@ -1,6 +1,6 @@
 -- `value_at` is the value of the definition: the tests that led to a return say whether the part holds it.
 use Prim.Native.Nat.{ℕ, ◌<◌, ◌≤◌, ◌*◌, ◌-◌}
-use mathlib.Core.Path.{◌≡◌, sym, ◌∙◌}
+use mathlib.Core.Path.{◌≡◌, ap, sym, ◌∙◌}
 use mathlib.Core.List.{List}
 use native.Mathlib.Omega.{arith}
 use lib.ListN.{length}
@@ -13,11 +13,11 @@ module _ (v : List ℕ) (k : ℕ) where
   unfolding value_at
   none e = rw e
 
-  missing : (k ≡ 0 → ⊥) → length v < 8 * k → 0 ≡ value_at v k
-  missing p h = sym (value_missing v k (omega arith) h)
+  missing : (n : ℕ) → n ≡ k → (k ≡ 0 → ⊥) → length v < 8 * n → 0 ≡ value_at v k
+  missing n e p h = sym (value_missing v k (omega arith) (omega arith))
 
-  held : (r : ℕ) → (k ≡ 0 → ⊥) → 8 * k ≤ length v → r ≡ be8 v (8 * k - 8) → r ≡ value_at v k
-  held r p h q = q ∙ sym (value_held v k (omega arith) h)
+  held : (r n : ℕ) → n ≡ k → (k ≡ 0 → ⊥) → 8 * n ≤ length v → r ≡ be8 v (8 * n - 8) → r ≡ value_at v k
+  held r n e p h q = q ∙ ap (λ j. be8 v (8 * j - 8)) e ∙ sym (value_held v k (omega arith) (omega arith))
 
 pub returns-then-k-eq0 : goal.returns-then-k-eq0
 returns-then-k-eq0 c = search none

@@ -1,9 +1,9 @@
 -- `put_front` leaves the eight bytes and then what was there.
 use Prim.Native.Nat.{ℕ, ◌≤◌, ◌/◌, ◌%◌}
-use mathlib.Core.Path.{◌≡◌}
+use mathlib.Core.Path.{◌≡◌, ap}
 use mathlib.Core.List.{List, [], ◌∷◌, ◌++◌}
 use native.Mathlib.Omega.{arith}
-use lib.ListN.{length, set, drop, length-set}
+use lib.ListN.{get_or, length, set, drop, length-set}
 use lib.Seq.{sets-eq}
 use Rattle.wire.specs.declared.Header.{Header}
 use Rattle.wire.specs.Bytes.{bytes2}
@@ -39,4 +39,7 @@ pub bounds-out-7 : goal.bounds-out-7
 bounds-out-7 c = simp length-set (omega arith)
 
 pub returns : goal.returns
-returns c = search stored
+returns c =
+    stored _ _ _ _ c.requires
+    (ap (λ (b : List ℕ). get_or b 0 0) c.to_be_bytes-reserved.ensures)
+    (ap (λ (b : List ℕ). get_or b 1 0) c.to_be_bytes-reserved.ensures)

@@ -2,6 +2,7 @@
 use Prim.Native.Nat.{ℕ, ◌<◌, ◌≤◌}
 use mathlib.Core.Path.{◌≡◌, sym}
 use mathlib.Core.List.{List}
+use native.Mathlib.Omega.{arith}
 use lib.ListN.{length, take}
 use lib.Seq.{length-take-le}
 use borrow.Author.Tests.{le-leb, lt-leb}
@@ -12,17 +13,17 @@ use Rattle.wire.specs.laws.Message.{counted_values}
 use Rattle.wire.proofs.Laws.{wrote_nothing}
 use Rattle.wire.proofs.writing.write_counted.Goals as goal
 
-module _ (h : Header) (xs o : List ℕ) where
-  fewer : length xs < h.count → Wrote (counted_values h xs o) o 0 o
+module _ (h : Header) (xs o : List ℕ) (n : ℕ) where
+  fewer : n ≡ h.count → length xs < n → Wrote (counted_values h xs o) o 0 o
   unfolding counted_values
-  fewer l = wrote_nothing (counted_values h xs o) o (simp (lt-leb _ _ l))
+  fewer e l = wrote_nothing (counted_values h xs o) o (simp (lt-leb h.count (length xs) (omega arith)))
 
-  held : h.count ≤ length xs → h.count ≡ length (take h.count xs)
-  held l = sym (length-take-le h.count xs l)
+  held : n ≤ length xs → n ≡ length (take n xs)
+  held l = sym (length-take-le n xs l)
 
-  enough : (r : ℕ) (after : List ℕ) → h.count ≤ length xs → Wrote (fitting (message_bytes h (take h.count xs)) o) o r after → Wrote (counted_values h xs o) o r after
+  enough : (r : ℕ) (after : List ℕ) → n ≡ h.count → n ≤ length xs → Wrote (fitting (message_bytes h (take n xs)) o) o r after → Wrote (counted_values h xs o) o r after
   unfolding counted_values
-  enough r after l w = simp (le-leb _ _ l) w
+  enough r after e l w = simp (le-leb h.count (length xs) (omega arith)) (rw e at w)
 
 pub returns-then-values-count : goal.returns-then-values-count
 returns-then-values-count c = search fewer

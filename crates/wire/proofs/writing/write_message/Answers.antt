@@ -1,6 +1,7 @@
 -- `write_message` writes what the definition says, kind by kind.
 use Prim.Native.Nat.{ℕ}
 use mathlib.Core.Path.{◌≡◌, ap}
+use mathlib.Core.Logic.{◌⊎◌, inl, inr}
 use mathlib.Core.List.{List, [], ◌∷◌}
 use native.Mathlib.Omega.{arith}
 use lib.ListN.{length}
@@ -18,23 +19,17 @@ module _ (m : Message) (u s t a : ℕ) (xs o after : List ℕ) (h : Header) (q :
   unfolding written encode
   one v b e w = simp (le-leb (besides m) (length xs) (omega arith), e, ← q) w
 
-  send : (i v : ℕ) → m ≡ Send i v → Wrote (fitting (message_bytes h (v ∷ [])) o) o a after → Wrote (written m u s t xs o) o a after
-  send i v e w = one v (ap (λ (n : Message). besides n) e) (ap (λ (n : Message). values_of n xs) e) w
+  word : (v : ℕ) → ((i : ℕ) × m ≡ Send i v) ⊎ (((i : ℕ) × m ≡ Echo i v) ⊎ ((i : ℕ) × m ≡ Ready i v)) →
+      Wrote (fitting (message_bytes h (v ∷ [])) o) o a after → Wrote (written m u s t xs o) o a after
+  word v (inl (i, e)) w = one v (ap besides e) (ap (λ n. values_of n xs) e) w
+  word v (inr (inl (i, e))) w = one v (ap besides e) (ap (λ n. values_of n xs) e) w
+  word v (inr (inr (i, e))) w = one v (ap besides e) (ap (λ n. values_of n xs) e) w
 
-  echo : (i v : ℕ) → m ≡ Echo i v → Wrote (fitting (message_bytes h (v ∷ [])) o) o a after → Wrote (written m u s t xs o) o a after
-  echo i v e w = one v (ap (λ (n : Message). besides n) e) (ap (λ (n : Message). values_of n xs) e) w
-
-  ready : (i v : ℕ) → m ≡ Ready i v → Wrote (fitting (message_bytes h (v ∷ [])) o) o a after → Wrote (written m u s t xs o) o a after
-  ready i v e w = one v (ap (λ (n : Message). besides n) e) (ap (λ (n : Message). values_of n xs) e) w
-
-  est : (i r v : ℕ) → m ≡ Est i r v → Wrote (fitting (message_bytes h (v ∷ [])) o) o a after → Wrote (written m u s t xs o) o a after
-  est i r v e w = one v (ap (λ (n : Message). besides n) e) (ap (λ (n : Message). values_of n xs) e) w
-
-  aux : (i r v : ℕ) → m ≡ Aux i r v → Wrote (fitting (message_bytes h (v ∷ [])) o) o a after → Wrote (written m u s t xs o) o a after
-  aux i r v e w = one v (ap (λ (n : Message). besides n) e) (ap (λ (n : Message). values_of n xs) e) w
-
-  finish : (i v : ℕ) → m ≡ Finish i v → Wrote (fitting (message_bytes h (v ∷ [])) o) o a after → Wrote (written m u s t xs o) o a after
-  finish i v e w = one v (ap (λ (n : Message). besides n) e) (ap (λ (n : Message). values_of n xs) e) w
+  bit : (v x : ℕ) → x ≡ v → ((i : ℕ) × (r : ℕ) × m ≡ Est i r v) ⊎ (((i : ℕ) × (r : ℕ) × m ≡ Aux i r v) ⊎ ((i : ℕ) × m ≡ Finish i v)) →
+      Wrote (fitting (message_bytes h (x ∷ [])) o) o a after → Wrote (written m u s t xs o) o a after
+  bit v x q (inl (i, r, e)) w = one x (ap besides e) (rw (q, e)) w
+  bit v x q (inr (inl (i, r, e))) w = one x (ap besides e) (rw (q, e)) w
+  bit v x q (inr (inr (i, e))) w = one x (ap besides e) (rw (q, e)) w
 
   commit : (k : ℕ) → m ≡ Commit k → Wrote (counted_values h xs o) o a after → Wrote (written m u s t xs o) o a after
   unfolding written encode counted_values header_for
@@ -43,22 +38,10 @@ module _ (m : Message) (u s t a : ℕ) (xs o after : List ℕ) (h : Header) (q :
       rw z w
 
 pub returns-in-Send : goal.returns-in-Send
-returns-in-Send c = search send
-
-pub returns-in-Echo : goal.returns-in-Echo
-returns-in-Echo c = search echo
-
-pub returns-in-Ready : goal.returns-in-Ready
-returns-in-Ready c = search ready
+returns-in-Send c = search word
 
 pub returns-in-Est : goal.returns-in-Est
-returns-in-Est c = search est
-
-pub returns-in-Aux : goal.returns-in-Aux
-returns-in-Aux c = search aux
+returns-in-Est c = search bit
 
 pub returns-in-Commit : goal.returns-in-Commit
 returns-in-Commit c = search commit
-
-pub returns-in-Finish : goal.returns-in-Finish
-returns-in-Finish c = search finish

@@ -1,6 +1,0 @@
--- The part that is lent is the message.
-use Rattle.drill_feeder.specs.laws.Cases.{message_lent}
-use Rattle.drill_feeder.proofs.messages.deliver_stored.Goals as goal
-
-pub returns : goal.returns
-returns c = search message_lent

@@ -1,6 +1,0 @@
--- `put_field` writes two texts one after the other.
-use Rattle.drill_lines.specs.laws.Printing.{two_texts}
-use Rattle.drill_lines.proofs.printing.put_field.Goals as goal
-
-pub returns : goal.returns
-returns c = search two_texts
