@@ -1,5 +1,5 @@
 -- A drill over the bytes of its input.
-use Rattle.std.specs.Prelude.{ℕ, ◌+◌, ◌%◌, ◌^◌, Bool, true, false, cond, List, [], ◌∷◌, ◌==◌}
+use Rattle.std.specs.Prelude.{ℕ, ◌+◌, ◌%◌, ◌^◌, true, false, cond, List, [], ◌∷◌, ◌==◌}
 use Rattle.records.specs.Words.{blank}
 use Rattle.text.specs.Fields.{LF}
 use Rattle.drill_core.specs.Judging.{is_bad}
@@ -8,8 +8,6 @@ use Rattle.drill_core.specs.Acting.{begun, World, world, taken}
 use Rattle.drill_core.specs.declared.Phase.{Phase}
 use Rattle.drill_core.specs.declared.State.{State}
 use Rattle.drill_core.specs.declared.Drill.{Drill}
-use Rattle.drill_lines.specs.declared.Reader.{Reader}
-use Rattle.drill_lines.specs.declared.Reader.TheVariants.{Empty, Open, Bad}
 use Rattle.drill_lines.specs.Automaton as lines
 use Rattle.drill_core.specs.declared.Phase.TheVariants as phase
 
@@ -18,6 +16,7 @@ unfoldable pub start_drill : Drill
 start_drill = record {
   state = record { phase = phase.First; given = none_given; counts = record { sent = 0; offered = 0 } };
   number = 1;
+  begun = false;
   reader = lines.start;
 }
 
@@ -27,11 +26,11 @@ next_number x number = cond (is_bad x) number ((number + 1) % 2 ^ 64)
 
 -- before the next line
 unfoldable pub next_line : State → ℕ → Drill
-next_line s number = record { state = s; number = next_number s.phase number; reader = lines.start }
+next_line s number = record { state = s; number = next_number s.phase number; begun = false; reader = lines.start }
 
 -- a byte of a line
 unfoldable pub with_byte : Drill → ℕ → Drill
-with_byte d c = record { state = d.state; number = d.number; reader = lines.fed d.reader c }
+with_byte d c = record { state = d.state; number = d.number; begun = true; reader = lines.fed d.reader c }
 
 -- a drill with the words of its sessions and the bytes of its messages
 pub data Drilling : Type 0 where
@@ -61,15 +60,9 @@ unfoldable pub fed_bytes : Drilling → List ℕ → Drilling
 fed_bytes x [] = x
 fed_bytes x (c ∷ b) = fed_bytes (fed_byte x c) b
 
--- whether a line has a byte
-unfoldable pub has_byte : Reader → Bool
-has_byte Empty = false
-has_byte (Open f) = true
-has_byte Bad = true
-
 -- a last line without LF is a line
 unfoldable pub last_line : Drilling → Drilling
-last_line (drilling w m d) = cond (has_byte d.reader) (ended (drilling w m d)) (drilling w m d)
+last_line (drilling w m d) = cond d.begun (ended (drilling w m d)) (drilling w m d)
 
 -- the sessions are opened where no line but N, C and P came
 unfoldable pub all_open : Drilling → Drilling

@@ -4,7 +4,6 @@ ghost use Rattle.drill_core.specs.Feeding.{start_drill, next_number, next_line, 
 
 use crate::{Drill, Phase, State, acting, preparing};
 use drill_feeder::Counts;
-use drill_lines::Reader;
 
 // A drill before its input.
 #[tactic(auto, unfolding(crate::specs::Feeding::start_drill))]
@@ -21,6 +20,7 @@ pub fn start() -> Drill
             },
         },
         number: 1,
+        begun: false,
         reader: drill_lines::start(),
     }
 }
@@ -43,6 +43,7 @@ fn next_line(s: State, number: u64) -> Drill
     Drill {
         state: s,
         number: next_number(s.phase, number),
+        begun: false,
         reader: drill_lines::start(),
     }
 }
@@ -52,6 +53,7 @@ fn with_byte(d: Drill, byte: u8) -> Drill
     ensures { result ≡ with_byte d byte }
 {
     Drill {
+        begun: true,
         reader: drill_lines::feed(d.reader, byte),
         ..d
     }
@@ -93,14 +95,14 @@ pub fn feed_all(d: Drill, bytes: &[u8], words: &mut [u64], store: &mut [u8]) -> 
 }
 
 // A last line without LF is a line.
-#[tactic(auto, unfolding(crate::specs::Feeding::last_line, crate::specs::Feeding::has_byte))]
+#[tactic(auto, unfolding(crate::specs::Feeding::last_line))]
 fn last_line(d: Drill, words: &mut [u64], store: &mut [u8]) -> Drill
     ensures { drilling words.new store.new result ≡ last_line (drilling words.old store.old d) }
 {
-    match d.reader {
-        Reader::Empty => d,
-        Reader::Open(_) | Reader::Bad => end_line(d, words, store),
+    if d.begun {
+        return end_line(d, words, store);
     }
+    d
 }
 
 // The input is over; the sessions are opened if they are not.

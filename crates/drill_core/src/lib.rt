@@ -109,5 +109,7 @@ pub enum Verdict {
 pub struct Drill {
     pub state: State,
     pub number: u64,
+    // Whether a byte of that line is read.
+    pub begun: bool,
     pub reader: Reader,
 }

@@ -1,16 +1,14 @@
 -- The drill line by line: its output is that of the lines of its input, taken one after the other.
-use Rattle.std.specs.Prelude.{ℕ, Bool, true, false, cond, List, [], ◌∷◌, ◌++◌, ◌≡◌, refl, eqb, Option, Some, None}
+use Rattle.std.specs.Prelude.{ℕ, Bool, true, false, cond, List, [], ◌∷◌, ◌++◌, ◌≡◌, refl, eqb}
 use Rattle.std.proofs.Common.{sym, ap, ◌∙◌}
 use Rattle.records.specs.Words.{blank}
 use Rattle.drill_lines.specs.Grammar.{line_of}
 use Rattle.text.specs.Fields.{LF}
 use Rattle.drill_lines.specs.laws.Theorem.{reads_lines}
-use Rattle.drill_lines.specs.declared.Fields.{Fields}
 use Rattle.drill_lines.specs.declared.Reader.{Reader}
-use Rattle.drill_lines.specs.declared.Reader.TheVariants.{Empty, Open, Bad}
 use Rattle.drill_core.specs.Judging.{is_bad}
 use Rattle.drill_core.specs.Acting.{World, world, taken}
-use Rattle.drill_core.specs.Feeding.{start_drill, next_number, next_line, with_byte, Drilling, drilling, settled, ended, fed_byte, fed_bytes, has_byte, last_line, all_open, at_end, start_drilling}
+use Rattle.drill_core.specs.Feeding.{start_drill, next_number, next_line, with_byte, Drilling, drilling, settled, ended, fed_byte, fed_bytes, last_line, all_open, at_end, start_drilling}
 use Rattle.drill_core.specs.Output.{drill_text, printed, drill_output}
 use Rattle.drill_core.specs.declared.State.{State}
 use Rattle.drill_core.specs.declared.Drill.{Drill}
@@ -19,33 +17,21 @@ use Rattle.drill_lines.specs.Automaton as lines
 
 -- a drill that has read the bytes a of a line
 unfoldable at : ℕ → State → List ℕ → Drill
-at n s a = record { state = s; number = n; reader = lines.fed_all lines.start a }
+at n s a = record { state = s; number = n; begun = began a; reader = lines.fed_all lines.start a }
 
 fed_snoc : (r : Reader) (a : List ℕ) (c : ℕ) → lines.fed_all r (a ++ (c ∷ [])) ≡ lines.fed (lines.fed_all r a) c
 unfolding lines.fed_all
 fed_snoc r [] c = refl
 fed_snoc r (x ∷ a) c = fed_snoc (lines.fed r x) a c
 
--- once a byte is read, the line has one
-read_byte : (o : Option Fields) → has_byte (lines.read o) ≡ true
-unfolding has_byte lines.read
-read_byte None = refl
-read_byte (Some f) = refl
-
-fed_has_byte : (r : Reader) (c : ℕ) → has_byte (lines.fed r c) ≡ true
-unfolding lines.fed has_byte
-fed_has_byte Empty c = read_byte (lines.lettered c)
-fed_has_byte (Open f) c = read_byte (lines.next f c)
-fed_has_byte Bad c = refl
-
-all_have_byte : (r : Reader) (a : List ℕ) → has_byte r ≡ true → has_byte (lines.fed_all r a) ≡ true
-unfolding lines.fed_all
-all_have_byte r [] e = e
-all_have_byte r (c ∷ a) e = all_have_byte (lines.fed r c) a (fed_has_byte r c)
+began_snoc : (a : List ℕ) (c : ℕ) → began (a ++ (c ∷ [])) ≡ true
+unfolding began
+began_snoc [] c = refl
+began_snoc (x ∷ a) c = refl
 
 byte_at : (n : ℕ) (s : State) (a : List ℕ) (c : ℕ) → with_byte (at n s a) c ≡ at n s (a ++ (c ∷ []))
 unfolding with_byte at
-byte_at n s a c = rw (fed_snoc lines.start a c)
+byte_at n s a c = rw (fed_snoc lines.start a c, began_snoc a c)
 
 -- after a line that cannot be taken
 fed_bad : (w m : List ℕ) (d : Drill) (b : List ℕ) → is_bad d.state.phase ≡ true → fed_bytes (drilling w m d) b ≡ drilling w m d
@@ -65,7 +51,7 @@ unfolding printed all_open settled output_after after drill_text next_line
 settled_output n (world w m s) = refl
 
 idle_end : (n : ℕ) (w m : List ℕ) (s : State) → printed (at_end (drilling w m (at n s []))) ≡ output_after (between n (world w m s))
-unfolding printed at_end all_open last_line has_byte at lines.fed_all lines.start output_after drill_text
+unfolding printed at_end all_open last_line at began output_after drill_text
 idle_end n w m s = refl
 
 -- the line is that of its bytes
@@ -79,7 +65,7 @@ Rest b a = (n : ℕ) (w m : List ℕ) (s : State) → is_bad s.phase ≡ false �
     printed (at_end (fed_bytes (drilling w m (at n s a)) b)) ≡ output_after (lines_taken (between n (world w m s)) (lines_from a b))
 
 next_line_lem : (b : List ℕ) (n : ℕ) (y : World) → Rest b [] → printed (at_end (fed_bytes (settled n y) b)) ≡ output_after (lines_taken (after n y) (lines_from [] b))
-unfolding settled after next_line Rest at lines.fed_all
+unfolding settled after next_line Rest at began lines.fed_all
 next_line_lem b n (world w m s) r = go (is_bad s.phase) refl
   where
     go : (t : Bool) → is_bad s.phase ≡ t → printed (at_end (fed_bytes (drilling w m (next_line s n)) b)) ≡ output_after (lines_taken (between (next_number s.phase n) (world w m s)) (lines_from [] b))
@@ -106,8 +92,8 @@ one_byte n w m s a c t e f =
     ∙ rw (f, ended_at n w m s a, byte_at n s a c)
 
 last_ended : (n : ℕ) (w m : List ℕ) (s : State) (x : ℕ) (a : List ℕ) → last_line (drilling w m (at n s (x ∷ a))) ≡ ended (drilling w m (at n s (x ∷ a)))
-unfolding last_line at lines.fed_all
-last_ended n w m s x a = rw (all_have_byte (lines.fed lines.start x) a (fed_has_byte lines.start x))
+unfolding last_line at began
+last_ended n w m s x a = refl
 
 last_bytes : (a : List ℕ) → Rest [] a
 unfolding Rest fed_bytes lines_from lines_taken began at_end

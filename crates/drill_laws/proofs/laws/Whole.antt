@@ -27,7 +27,7 @@ use Rattle.drill_feeder.specs.declared.Members.{Members}
 use Rattle.drill_core.specs.Judging.{is_first, is_setup, after_settings, is_bad, is_honest, is_liar, settings_open, settings_taken, judged_n, judged_c, judged_p, judged_t, judged_d, bytes_fit, judged_l, judged}
 use Rattle.drill_core.specs.Preparing.{settings_given, none_given, coin_given, input_given, arguments_with, opened_with, open_if, opened_all}
 use Rattle.drill_core.specs.Acting.{begun, called, World, world, setup_state, bad_state, running, acted, taken}
-use Rattle.drill_core.specs.Feeding.{start_drill, next_line, with_byte, Drilling, drilling, settled, ended, fed_byte, fed_bytes, has_byte, last_line, all_open, at_end, start_drilling}
+use Rattle.drill_core.specs.Feeding.{start_drill, next_line, with_byte, Drilling, drilling, settled, ended, fed_byte, fed_bytes, last_line, all_open, at_end, start_drilling}
 use Rattle.drill_core.specs.declared.Phase.{Phase}
 use Rattle.drill_core.specs.declared.Phase.TheVariants as phase
 use Rattle.drill_core.specs.declared.Given.{Given}
@@ -263,7 +263,7 @@ all_fed_sound x (c ∷ b) h = all_fed_sound (fed_byte x c) b (fed_sound x c h)
 
 last_sound : (x : Drilling) → SoundDrill x → SoundDrill (last_line x)
 unfolding last_line
-last_sound (drilling w m d) h = if_keep SoundDrill (has_byte d.reader) _ _ (ended_sound (drilling w m d) h) h
+last_sound (drilling w m d) h = if_keep SoundDrill d.begun _ _ (ended_sound (drilling w m d) h) h
 
 all_open_sound : (x : Drilling) → SoundDrill x → SoundDrill (all_open x)
 unfolding all_open
