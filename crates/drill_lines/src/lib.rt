@@ -3,11 +3,14 @@
 
 mod letters;
 mod printing;
+mod raw;
 mod reading;
 
+ghost use Rattle.drill_lines.specs.Raw.{RawReaders};
 ghost use Rattle.drill_lines.specs.Theorem.{ReadsLines};
 
 pub use printing::{put_bad, put_result, put_sent};
+pub use raw::RawReader;
 pub use reading::{feed, finish, start};
 
 // The letter that a line begins with.
@@ -100,4 +103,9 @@ pub struct SessionResult {
 // The bytes of any line, read one after the other, come to the line of the definition.
 pub fn reads_lines()
     ensures { ReadsLines }
+{}
+
+// Numbers that are read on by a byte, or over, stand for what their line comes to.
+pub fn raw_readers()
+    ensures { RawReaders }
 {}
