@@ -8,7 +8,7 @@ ghost use Rattle.records.specs.Words.{word, marked};
 ghost use Rattle.broadcasts.specs.laws.Leading.{held_count};
 ghost use Rattle.broadcasts.specs.Leading.{holders, leads, leading};
 ghost use Rattle.broadcasts.specs.Broadcasts.{output, echo_act, ready_due, ready_act, echo_rule, ready_rule};
-ghost use Rattle.broadcasts.specs.Outputs.{outputs_in, Outputs};
+ghost use Rattle.broadcasts.specs.Outputs.{output_at, outputs_in, Outputs};
 ghost use Rattle.broadcasts.specs.laws.Outputs.{Stored};
 
 use acts::Act;
@@ -135,17 +135,24 @@ impl OutputTable {
     pub fn at(&self, i: u8) -> Option<u64>
         ensures { result ≡ outputs_in self.now i }
     {
-        if i < 1 {
-            return None;
-        }
-        if 16 < i {
-            return None;
-        }
-        if quorum::mark(self.marks, i as u64) {
-            return Some(records::word(&self.values, i as usize - 1));
-        }
-        None
+        output_at(self.marks, &self.values, i)
     }
+}
+
+// What marks and values say of broadcast i.
+pub fn output_at(outputs: u64, values: &[u64], i: u8) -> Option<u64>
+    ensures { result ≡ output_at outputs values.now i }
+{
+    if i < 1 {
+        return None;
+    }
+    if 16 < i {
+        return None;
+    }
+    if quorum::mark(outputs, i as u64) {
+        return Some(records::word(values, i as usize - 1));
+    }
+    None
 }
 
 // The ECHO of instance i, where it is due.

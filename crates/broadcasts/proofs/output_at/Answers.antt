@@ -1,6 +1,6 @@
 -- The value at place i − 1 where mark i is set.
 use Rattle.broadcasts.specs.laws.Storing.{output_reads}
-use Rattle.broadcasts.proofs.OutputTable.at.Goals as goal
+use Rattle.broadcasts.proofs.output_at.Goals as goal
 
 pub returns-then-i-lt1 : goal.returns-then-i-lt1
 returns-then-i-lt1 c = search output_reads
