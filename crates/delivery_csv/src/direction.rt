@@ -26,7 +26,7 @@ pub struct ToDrill;
 impl Direction for ToDrill {
     ghost quotes = { true };
 
-    #[tactic(auto, using(crate::specs::laws::Walk::turned_by_test))]
+    #[tactic(auto, using(crate::specs::laws::Walk::turned_by_quote))]
     fn turned(inside: bool, byte: u8) -> bool {
         inside ^ (byte == QUOTE)
     }

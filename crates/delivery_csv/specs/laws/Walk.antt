@@ -10,18 +10,24 @@ use Rattle.std.proofs.Math.ListN.{length}
 use Rattle.text.specs.Fields.{LF}
 use Rattle.delivery_csv.specs.Fields.{QUOTE}
 use Rattle.delivery_csv.specs.Records.{turned}
+use Rattle.delivery_csv.specs.Lines.{unturned}
 use Rattle.delivery_csv.specs.Parts.{turned_if, part_with, part_from, ended_part}
 use Rattle.delivery_csv.specs.declared.parts.Part.{Part}
 
-pub turned_by_test : (i : Bool) (b : ℕ) → not (beq i (eqb b QUOTE)) ≡ turned_if true i b
-unfolding turned_if turned
-turned_by_test i b = go i (eqb b QUOTE)
+pub turned_by_test : (q i : Bool) (b : ℕ) → (q && not (beq i (eqb b QUOTE))) ≡ turned_if q i b
+unfolding turned_if turned unturned
+turned_by_test false i b = refl
+turned_by_test true i b = go i (eqb b QUOTE)
   where
     go : (j x : Bool) → not (beq j x) ≡ cond x (not j) j
     go true true = refl
     go true false = refl
     go false true = refl
     go false false = refl
+
+-- where quotes count
+pub turned_by_quote : (i : Bool) (b : ℕ) → not (beq i (eqb b QUOTE)) ≡ turned_if true i b
+turned_by_quote i b = turned_by_test true i b
 
 module _ (most : ℕ) (i : Bool) (k : ℕ) (part : Part) (b : ℕ) where
   pub no_end : (not (eqb b LF) || i) ≡ true → part ≡ part_with most i k part b

@@ -11,7 +11,7 @@ returns-in_err-answer_with c = record {
 }
 
 pub overflow_cast-number : goal.overflow_cast-number
-overflow_cast-number c = accepted_few _ _ _ c.weights_word-w.ensures _ c.answer_with.ensures c.in_ok-answer_with.was
+overflow_cast-number c = accepted_few _ _ _ _ c.answer_with.ensures c.in_ok-answer_with.was
 
 pub returns : goal.returns
 returns c = record {

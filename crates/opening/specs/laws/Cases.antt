@@ -103,6 +103,17 @@ pub coins_stored : (s t coins : List ℕ) (n : ℕ) → t ≡ store_of (λ i. it
 unfolding with_coins
 coins_stored s t coins n e = e
 
+-- an opening that is not refused has few concentrators, whatever the word of weights
+module _ (words : ℕ) (o : Arguments) (w : ℕ) (a : Result (Unit {0}) Refusal) (f : a ≡ answer_with words o w) where
+  pub accepted_few : a ≡ Ok tt → Fits w8 o.n
+  unfolding answer_with
+  accepted_few z =
+      let b = err_passed (not (eqb words 2048)) refusal.NoState _ tt (sym f ∙ z) in
+      let v = err_passed (not (version_known o.version)) refusal.Settings _ tt b.1 in
+      let c = err_passed (not (valid_settings o.n (named_ta o.n o.ta o.ts w) o.ts w)) refusal.Settings _ tt v.1 in
+      let k = valid_rules o.n (named_ta o.n o.ta o.ts w) o.ts w (not_passed (valid_settings o.n (named_ta o.n o.ta o.ts w) o.ts w) c.0) in
+      record { fits = omega (arith, k.few) }
+
 -- the word of the weights that are given, in place of the word
 module _ (words : ℕ) (o : Arguments) (w : ℕ) (e : w ≡ weights_by o) (a : Result (Unit {0}) Refusal) (f : a ≡ answer_with words o w) where
   pub given_answer : a ≡ open_answer words o
@@ -113,11 +124,6 @@ module _ (words : ℕ) (o : Arguments) (w : ℕ) (e : w ≡ weights_by o) (a : R
 
   pub given_refused : (k : Refusal) → a ≡ Err k → Err k ≡ open_answer words o
   given_refused k z = sym z ∙ given_answer
-
-  pub accepted_few : a ≡ Ok tt → Fits w8 o.n
-  accepted_few z =
-      let k = valid_rules o.n (ta_by o) o.ts (weights_by o) (accepted words o (sym given_answer ∙ z)).valid in
-      record { fits = omega (arith, k.few) }
 
 module _ (s : List ℕ) (o : Arguments) (w : ℕ) (e : w ≡ weights_by o) (a : Result (Unit {0}) Refusal) (f : a ≡ answer_with (length s) o w) where
   pub open_done : (m : ℕ) (s0 s1 s2 : List ℕ) → a ≡ Ok tt → m ≡ named_ta o.n o.ta o.ts w → s0 ≡ blank (length s) → s1 ≡ settings_with s0 o m w → s2 ≡ with_coins s1 o.coins o.n → s2 ≡ opened s o
