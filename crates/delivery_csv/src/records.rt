@@ -88,8 +88,10 @@ fn closing_fed(r: RecordReader, byte: u8) -> Option<RecordReader>
     }
 }
 
-// Reads one more byte of a record.
+// Reads one more byte of a record. With `advanced` it is compiled into the two walks over a text: as a call it costs as much as the rest of
+// what a byte takes.
 #[tactic(auto, using(crate::specs::laws::RecordCases::fed_cases))]
+#[inline(always)]
 fn fed(r: RecordReader, byte: u8) -> Option<RecordReader>
     ensures { result ≡ fed_in r.phase r byte }
 {
@@ -130,6 +132,7 @@ fn ends(reader: Option<RecordReader>, byte: u8) -> bool
 
 // Reads one more byte of a text.
 #[tactic(auto, unfolding(crate::specs::laws::RecordReader::advanced, crate::specs::laws::RecordReader::ends, crate::specs::laws::RecordReader::fed))]
+#[inline(always)]
 fn advanced(reader: Option<RecordReader>, byte: u8) -> Option<RecordReader>
     ensures { result ≡ advanced reader byte }
 {
