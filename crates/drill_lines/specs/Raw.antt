@@ -21,7 +21,7 @@ reader_of x =
 unfoldable pub raw_count : ℕ → ℕ
 raw_count kind = option_map_or count_of (letter_of kind) 0
 
--- the form of a field; after a byte that is no letter each is decimal
+-- the form of a field; behind a byte that is no letter every field is a decimal
 unfoldable pub raw_form : (kind field : ℕ) → ℕ
 raw_form kind field = option_map_or (λ l. form_of l field) (letter_of kind) (cond (eqb field 0) 0 DECIMAL)
 
@@ -67,7 +67,7 @@ raw_finished x =
     (option_map (λ l. line_with l (pushed x.numbers x.value)) (letter_of x.kind))
     None)
 
--- numbers that are read on by a byte, or over, stand for what their line comes to
+-- numbers after one more byte stand for the reader after that byte, and at the end of the line both give the same
 pub record ReadsRaw (x : RawReader) : Type 0 where
   pub byte : (c : ℕ) → reader_of (raw_fed x c) ≡ fed (reader_of x) c
   pub over : raw_finished x ≡ finished (reader_of x)

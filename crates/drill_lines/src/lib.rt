@@ -105,7 +105,7 @@ pub fn reads_lines()
     ensures { ReadsLines }
 {}
 
-// Numbers that are read on by a byte, or over, stand for what their line comes to.
+// A line that is read on, or ended, in numbers is the line of the reader that they stand for.
 pub fn raw_readers()
     ensures { RawReaders }
 {}
