@@ -1,4 +1,4 @@
--- Numbers that are read on by a byte, or over, stand for what their line comes to.
+-- Reading a line on in numbers, or ending it, comes to what the reader that they stand for comes to.
 use Rattle.std.specs.Prelude.{ℕ, ◌+◌, Bool, true, false, cond, List, ◌≡◌, refl, eqb, ltb, Option, Some, None}
 use Rattle.std.specs.Option.{option_map, option_map_or}
 use Rattle.std.proofs.lemmas.Option.{none-some}
@@ -6,6 +6,7 @@ use Rattle.std.proofs.Common.{sym, ◌∙◌, eqb-true}
 use Rattle.text.specs.Fields.{TAB}
 use Rattle.drill_lines.specs.Grammar.{letter_of}
 use Rattle.drill_lines.specs.Automaton.{count_of, form_of, pushed, no_numbers, reading, lettered, parted, extended_as, extended, next, read, fed, line_read, finished}
+use Rattle.drill_lines.specs.laws.Theorem.{cond_same}
 use Rattle.drill_lines.specs.Raw.{reader_of, raw_count, raw_form, raw_reading, raw_wrong, raw_lettered, raw_parted, raw_extended, raw_fed, raw_finished, RawReaders}
 use Rattle.drill_lines.specs.declared.Letter.{Letter}
 use Rattle.drill_lines.specs.declared.Letter.TheVariants.{N, C, P, T, D, L, R}
@@ -34,10 +35,6 @@ some_count T = refl
 some_count D = refl
 some_count L = refl
 some_count R = refl
-
-cond_same : {A : Type 0} (b : Bool) (x : A) → cond b x x ≡ x
-cond_same true x = refl
-cond_same false x = refl
 
 -- the line of numbers with a letter, and with none
 with_letter : (k f d v : ℕ) (x : List ℕ) (l : Letter) → letter_of k ≡ Some l → reader_of (raw_reading k f d v x) ≡ Open (reading l f d v x)

@@ -20,7 +20,7 @@ use Rattle.drill_lines.specs.declared.Fields.{Fields}
 use Rattle.drill_lines.specs.declared.Reader.TheVariants.{Open, Bad}
 use Rattle.drill_lines.specs.Theorem.{ReadsLines}
 
-cond_same : {A : Type 0} (b : Bool) (x : A) → cond b x x ≡ x
+pub cond_same : {A : Type 0} (b : Bool) (x : A) → cond b x x ≡ x
 cond_same true x = refl
 cond_same false x = refl
 
